@@ -9,6 +9,7 @@ pub mod name;
 pub mod namespace;
 pub mod nesting;
 pub mod node;
+pub mod normal;
 pub mod plain;
 pub mod read;
 pub mod refusal;
