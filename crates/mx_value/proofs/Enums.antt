@@ -56,9 +56,13 @@ both_decide s t d e = (λ h. (d.0 (first_so s t h), e.0 (second_so s t h)), λ p
 pub decides_as : {P Q : Type 0} {t : Bool} → (P → Q) → (Q → P) → Decides t P → Decides t Q
 decides_as there back d = (λ h. there (d.0 h), λ q. d.1 (back q))
 
--- of a tuple of one item
-pub one_field : {A : Type 0} {t : Bool} (x : A) (y : A × Unit {0}) → Decides t (x ≡ y.0) → Decides t ((x, tt) ≡ y)
-one_field x y d = (λ h. ap (λ z. (z, tt)) (d.0 h), λ e. d.1 (ap (λ p. p.0) e))
+-- of the last field of a variant
+pub last_field : {A : Type 0} {t : Bool} (x y : A × Unit {0}) → Decides t (x.0 ≡ y.0) → Decides t (x ≡ y)
+last_field x y d = decides_as (λ e i. (e i, tt)) (ap (λ p. p.0)) d
+
+-- of a field of a variant, and those behind it
+pub more_fields : {A B : Type 0} (s t : Bool) (x y : A × B) → Decides s (x.0 ≡ y.0) → Decides t (x.1 ≡ y.1) → Decides (s && t) (x ≡ y)
+more_fields s t x y d e = decides_as (λ p i. (p.0 i, p.1 i)) (λ p. (ap (λ q. q.0) p, ap (λ q. q.1) p)) (both_decide s t d e)
 
 pub text_decides : (xs ys : List ℕ) → Decides (pointwise ◌==◌ xs ys) (xs ≡ ys)
 text_decides = pointwise_decides unsigned_Decides

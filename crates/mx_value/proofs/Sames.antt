@@ -18,7 +18,7 @@ use Rattle.mx_value.specs.contracts.fixed.FixedPartialEq.TheImpl as fixed
 use Rattle.std.specs.Cmp.Lexicographic.{pointwise}
 use Rattle.std.specs.Bool.{beq}
 use Rattle.std.specs.Cmp.{signed_Decides, booleans_Decides}
-use Rattle.mx_value.proofs.Enums.{DecidesAt, enum_decides, items_decide, both_decide, decides_as, one_field, text_decides}
+use Rattle.mx_value.proofs.Enums.{DecidesAt, enum_decides, items_decide, both_decide, decides_as, last_field, text_decides}
 use Rattle.mx_value.specs.declared.value.Segment.TheFolds.{map-Value, map-Segment, map-CellsAt, ind-Value, ind-Segment, ind-CellsAt}
 use Rattle.mx_value.specs.declared.value.Segment.TheVariants as made_segment
 use Rattle.mx_value.specs.contracts.value.Segment as ss
@@ -103,20 +103,20 @@ OfCells a = (b : CellsAt) → Decides ((c.ghosts).eq a b) (a ≡ b)
 
 segment_at : (y : Segment-F ((a : Segment) × OfSegment a) ((a : Value) × OfValue a) ((a : CellsAt) × OfCells a)) → DecidesAt ss.the_parts each_segment (segment_choice (map-Segment _ _ _ Segment Value CellsAt (λ e. e.0) (λ e. e.0) (λ e. e.0) y))
 unfolding segment_choice
-segment_at (Segment-F.Name name) = λ y. one_field name y (text_decides name y.0)
-segment_at (Segment-F.Item items) = λ y. one_field _ y (items_decide (sl.family member-Value) items y.0)
+segment_at (Segment-F.Name name) = λ y. last_field (name, tt) y (text_decides name y.0)
+segment_at (Segment-F.Item items) = λ y. last_field _ y (items_decide (sl.family member-Value) items y.0)
 
 value_at : (y : Value-F ((a : Segment) × OfSegment a) ((a : Value) × OfValue a) ((a : CellsAt) × OfCells a)) → DecidesAt vv.the_parts each_value (choice_of (map-Value _ _ _ Segment Value CellsAt (λ e. e.0) (λ e. e.0) (λ e. e.0) y))
 unfolding choice_of
 value_at Value-F.Nothing = λ y. (λ t. refl, λ e. refl)
-value_at (Value-F.Flag b) = λ y. one_field b y (booleans_Decides b y.0)
-value_at (Value-F.Int n) = λ y. one_field n y (signed_Decides n y.0)
-value_at (Value-F.Fix x) = λ y. one_field x y (signed_Decides x y.0)
-value_at (Value-F.Text t) = λ y. one_field t y (text_decides t y.0)
-value_at (Value-F.Tup items) = λ y. one_field _ y (items_decide (vl.family member-Value) items y.0)
-value_at (Value-F.Space segments) = λ y. one_field _ y (items_decide (vl.family member-Segment) segments y.0)
-value_at (Value-F.Cells at) = λ y. one_field at.0 y (at.1 y.0)
-value_at (Value-F.Table t) = λ y. one_field t y (text_decides t y.0)
+value_at (Value-F.Flag b) = λ y. last_field (b, tt) y (booleans_Decides b y.0)
+value_at (Value-F.Int n) = λ y. last_field (n, tt) y (signed_Decides n y.0)
+value_at (Value-F.Fix x) = λ y. last_field (x, tt) y (signed_Decides x y.0)
+value_at (Value-F.Text t) = λ y. last_field (t, tt) y (text_decides t y.0)
+value_at (Value-F.Tup items) = λ y. last_field _ y (items_decide (vl.family member-Value) items y.0)
+value_at (Value-F.Space segments) = λ y. last_field _ y (items_decide (vl.family member-Segment) segments y.0)
+value_at (Value-F.Cells at) = λ y. last_field (at.0, tt) y (at.1 y.0)
+value_at (Value-F.Table t) = λ y. last_field (t, tt) y (text_decides t y.0)
 
 abbrev SameParts : CellsAt → CellsAt → Type 0
 SameParts a b = (a.space ≡ b.space) × (a.name ≡ b.name)

@@ -2,6 +2,7 @@
 #![tactic(auto)]
 
 pub mod copies;
+pub mod equality;
 pub mod fault;
 pub mod fixed;
 pub mod label;
