@@ -6,5 +6,6 @@ pub mod fault;
 pub mod fixed;
 pub mod label;
 pub mod node;
+pub mod rounding;
 pub mod size;
 pub mod value;
