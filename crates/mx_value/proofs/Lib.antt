@@ -1,2 +1,3 @@
+pub mod FixedLaws
 pub mod RoundingLaws
 pub mod WideNumbers

@@ -1,6 +1,6 @@
 -- The rounded quotients are the numbers that their properties say, and no others.
 use Rattle.std.proofs.Common.{◌≡◌, ◌≢◌, ℕ, zero, suc, ◌+◌, ◌-◌, ◌*◌, ◌/◌, ◌%◌, ◌<◌, ◌≤◌, ◌⊎◌, ◌↔◌, Bool, true, false, inl, inr, refl, sym, ◌∙◌, ap, subst, arith, ℤ, pos, negsuc, neg_ℤ, ◌+ℤ◌, ◌-ℤ◌, ◌*ℤ◌, ◌≤ℤ◌, ◌<ℤ◌, unsigned_abs, nat_lt, int_lt, if◌then◌else◌}
-use Rattle.std.proofs.Math.Nat.{mod-lt, mul-le-mul_right, le_of_mul-le-mul_right, zero-mul}
+use Rattle.std.proofs.Math.Nat.{div-le_self, mod-lt, mul-le-mul_right, le_of_mul-le-mul_right, zero-mul}
 use Rattle.std.proofs.lemmas.Nat.{div-add-mod'}
 use Rattle.std.proofs.lemmas.Int.{ints}
 use Rattle.std.proofs.lemmas.Bool.{cases_lt}
@@ -362,3 +362,11 @@ half_even-unlike (pos n) (pos d) e = let h = rw (not_negative n, not_negative d)
 half_even-unlike (pos n) (negsuc d) e = refl
 half_even-unlike (negsuc n) (pos d) e = refl
 half_even-unlike (negsuc n) (negsuc d) e = cc
+
+pub floor-small : (n d : ℤ) → unsigned_abs (floor_of n d) ≤ unsigned_abs n
+unfolding floor_of
+floor-small (pos n) (pos d) = div-le_self n d
+floor-small (negsuc n) (pos d) = omega (arith, div-le_self n d)
+floor-small (pos zero) (negsuc d) = div-le_self zero (suc d)
+floor-small (pos (suc n)) (negsuc d) = omega (arith, div-le_self n (suc d))
+floor-small (negsuc n) (negsuc d) = div-le_self (suc n) (suc d)

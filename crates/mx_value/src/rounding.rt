@@ -42,6 +42,7 @@ pub fn div_floor(dividend: i128, divisor: i128) -> i128
     requires divisor_fits { unsigned_abs divisor < 2 ^ 127 }
     ensures value { result ≡ floor_of dividend divisor }
     ensures greatest { IsFloor dividend divisor result }
+    ensures small { unsigned_abs result ≤ unsigned_abs dividend }
 {
     if divisor > 0 {
         dividend.div_euclid(divisor)

@@ -2,7 +2,7 @@ use Rattle.std.proofs.Common.{◌≡◌, ◌∙◌, ap, subst, sym, FitsSigned, 
 use Rattle.std.specs.Int.{w128, int_div_euclid}
 use Rattle.mx_value.proofs.WideNumbers.{negated, is_above, is_below}
 use Rattle.mx_value.specs.Rounding.{IsFloor, floor_of}
-use Rattle.mx_value.proofs.RoundingLaws.{floor-is, floor-above, floor-below}
+use Rattle.mx_value.proofs.RoundingLaws.{floor-is, floor-above, floor-below, floor-small}
 use Rattle.mx_value.proofs.rounding.div_floor.Goals as goal
 
 pub returns-then-divisor-gt0-clause-value : goal.returns-then-divisor-gt0-clause-value
@@ -23,3 +23,11 @@ returns-else-divisor-gt0-clause-value c =
 
 pub returns-else-divisor-gt0-clause-greatest : goal.returns-else-divisor-gt0-clause-greatest
 returns-else-divisor-gt0-clause-greatest c = subst (λ q. IsFloor c.args.dividend c.args.divisor q) (sym (returns-else-divisor-gt0-clause-value c)) (floor-is c.args.dividend c.args.divisor c.requires.nonzero)
+
+pub returns-then-divisor-gt0-clause-small : goal.returns-then-divisor-gt0-clause-small
+returns-then-divisor-gt0-clause-small c =
+    rw (returns-then-divisor-gt0-clause-value c) (floor-small c.args.dividend c.args.divisor)
+
+pub returns-else-divisor-gt0-clause-small : goal.returns-else-divisor-gt0-clause-small
+returns-else-divisor-gt0-clause-small c =
+    rw (returns-else-divisor-gt0-clause-value c) (floor-small c.args.dividend c.args.divisor)
