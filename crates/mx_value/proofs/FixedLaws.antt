@@ -21,6 +21,17 @@ pub checked-out : (z : ℤ) → ¬ (IsInRange z) → checked z ≡ Err Overflow
 unfolding checked
 checked-out z h = grind (arith, nat_tests)
 
+in_range_from : (z : ℤ) → nat_le (unsigned_abs z) (10 ^ 19) ≡ true → IsInRange z
+in_range_from z e = grind (arith, nat_tests)
+
+pub checked-ok : (z q : ℤ) → checked z ≡ Ok q → (q ≡ z) × IsInRange z
+unfolding checked
+checked-ok z q = at (nat_le (unsigned_abs z) (10 ^ 19)) refl
+  where
+    at : (t : Bool) → nat_le (unsigned_abs z) (10 ^ 19) ≡ t → (if t then Ok z else Err Overflow) ≡ Ok q → (q ≡ z) × IsInRange z
+    at true e h = (let i : z ≡ q = cc in sym i, in_range_from z e)
+    at false e h = absurd (cc)
+
 pub checked-from : (o : Option ℤ) (z : ℤ) → SomeIff o (IsInRange z) z → ok_or o Overflow ≡ checked z
 checked-from None z h = sym (checked-out z h)
 checked-from (Some x) z h = ap Ok h.1 ∙ sym (checked-in z h.0)
@@ -46,7 +57,7 @@ one-in-range : IsInRange one
 one-in-range = lit≤ tt
 
 -- what holds of z holds of a checked z
-IfOk-checked : (z : ℤ) (P : ℤ → Type 0) → P z → IfOk (checked z) P
+pub IfOk-checked : (z : ℤ) (P : ℤ → Type 0) → P z → IfOk (checked z) P
 unfolding checked
 IfOk-checked z P h = at (nat_le (unsigned_abs z) (10 ^ 19))
   where

@@ -1,3 +1,4 @@
 pub mod FixedLaws
+pub mod PowerLaws
 pub mod RoundingLaws
 pub mod WideNumbers
