@@ -14,6 +14,7 @@ pub mod normal;
 pub mod plain;
 pub mod read;
 pub mod refusal;
+pub mod rounding;
 pub mod size;
 #[cfg(test)]
 mod tests;
