@@ -91,7 +91,8 @@ impl Label {
     /// The label of these bytes.
     pub fn new(alloc: Global, bytes: &[u8]) -> Result<Label, LabelRefusal>
         ensures ok { IfOk result (λ label. label ≡ bytes.now) }
-        ensures exact { MatchOption (first_unprintable bytes.now) (IsOkUnless result LabelRefusal.NoMemory) (λ place. IsErrOf result (LabelRefusal.NotPrintable place)) }
+        ensures exact { MatchOption (first_unprintable bytes.now) (IsOkUnless result LabelRefusal.NoMemory)
+            (λ place. IsErrOf result (LabelRefusal.NotPrintable place)) }
     {
         match first_unprintable(bytes) {
             Some(place) => Err(LabelRefusal::NotPrintable(place)),
