@@ -1,4 +1,10 @@
+pub mod Bytes
+pub mod Enums
 pub mod FixedLaws
+pub mod NodeSames
+pub mod Normals
 pub mod PowerLaws
 pub mod RoundingLaws
+pub mod Sames
+pub mod Trees
 pub mod WideNumbers

@@ -2,10 +2,20 @@
 #![tactic(auto)]
 
 pub mod copies;
+pub mod equality;
 pub mod fault;
 pub mod fixed;
 pub mod label;
+pub mod name;
+pub mod namespace;
+pub mod nesting;
 pub mod node;
+pub mod normal;
+pub mod plain;
+pub mod read;
+pub mod refusal;
 pub mod rounding;
 pub mod size;
+#[cfg(test)]
+mod tests;
 pub mod value;
