@@ -1,4 +1,5 @@
 pub mod Bytes
+pub mod DecimalLaws
 pub mod Enums
 pub mod FixedLaws
 pub mod NodeSames

@@ -370,3 +370,14 @@ floor-small (negsuc n) (pos d) = omega (arith, div-le_self n d)
 floor-small (pos zero) (negsuc d) = div-le_self zero (suc d)
 floor-small (pos (suc n)) (negsuc d) = omega (arith, div-le_self n (suc d))
 floor-small (negsuc n) (negsuc d) = div-le_self (suc n) (suc d)
+
+-- ---- the distance is at most half a step
+
+pub half_even-half : (n d q : ℤ) → d ≢ pos 0 → IsHalfEven n d q → 2 * distance n d q ≤ unsigned_abs d
+half_even-half n (pos zero) q ne h = absurd (ne refl)
+half_even-half n (pos (suc d)) q ne h =
+    let a = half_even-near n (suc d) q (omega arith) h in
+    omega (arith, distance-is n q (suc d), a.not_below, a.not_above)
+half_even-half n (negsuc d) q ne h =
+    let a = half_even-near n (suc d) (neg_ℤ q) (omega arith) (turn_back n q d h) in
+    omega (arith, turned n q d, distance-is n (neg_ℤ q) (suc d), a.not_below, a.not_above)

@@ -1,5 +1,5 @@
 -- The arithmetic of decimal numbers, on their raw numbers: whole numbers of 10^-9.
-use Rattle.std.specs.Prelude.{◌≡◌, ℕ, zero, suc, ◌+◌, ◌^◌, ◌<◌, ◌≤◌, Bool, true, false, nat_le, nat_lt, ◌==◌, ◌||◌, if◌then◌else◌, ℤ, pos, negsuc, ◌+ℤ◌, ◌-ℤ◌, ◌*ℤ◌, ◌≤ℤ◌, int_le, unsigned_abs, Result, Ok, Err, IsOkAnd}
+use Rattle.std.specs.Prelude.{◌≡◌, ◌≢◌, ℕ, zero, suc, ◌+◌, ◌*◌, ◌^◌, ◌<◌, ◌≤◌, Bool, true, false, nat_le, nat_lt, ◌==◌, ◌||◌, if◌then◌else◌, ℤ, pos, negsuc, ◌+ℤ◌, ◌-ℤ◌, ◌*ℤ◌, ◌≤ℤ◌, ◌<ℤ◌, int_le, unsigned_abs, Result, Ok, Err, IsOkAnd}
 use Rattle.std.specs.Ordering.{int_eq}
 use Rattle.std.specs.Int.{is_negative}
 use Rattle.mx_value.specs.declared.fixed.NumFault.{NumFault}
@@ -73,3 +73,20 @@ pub record IsRoot (x : ℤ) (n : ℕ) (r : ℤ) : Type 0 where
   pub not_negative : pos 0 ≤ℤ r
   pub reached : IsOkAnd (fixed_pow r (pos n)) (λ p. p ≤ℤ x)
   pub greatest : (s : ℤ) → pos 0 ≤ℤ s → IsInRange s → IsOkAnd (fixed_pow s (pos n)) (λ p. p ≤ℤ x) → s ≤ℤ r
+
+-- ---- laws
+
+abbrev pub AddKeepsOrder : Type 0
+AddKeepsOrder = (x y z a b : ℤ) → x ≤ℤ y → fixed_add x z ≡ Ok a → fixed_add y z ≡ Ok b → a ≤ℤ b
+
+-- the power of a root is at most the number, and that of the next base above it
+abbrev pub RootBrackets : Type 0
+RootBrackets =
+    (x : ℤ) (n : ℕ) (r p q : ℤ) → fixed_root x n ≡ Ok r → fixed_pow r (pos n) ≡ Ok p
+    → IsInRange (r +ℤ pos 1) → fixed_pow (r +ℤ pos 1) (pos n) ≡ Ok q → (p ≤ℤ x) × (x <ℤ q)
+
+-- a quotient times the divisor is off by half a unit and half a unit of the quotient at most
+abbrev pub QuotientThenProduct : Type 0
+QuotientThenProduct =
+    (x y q p : ℤ) → y ≢ pos 0 → fixed_div x y ≡ Ok q → fixed_mul q y ≡ Ok p
+    → 2 * (unsigned_abs (p -ℤ x) * 10 ^ 9) ≤ unsigned_abs y + 10 ^ 9

@@ -2,10 +2,13 @@
 
 ghost use Rattle.std.specs.Prelude.{◌≡◌, ◌≤◌, ◌<◌, ◌^◌, ℕ, ℤ, true, false, pos, ◌+ℤ◌, ◌*ℤ◌, ◌≤ℤ◌, SomeIff, IfOk, unsigned_abs};
 ghost use Rattle.mx_value.specs.Rounding.{IsHalfEven, IsFloor, LiesTowards};
-ghost use Rattle.mx_value.specs.Fixed.{one, IsInRange, checked, fixed_from_int, fixed_add, fixed_sub, fixed_mul, fixed_div, fixed_floor_div, fixed_rem, power_of, fixed_pow, is_at_most, fixed_root, IsRoot};
+ghost use Rattle.mx_value.specs.Fixed.{one, IsInRange, checked, fixed_from_int, fixed_add, fixed_sub, fixed_mul, fixed_div, fixed_floor_div, fixed_rem, power_of, fixed_pow, is_at_most, fixed_root, IsRoot, AddKeepsOrder, RootBrackets, QuotientThenProduct};
 
 use crate::rounding::{div_floor, div_half_even, mod_floor};
 use std::marker::Model;
+
+#[cfg(test)]
+mod tests;
 
 /// Why a number could not be computed.
 #[derive(Clone, Copy, Debug, PartialEq, Eq, Drop)]
@@ -102,7 +105,7 @@ impl Fixed {
         ensures rounded { IfOk result (IsHalfEven (self *ℤ one) other) }
     {
         if other.raw == 0 {
-            return Err(NumFault::ZeroDivision);
+            return Err(NumFault::ZeroDivision); // before Overflow
         }
         in_range(div_half_even(self.raw * ONE, other.raw))
     }
@@ -219,3 +222,12 @@ fn in_range(raw: i128) -> Result<Fixed, NumFault>
 {
     Fixed::from_raw(raw).ok_or(NumFault::Overflow)
 }
+
+/// What holds between the calls. A power out of range has no value here.
+pub fn laws()
+    ensures add_commutes { (x y : ℤ) → fixed_add x y ≡ fixed_add y x }
+    ensures add_zero { (x : ℤ) → IsInRange x → fixed_add x (pos 0) ≡ Ok x }
+    ensures add_keeps_order { AddKeepsOrder }
+    ensures root_brackets { RootBrackets }
+    ensures quotient_then_product { QuotientThenProduct }
+{}
