@@ -1,0 +1,4 @@
+pub mod Lists
+pub mod Counts
+pub mod Merge
+pub mod Taking
