@@ -50,13 +50,13 @@ size_head x ((y ∷ ys) ∷ lists) h =
 pub size_less : (lists : List (List SpaceId)) (x : SpaceId) → next lists ≡ Some x → size (without_all x lists) < size lists
 size_less lists x e = size_head x lists (next_head_is lists x e)
 
-merging_none : (k : ℕ) (lists : List (List SpaceId)) → next lists ≡ None → merging k lists ≡ stop (heads lists)
+pub merging_none : (k : ℕ) (lists : List (List SpaceId)) → next lists ≡ None → merging k lists ≡ stop (heads lists)
 merging_none zero lists e = refl
 merging_none (suc k) lists e =
     let f : Option SpaceId → Result (List SpaceId) (List SpaceId) = λ o. elim o [ Some x ↦ put x (merging k (without_all x lists)) | None ↦ stop (heads lists) ] in
     ap f e
 
-merging_some : (k : ℕ) (lists : List (List SpaceId)) (x : SpaceId) → next lists ≡ Some x → merging (suc k) lists ≡ put x (merging k (without_all x lists))
+pub merging_some : (k : ℕ) (lists : List (List SpaceId)) (x : SpaceId) → next lists ≡ Some x → merging (suc k) lists ≡ put x (merging k (without_all x lists))
 merging_some k lists x e =
     let f : Option SpaceId → Result (List SpaceId) (List SpaceId) = λ o. elim o [ Some y ↦ put y (merging k (without_all y lists)) | None ↦ stop (heads lists) ] in
     ap f e
@@ -107,7 +107,7 @@ taken_more x [] i d h = absurd (omega arith)
 taken_more x (xs ∷ lists) zero d h = refl
 taken_more x (xs ∷ lists) (suc i) d h = ap (λ zs. drop_head x xs ∷ zs) (taken_more x lists i d (omega arith))
 
-without_none : (x : SpaceId) (xs : List SpaceId) → stands xs x ≡ false → without x xs ≡ xs
+pub without_none : (x : SpaceId) (xs : List SpaceId) → stands xs x ≡ false → without x xs ≡ xs
 without_none x [] e = refl
 without_none x (y ∷ ys) e =
     elim (compared y x) [
@@ -123,11 +123,11 @@ drop_head_is x (y ∷ ys) e =
       | Other s i ↦ rw s (ap (λ zs. y ∷ zs) (sym (without_none x ys e)))
     ]
 
-or_left : (a b : Bool) → (a || b) ≡ false → a ≡ false
+pub or_left : (a b : Bool) → (a || b) ≡ false → a ≡ false
 or_left true b e = e
 or_left false b e = refl
 
-or_right : (a b : Bool) → (a || b) ≡ false → b ≡ false
+pub or_right : (a b : Bool) → (a || b) ≡ false → b ≡ false
 or_right true b e = absurd (let t : true ≡ false = e in cc)
 or_right false b e = e
 

@@ -2,3 +2,5 @@ pub mod Lists
 pub mod Counts
 pub mod Merge
 pub mod Taking
+pub mod Linearisation
+pub mod Known

@@ -79,6 +79,11 @@ size (xs ∷ lists) = length xs + size lists
 unfoldable pub merge : List (List SpaceId) → Result (List SpaceId) (List SpaceId)
 merge lists = merging (size lists) lists
 
+-- the order takes the next head each time, until nothing is left
+abbrev pub IsMerge : List (List SpaceId) → List SpaceId → Type 0
+IsMerge lists [] = heads lists ≡ []
+IsMerge lists (x ∷ order) = (next lists ≡ Some x) × IsMerge (without_all x lists) order
+
 -- with these before the order
 abbrev pub put_all : List SpaceId → Result (List SpaceId) (List SpaceId) → Result (List SpaceId) (List SpaceId)
 put_all [] merged = merged

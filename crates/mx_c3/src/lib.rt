@@ -5,6 +5,7 @@
 #![tactic(auto)]
 
 mod counts;
+pub mod linearise;
 pub mod lists;
 pub mod merge;
 pub mod refusal;
