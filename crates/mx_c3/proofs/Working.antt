@@ -4,7 +4,9 @@ use Rattle.std.proofs.lemmas.Option.{slice_get_within, slice_get-get_or}
 use Rattle.std.proofs.lemmas.List.{take_more, append-nil, get_or-replicate, length-replicate}
 use Rattle.mx_c3.specs.declared.space.SpaceId.{SpaceId}
 use Rattle.mx_c3.specs.Lists.{Has, Among, Distinct, AllDistinct}
-use Rattle.mx_c3.specs.Merge.{put, merge}
+use Rattle.mx_c3.specs.declared.refusal.C3Refusal.{C3Refusal}
+use Rattle.mx_c3.specs.declared.refusal.C3Refusal.TheVariants.{NoOrder, NoMemory}
+use Rattle.mx_c3.specs.Merge.{put, merge, Answers}
 use Rattle.mx_c3.specs.Known.{known, known_in, first_unknown, orders_of}
 use Rattle.mx_c3.specs.Linearisation.{bases_of, before_all, each, from_orders, step, c3, Reaches, AreSound}
 use Rattle.mx_c3.proofs.ListLemmas.{Compared, Same, Other, compared, has_left, has_right, has_cases, has_push_cases, drop_more}
@@ -109,6 +111,26 @@ each_by lists orders c bs (Some o) r k f e =
 each_known : (lists : List (List SpaceId)) (orders : List (Option (List SpaceId))) (bs : List SpaceId) → AreRight lists orders → first_unknown orders bs ≡ None → each (c3 lists) bs ≡ Ok (orders_of orders bs)
 each_known lists orders [] r e = refl
 each_known lists orders (c ∷ bs) r e = each_by lists orders c bs (known orders c) r refl (each_known lists orders bs r) e
+
+orders_one : (orders : List (Option (List SpaceId))) (b : SpaceId) (o : Option (List SpaceId)) → known orders b ≡ o → orders_of orders (b ∷ []) ≡ elim o [ None ↦ [] | Some order ↦ order ∷ [] ]
+orders_one orders b o e = ap (λ (p : Option (List SpaceId)). elim p [ None ↦ orders_of orders [] | Some order ↦ order ∷ orders_of orders [] ]) e
+
+with_append : (o : Option (List SpaceId)) (xs ys : List (List SpaceId)) → elim o [ None ↦ xs ++ ys | Some order ↦ order ∷ (xs ++ ys) ] ≡ (elim o [ None ↦ xs | Some order ↦ order ∷ xs ]) ++ ys
+with_append None xs ys = refl
+with_append (Some o) xs ys = refl
+
+orders_of-append : (orders : List (Option (List SpaceId))) (xs ys : List SpaceId) → orders_of orders (xs ++ ys) ≡ orders_of orders xs ++ orders_of orders ys
+orders_of-append orders [] ys = refl
+orders_of-append orders (x ∷ xs) ys =
+    ap (λ zs. elim (known orders x) [ None ↦ zs | Some order ↦ order ∷ zs ]) (orders_of-append orders xs ys) ∙ with_append (known orders x) (orders_of orders xs) (orders_of orders ys)
+
+pub orders_more_some : (orders : List (Option (List SpaceId))) (bs : List SpaceId) (i : ℕ) (d : SpaceId) (o : List SpaceId) → i < length bs → known orders (get_or bs i d) ≡ Some o → orders_of orders (take (i + 1) bs) ≡ orders_of orders (take i bs) ++ o ∷ []
+orders_more_some orders bs i d o h e =
+    ap (orders_of orders) (take_more bs i d h) ∙ orders_of-append orders (take i bs) (get_or bs i d ∷ []) ∙ ap (λ zs. orders_of orders (take i bs) ++ zs) (orders_one orders (get_or bs i d) (Some o) e)
+
+pub orders_more_none : (orders : List (Option (List SpaceId))) (bs : List SpaceId) (i : ℕ) (d : SpaceId) → i < length bs → known orders (get_or bs i d) ≡ None → orders_of orders (take (i + 1) bs) ≡ orders_of orders (take i bs)
+orders_more_none orders bs i d h e =
+    ap (orders_of orders) (take_more bs i d h) ∙ orders_of-append orders (take i bs) (get_or bs i d ∷ []) ∙ ap (λ zs. orders_of orders (take i bs) ++ zs) (orders_one orders (get_or bs i d) None e) ∙ append-nil (orders_of orders (take i bs))
 
 module _ (lists : List (List SpaceId)) (sound : AreSound lists) (s : SpaceId) where
   pending_in_range : (orders : List (Option (List SpaceId))) (pending : List SpaceId) → Working lists s orders pending → (x : SpaceId) → Has pending x → x.0 < length lists
@@ -222,3 +244,23 @@ module _ (lists : List (List SpaceId)) (sound : AreSound lists) (s : SpaceId) wh
 
   pub finished : (orders : List (Option (List SpaceId))) (pending : List SpaceId) → Working lists s orders pending → pending ≡ [] → IsKnown orders s
   finished orders pending w e = elim w.aim [ inl h ↦ absurd (subst (λ xs. Has xs s) e h) | inr k ↦ k ]
+
+  orders_distinct : (orders : List (Option (List SpaceId))) → AreRight lists orders → (bs : List SpaceId) → ((b : SpaceId) → Has bs b → b.0 < length lists) → (tail_ : List (List SpaceId)) → AllDistinct tail_ → AllDistinct (orders_of orders bs ++ tail_)
+  orders_distinct orders r [] f t d = d
+  orders_distinct orders r (b ∷ bs) f t d = distinct_with (known orders b) (λ o e. c3_once lists sound b o (f b (inl refl)) (r b o e)) (orders_of orders bs) t (orders_distinct orders r bs (λ c h. f c (inr h)) t d)
+    where
+      distinct_with : (o : Option (List SpaceId)) → ((order : List SpaceId) → o ≡ Some order → Distinct order) → (os t : List (List SpaceId)) → AllDistinct (os ++ t) → AllDistinct ((elim o [ None ↦ os | Some order ↦ order ∷ os ]) ++ t)
+      distinct_with None g os t d = d
+      distinct_with (Some o) g os t d = (g o refl, d)
+
+  distinct_at : (xss : List (List SpaceId)) (i : ℕ) → AllDistinct xss → Distinct (get_or xss i [])
+  distinct_at [] i a = tt
+  distinct_at (xs ∷ xss) zero a = a.0
+  distinct_at (xs ∷ xss) (suc i) a = distinct_at xss i a.1
+
+  pub all_distinct : (orders : List (Option (List SpaceId))) (top : SpaceId) → AreRight lists orders → AllDistinct (orders_of orders (bases_of lists top) ++ bases_of lists top ∷ [])
+  all_distinct orders top r = orders_distinct orders r (bases_of lists top) (λ b h. base_in_range lists top b sound h) (bases_of lists top ∷ []) (distinct_at lists top.0 sound.distinct, tt)
+
+pub pass_on : (refusal : C3Refusal) (part whole : Result (List SpaceId) (List SpaceId)) → ((blocked : List SpaceId) → part ≡ Err blocked → whole ≡ Err blocked) → Answers (Err refusal) part → Answers (Err refusal) whole
+pass_on (NoOrder blocked) part whole f a = f blocked a
+pass_on NoMemory part whole f a = tt
