@@ -6,3 +6,5 @@ pub mod Within
 pub mod MergeLaws
 pub mod LinearLaws
 pub mod Working
+pub mod NextLaws
+pub mod InOrderLemmas

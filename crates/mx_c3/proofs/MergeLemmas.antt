@@ -68,7 +68,7 @@ enough_by j k lists f (Some x) e g h =
     let l : size (without_all x lists) < size lists = size_less lists x e in
     merging_some j lists x e ∙ ap (put x) (f (without_all x lists) (omega arith) (omega arith)) ∙ sym (merging_some k lists x e)
 
-none_left : (lists : List (List SpaceId)) (o : Option SpaceId) → next lists ≡ o → size lists ≤ 0 → next lists ≡ None
+pub none_left : (lists : List (List SpaceId)) (o : Option SpaceId) → next lists ≡ o → size lists ≤ 0 → next lists ≡ None
 none_left lists None e h = e
 none_left lists (Some x) e h = absurd (let l : size (without_all x lists) < size lists = size_less lists x e in omega arith)
 

@@ -31,7 +31,7 @@ pub record Working (lists : List (List SpaceId)) (s : SpaceId) (orders : List (O
   pub blocks : (x : SpaceId) (blocked : List SpaceId) → Has pending x → c3 lists x ≡ Err blocked → c3 lists s ≡ Err blocked
   pub aim : Has pending s ⊎ IsKnown orders s
 
-distinct_push : (xs : List SpaceId) (x : SpaceId) → Distinct xs → (Has xs x → ⊥) → Distinct (xs ++ x ∷ [])
+pub distinct_push : (xs : List SpaceId) (x : SpaceId) → Distinct xs → (Has xs x → ⊥) → Distinct (xs ++ x ∷ [])
 distinct_push [] x d n = (λ h. h, tt)
 distinct_push (y ∷ xs) x d n =
     (λ h. elim (has_push_cases xs x y h) [ inl a ↦ d.0 a | inr e ↦ n (inl (sym e)) ], distinct_push xs x d.1 (λ h. n (inr h)))

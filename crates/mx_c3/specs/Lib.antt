@@ -4,3 +4,5 @@ pub mod Merge
 pub mod Taking
 pub mod Linearisation
 pub mod Known
+pub mod Laws
+pub mod InOrder

@@ -5,9 +5,13 @@
 #![tactic(auto)]
 
 mod counts;
+pub mod laws;
 pub mod linearise;
 pub mod lists;
 pub mod merge;
 pub mod refusal;
 mod remaining;
 pub mod space;
+
+#[cfg(test)]
+mod tests;

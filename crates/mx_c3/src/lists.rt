@@ -1,5 +1,7 @@
 //! Orders of spaces, and the bases of all spaces.
 ghost use Rattle.std.specs.Prelude.{◌≡◌, ◌<◌, [], ◌∷◌, ◌++◌, length, slice_get, slice_set, Some, ◌↔◌, IsTrue, IfOk, OnOk, OnErr};
+ghost use Rattle.mx_c3.specs.Lists.{Distinct};
+ghost use Rattle.mx_c3.specs.InOrder.{AllBelow, IsInOrder};
 
 use crate::space::SpaceId;
 use mx_list::list::List;
@@ -107,10 +109,47 @@ impl BaseLists {
         self.lists[space.0 as usize] = bases;
     }
 
+    /// Whether each base stands before its space and no list has one twice: such lists can be linearised.
+    pub fn is_in_order(&self) -> bool
+        ensures { IsTrue result ↔ IsInOrder 0 self.now }
+    {
+        for (place, bases) in self.lists.iter().enumerate() {
+            if !are_below(bases.as_slice(), place) {
+                return false;
+            }
+            if !are_distinct(bases.as_slice()) {
+                return false;
+            }
+        }
+        true
+    }
+
     pub fn bases(&self, space: SpaceId) -> &Order
         requires { space.0 < length self.now }
         ensures { slice_get self.now space.0 ≡ Some result.now }
     {
         &self.lists[space.0 as usize]
     }
+}
+
+fn are_below(spaces: &[SpaceId], bound: usize) -> bool
+    ensures { IsTrue result ↔ AllBelow bound spaces.now }
+{
+    for space in spaces {
+        if space.0 as usize >= bound {
+            return false;
+        }
+    }
+    true
+}
+
+fn are_distinct(spaces: &[SpaceId]) -> bool
+    ensures { IsTrue result ↔ Distinct spaces.now }
+{
+    for (place, space) in spaces.iter().enumerate() {
+        if spaces[..place].contains(space) {
+            return false;
+        }
+    }
+    true
 }

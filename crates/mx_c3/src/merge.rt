@@ -2,6 +2,7 @@
 ghost use Rattle.std.specs.Prelude.{◌≡◌, false, IfOk};
 ghost use Rattle.mx_c3.specs.Lists.{AllDistinct};
 ghost use Rattle.mx_c3.specs.Merge.{merge, next, heads, each_once, in_tail, without_all, put_all, Answers};
+ghost use Rattle.mx_c3.specs.Laws.{IsKept};
 ghost use Rattle.mx_c3.specs.Counts.{IsCounted};
 ghost use Rattle.mx_c3.specs.Taking.{drop_head, CanTake, Follows};
 
@@ -18,7 +19,8 @@ use std::alloc::{AllocError, Global};
 /// It takes memory in proportion to the lists and to the greatest place among their spaces.
 pub fn merge(alloc: Global, lists: &[Order]) -> Result<Order, C3Refusal>
     requires { AllDistinct lists.now }
-    ensures { Answers result (merge lists.now) }
+    ensures exact { Answers result (merge lists.now) }
+    ensures kept { IfOk result (IsKept lists.now) }
 {
     merge_onto(alloc, Vec::new(alloc), lists)
 }
