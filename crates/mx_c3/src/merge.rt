@@ -106,8 +106,8 @@ fn heads_left(alloc: Global, rest: &[Remaining]) -> Result<Vec<SpaceId>, AllocEr
     ensures { IfOk result (λ left. left.items ≡ each_once (heads rest.now)) }
 {
     let mut left = Vec::new(alloc);
-    for list in rest {
-        let Some(head) = list.head() else {
+    for remaining in rest {
+        let Some(head) = remaining.head() else {
             continue;
         };
         if !left.contains(&head) {

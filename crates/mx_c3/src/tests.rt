@@ -123,3 +123,36 @@ fn orders_are_pythons(rt: HostRuntime) -> Result<(), Fail> {
     assert_eq!(rt; count, 43);
     Ok(())
 }
+
+fn order_of(alloc: Global, places: &[u32]) -> Result<Order, AllocError> {
+    let mut spaces = Vec::new(alloc);
+    for place in places {
+        spaces.push(SpaceId(*place))?;
+    }
+    Order::from_vec(alloc, spaces)
+}
+
+#[test]
+fn merge_of_no_lists_is_empty(rt: HostRuntime) -> Result<(), Fail> {
+    match merge(rt.alloc(), &[]) {
+        Ok(order) => assert!(rt; order.as_slice().is_empty()),
+        Err(_) => return Err(AllocError)?,
+    }
+    Ok(())
+}
+
+#[test]
+fn lists_keep_what_is_set(rt: HostRuntime) -> Result<(), Fail> {
+    let mut lists = BaseLists::new(rt.alloc());
+    assert!(rt; lists.is_empty());
+    lists.push(order_of(rt.alloc(), &[])?)?;
+    lists.push(order_of(rt.alloc(), &[0])?)?;
+    assert!(rt; lists.len() == 2);
+    assert!(rt; lists.is_in_order());
+    let bases = order_of(rt.alloc(), &[1])?;
+    lists.set(SpaceId(0), bases.copy()?);
+    assert!(rt; lists.len() == 2);
+    assert_eq!(rt; lists.bases(SpaceId(0)).as_slice(), [SpaceId(1)].as_slice());
+    assert!(rt; !lists.is_in_order());
+    Ok(())
+}
