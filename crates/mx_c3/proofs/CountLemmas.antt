@@ -1,13 +1,13 @@
 -- Laws of the counts of tails.
-use Rattle.std.proofs.Common.{◌≡◌, ℕ, zero, suc, ◌+◌, ◌-◌, ◌<◌, ◌≤◌, Bool, true, false, cond, Option, Some, None, List, [], ◌∷◌, ◌++◌, length, take, drop, get_or, slice_index, slice_set, ◌⊎◌, inl, inr, refl, sym, ◌∙◌, ap, subst, arith, length-set}
+use Rattle.std.proofs.Common.{◌≡◌, ℕ, zero, suc, ◌+◌, ◌-◌, ◌<◌, ◌≤◌, true, false, Some, None, List, [], ◌∷◌, ◌++◌, length, take, drop, get_or, slice_index, slice_set, ◌⊎◌, inl, inr, refl, sym, ◌∙◌, ap, subst, arith, length-set}
 use Rattle.std.proofs.lemmas.List.{length-take-le, take_all, take_more, get_or-set_same, get_or-set_other}
 use Rattle.std.proofs.Math.Seq.{take-append_seam}
 use Rattle.mx_c3.specs.declared.space.SpaceId.{SpaceId}
-use Rattle.mx_c3.specs.Lists.{Has, Among, Distinct, AllDistinct}
+use Rattle.mx_c3.specs.Lists.{Has, Distinct, AllDistinct}
 use Rattle.mx_c3.specs.Merge.{same, tail, head, stands, in_tail}
 use Rattle.mx_c3.specs.Counts.{count, times, CountsFirst, IsCounted, CountsMore}
-use Rattle.mx_c3.specs.Taking.{drop_head, drop_heads, CanTake, Follows}
-use Rattle.mx_c3.proofs.ListLemmas.{Compared, Same, Other, compared, is_same, has_at, has_tail, distinct_tail, among_at, among_set, all_distinct_take}
+use Rattle.mx_c3.specs.Taking.{drop_head, CanTake, Follows}
+use Rattle.mx_c3.proofs.ListLemmas.{Same, Other, compared, is_same, has_at, distinct_tail, among_at, among_set, all_distinct_take}
 
 pub count-append : (xs ys : List SpaceId) (x : SpaceId) → count (xs ++ ys) x ≡ count xs x + count ys x
 count-append [] ys x = omega arith

@@ -1,9 +1,8 @@
 -- Laws of base lists in which each base stands before its spaces.
-use Rattle.std.proofs.Common.{◌≡◌, ℕ, zero, suc, ◌+◌, ◌<◌, ◌≤◌, Bool, true, false, List, [], ◌∷◌, ◌++◌, length, take, get_or, ◌⊎◌, inl, inr, refl, sym, ◌∙◌, ap, subst, arith}
+use Rattle.std.proofs.Common.{◌≡◌, ℕ, zero, suc, ◌+◌, ◌<◌, List, [], ◌∷◌, ◌++◌, length, take, get_or, inl, inr, sym, subst, arith}
 use Rattle.std.proofs.lemmas.List.{take_more, length-take-le}
 use Rattle.mx_c3.specs.declared.space.SpaceId.{SpaceId}
 use Rattle.mx_c3.specs.Lists.{Has, Among, Distinct, AllDistinct}
-use Rattle.mx_c3.specs.Linearisation.{bases_of, Reaches, AreSound}
 use Rattle.mx_c3.specs.InOrder.{AllBelow, IsInOrder}
 use Rattle.mx_c3.specs.Laws.{InOrderIsSound}
 use Rattle.mx_c3.proofs.ListLemmas.{has_more, has_at}

@@ -1,12 +1,12 @@
 -- What a linearisation keeps.
-use Rattle.std.proofs.Common.{◌≡◌, ◌↔◌, ℕ, zero, suc, ◌<◌, Option, Some, None, Result, Ok, Err, List, [], ◌∷◌, ◌++◌, length, ◌⊎◌, inl, inr, refl, sym, ◌∙◌, ap, subst}
+use Rattle.std.proofs.Common.{◌≡◌, ℕ, zero, suc, ◌<◌, Result, Ok, Err, List, [], ◌∷◌, ◌++◌, length, ◌⊎◌, inl, inr, refl, sym, ◌∙◌, ap, subst}
 use Rattle.mx_c3.specs.declared.space.SpaceId.{SpaceId}
 use Rattle.mx_c3.specs.Lists.{Has, Among, Distinct, Within}
-use Rattle.mx_c3.specs.Merge.{put, merge, IsMerge}
+use Rattle.mx_c3.specs.Merge.{merge, IsMerge}
 use Rattle.mx_c3.specs.Linearisation.{bases_of, before_all, each, from_orders, step, linear, c3, Leads, Reaches, AreSound, IsOrder}
 use Rattle.mx_c3.proofs.ListLemmas.{has_left, has_right, among_cases}
 use Rattle.mx_c3.proofs.Within.{within_cons, within_same, within_has, within_trans}
-use Rattle.mx_c3.proofs.MergeLaws.{PutOk, put_ok, merge_is, keeps, from_lists, once}
+use Rattle.mx_c3.proofs.MergeLaws.{put_ok, merge_is, keeps, from_lists, once}
 use Rattle.mx_c3.proofs.LinearLemmas.{c3_step, base_in_range, base_reached, reach_from}
 
 record Split (r : Result (List SpaceId) (List SpaceId)) (rest : Result (List (List SpaceId)) (List SpaceId)) (orders : List (List SpaceId)) : Type 0 where

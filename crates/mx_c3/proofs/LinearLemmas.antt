@@ -1,10 +1,8 @@
 -- Laws of the linearisation.
-use Rattle.std.proofs.Common.{◌≡◌, ℕ, zero, suc, ◌+◌, ◌-◌, ◌<◌, ◌≤◌, Bool, true, false, cond, Option, Some, None, Result, Ok, Err, List, [], ◌∷◌, ◌++◌, length, take, drop, get_or, slice_get, slice_set, ◌⊎◌, inl, inr, refl, sym, ◌∙◌, ap, subst, arith}
+use Rattle.std.proofs.Common.{◌≡◌, ℕ, zero, suc, ◌+◌, ◌<◌, ◌≤◌, Option, Some, None, Result, List, [], ◌∷◌, ◌++◌, length, get_or, slice_get, slice_set, inl, inr, refl, sym, ◌∙◌, ap, subst, arith}
 use Rattle.mx_c3.specs.declared.space.SpaceId.{SpaceId}
-use Rattle.mx_c3.specs.Lists.{Has, Among, Distinct, AllDistinct, Within}
-use Rattle.mx_c3.specs.Merge.{same, tail, head, heads, stands, in_tail, first_free, next, without, without_all, put, put_all, stop, merging, size, merge, each_once}
-use Rattle.mx_c3.specs.Linearisation.{bases_of, before_all, each, from_orders, step, linear, c3, Leads, Reaches, AreSound, IsOrder}
-use Rattle.mx_c3.proofs.ListLemmas.{Compared, Same, Other, compared, has_at, among_at, has_cases, among_cases}
+use Rattle.mx_c3.specs.Lists.{Has, Among, Distinct}
+use Rattle.mx_c3.specs.Linearisation.{bases_of, before_all, each, from_orders, step, linear, c3, Leads, Reaches, AreSound}
 
 -- at most so many distinct spaces have no order as the table has blanks
 abbrev pub blanks : List (Option (List SpaceId)) → ℕ
@@ -39,7 +37,7 @@ few table [] d f = omega arith
 few table (x ∷ xs) d f =
     let b : suc (blanks (slice_set table x.0 (Some []))) ≡ blanks table = blanks_set table x.0 [] (f x (inl refl)) in
     let r : length xs ≤ blanks (slice_set table x.0 (Some [])) = few (slice_set table x.0 (Some [])) xs d.1 (λ y h.
-        get_set_other table x.0 y.0 (Some []) (λ e. d.0 (subst (λ z. Has xs z) (sym (same_place x y e)) h)) ∙ f y (inr h)) in
+    get_set_other table x.0 y.0 (Some []) (λ e. d.0 (subst (λ z. Has xs z) (sym (same_place x y e)) h)) ∙ f y (inr h)) in
     omega arith
 
 abbrev fresh : List (List SpaceId) → List (Option (List SpaceId))
@@ -97,9 +95,9 @@ stable lists a zero path s h e d f r =
     absurd (let l : length (s ∷ path) ≤ length lists = fit lists (s ∷ path) (λ q. a.no_ring s (r s q), d) (λ x q. elim q [ inl i ↦ subst (λ z. z.0 < length lists) i h | inr m ↦ f x m ]) in omega arith)
 stable lists a (suc k) path s h e d f r =
     ap (from_orders s (bases_of lists s)) (each_same (linear lists k) (linear lists (suc k)) (bases_of lists s) (λ b m.
-        stable lists a k (s ∷ path) b (base_in_range lists s b a m) (omega arith) (λ q. a.no_ring s (r s q), d)
-        (λ x q. elim q [ inl i ↦ subst (λ z. z.0 < length lists) i h | inr n ↦ f x n ])
-        (λ x q. elim q [ inl i ↦ subst (λ z. Reaches lists z b) i (base_reached lists s b m) | inr n ↦ reach_on lists x s b (r x n) m ])))
+    stable lists a k (s ∷ path) b (base_in_range lists s b a m) (omega arith) (λ q. a.no_ring s (r s q), d)
+    (λ x q. elim q [ inl i ↦ subst (λ z. z.0 < length lists) i h | inr n ↦ f x n ])
+    (λ x q. elim q [ inl i ↦ subst (λ z. Reaches lists z b) i (base_reached lists s b m) | inr n ↦ reach_on lists x s b (r x n) m ])))
 
 -- the published equation
 pub c3_step : (lists : List (List SpaceId)) (s : SpaceId) → AreSound lists → s.0 < length lists → c3 lists s ≡ step lists (c3 lists) s

@@ -1,9 +1,9 @@
 -- What a merge keeps.
-use Rattle.std.proofs.Common.{◌≡◌, ℕ, zero, suc, Bool, true, false, ◌||◌, Option, Some, None, Result, Ok, Err, List, [], ◌∷◌, ◌++◌, ◌⊎◌, inl, inr, refl, sym, ◌∙◌, ap, subst}
+use Rattle.std.proofs.Common.{◌≡◌, ℕ, zero, suc, false, Option, Some, None, Result, Ok, Err, List, [], ◌∷◌, inl, inr, refl, sym, ◌∙◌, ap, subst}
 use Rattle.mx_c3.specs.declared.space.SpaceId.{SpaceId}
 use Rattle.mx_c3.specs.Lists.{Has, Among, Distinct, Within}
-use Rattle.mx_c3.specs.Merge.{same, tail, heads, stands, in_tail, first_free, next, without, without_all, put, stop, merging, size, merge, IsMerge, each_once}
-use Rattle.mx_c3.proofs.ListLemmas.{Compared, Same, Other, compared}
+use Rattle.mx_c3.specs.Merge.{tail, heads, stands, in_tail, first_free, next, without, without_all, put, stop, merging, size, merge, IsMerge, each_once}
+use Rattle.mx_c3.proofs.ListLemmas.{Same, Other, compared}
 use Rattle.mx_c3.proofs.MergeLemmas.{merging_none, merging_some, merge_none, merge_some, next_free, next_head_is, without_none, or_left, or_right}
 
 pub record PutOk (x : SpaceId) (merged : Result (List SpaceId) (List SpaceId)) (order : List SpaceId) : Type 0 where

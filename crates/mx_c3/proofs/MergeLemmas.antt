@@ -1,11 +1,11 @@
 -- Laws of the merge.
-use Rattle.std.proofs.Common.{◌≡◌, ℕ, zero, suc, ◌+◌, ◌-◌, ◌<◌, ◌≤◌, Bool, true, false, cond, ◌||◌, Option, Some, None, Result, Ok, Err, List, [], ◌∷◌, ◌++◌, length, take, drop, get_or, slice_set, ◌⊎◌, inl, inr, refl, sym, ◌∙◌, ap, subst, arith, add-one}
-use Rattle.std.proofs.lemmas.List.{take_more, take_all, drop_all, append-nil}
+use Rattle.std.proofs.Common.{◌≡◌, ℕ, zero, suc, ◌+◌, ◌<◌, ◌≤◌, Bool, true, false, cond, ◌||◌, Option, Some, None, Result, Ok, Err, List, [], ◌∷◌, ◌++◌, length, take, drop, get_or, slice_set, inl, inr, refl, sym, ◌∙◌, ap, subst, arith, add-one}
+use Rattle.std.proofs.lemmas.List.{take_more, append-nil}
 use Rattle.mx_c3.specs.declared.space.SpaceId.{SpaceId}
-use Rattle.mx_c3.specs.Lists.{Has, Among}
+use Rattle.mx_c3.specs.Lists.{Has}
 use Rattle.mx_c3.specs.Merge.{same, tail, head, heads, stands, in_tail, first_free, next, without, without_all, each_once, put, put_all, stop, merging, size, merge}
 use Rattle.mx_c3.specs.Taking.{drop_head, drop_heads}
-use Rattle.mx_c3.proofs.ListLemmas.{Compared, Same, Other, compared, is_same, drop_more}
+use Rattle.mx_c3.proofs.ListLemmas.{Same, Other, compared, is_same, drop_more}
 
 data Free (lists : List (List SpaceId)) (xs : List SpaceId) (x : SpaceId) : Type 0 where
   IsFree : Has xs x → in_tail lists x ≡ false → Free lists xs x

@@ -1,12 +1,12 @@
 -- The laws of the definitions.
-use Rattle.std.proofs.Common.{◌≡◌, ◌↔◌, ℕ, zero, suc, ◌<◌, ◌≤◌, Bool, true, false, cond, ◌||◌, Option, Some, None, Result, Ok, Err, IfOk, List, [], ◌∷◌, ◌++◌, ◌⊎◌, inl, inr, refl, sym, ◌∙◌, ap, subst, arith}
+use Rattle.std.proofs.Common.{◌≡◌, ℕ, zero, suc, ◌<◌, ◌≤◌, Bool, true, false, cond, ◌||◌, Option, Some, None, Result, Ok, Err, IfOk, List, [], ◌∷◌, ◌++◌, ◌⊎◌, inl, inr, refl, sym, ◌∙◌, ap, subst, arith}
 use Rattle.mx_c3.specs.declared.space.SpaceId.{SpaceId}
-use Rattle.mx_c3.specs.Lists.{Has, Among, Distinct, Within}
+use Rattle.mx_c3.specs.Lists.{Has, Among}
 use Rattle.mx_c3.specs.declared.refusal.C3Refusal.{C3Refusal}
-use Rattle.mx_c3.specs.Merge.{Answers, same, tail, heads, stands, in_tail, first_free, next, without_all, each_once, put, stop, merging, size, merge, IsMerge}
-use Rattle.mx_c3.specs.Linearisation.{bases_of, Leads, Reaches}
+use Rattle.mx_c3.specs.Merge.{Answers, same, tail, heads, stands, in_tail, first_free, next, without_all, each_once, put, stop, merging, size, merge}
+use Rattle.mx_c3.specs.Linearisation.{bases_of, Leads}
 use Rattle.mx_c3.specs.Laws.{IsBehind, IsNext, IsBlocked, IsKept, TakesNext, MergesInTurn, BlocksInTurn, RanksFall}
-use Rattle.mx_c3.proofs.ListLemmas.{Compared, Same, Other, compared, is_same}
+use Rattle.mx_c3.proofs.ListLemmas.{Same, Other, compared, is_same}
 use Rattle.mx_c3.proofs.Within.{within_has}
 use Rattle.mx_c3.proofs.MergeLemmas.{merging_none, merging_some, merge_none, merge_some, size_less, none_left}
 use Rattle.mx_c3.proofs.MergeLaws.{merge_is, is_merge, keeps, from_lists, once}

@@ -1,5 +1,5 @@
 -- Laws of items that stand in another list in the same order.
-use Rattle.std.proofs.Common.{◌≡◌, List, [], ◌∷◌, ◌⊎◌, inl, inr, refl, sym, ◌∙◌, subst}
+use Rattle.std.proofs.Common.{List, [], ◌∷◌, inl, inr, refl, ◌∙◌}
 use Rattle.mx_c3.specs.Lists.{Has, Within}
 
 pub within_cons : {X : Type 0} (xs ys : List X) (y : X) → Within xs ys → Within xs (y ∷ ys)

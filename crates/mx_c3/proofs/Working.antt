@@ -1,15 +1,15 @@
 -- What a linearisation keeps as it goes along the bases.
-use Rattle.std.proofs.Common.{◌≡◌, ℕ, zero, suc, ◌+◌, ◌-◌, ◌*◌, ◌<◌, ◌≤◌, Option, Some, None, Result, Ok, Err, List, [], ◌∷◌, ◌++◌, length, slice_get, slice_set, replicate, get_or, take, drop, ◌⊎◌, inl, inr, refl, sym, ◌∙◌, ap, subst, arith, length-append, length-set}
-use Rattle.std.proofs.lemmas.Option.{slice_get_within, slice_get-get_or}
-use Rattle.std.proofs.lemmas.List.{take_more, append-nil, get_or-replicate, length-replicate}
+use Rattle.std.proofs.Common.{◌≡◌, ℕ, zero, suc, ◌+◌, ◌-◌, ◌*◌, ◌<◌, ◌≤◌, Option, Some, None, Result, Ok, Err, List, [], ◌∷◌, ◌++◌, length, slice_get, slice_set, get_or, take, ◌⊎◌, inl, inr, refl, sym, ◌∙◌, ap, subst, arith, length-append, length-set}
+use Rattle.std.proofs.lemmas.Option.{slice_get_within}
+use Rattle.std.proofs.lemmas.List.{take_more, append-nil}
 use Rattle.mx_c3.specs.declared.space.SpaceId.{SpaceId}
-use Rattle.mx_c3.specs.Lists.{Has, Among, Distinct, AllDistinct}
+use Rattle.mx_c3.specs.Lists.{Has, Distinct, AllDistinct}
 use Rattle.mx_c3.specs.declared.refusal.C3Refusal.{C3Refusal}
 use Rattle.mx_c3.specs.declared.refusal.C3Refusal.TheVariants.{NoOrder, NoMemory}
 use Rattle.mx_c3.specs.Merge.{put, merge, Answers}
 use Rattle.mx_c3.specs.Known.{known, known_in, first_unknown, orders_of}
-use Rattle.mx_c3.specs.Linearisation.{bases_of, before_all, each, from_orders, step, c3, Reaches, AreSound}
-use Rattle.mx_c3.proofs.ListLemmas.{Compared, Same, Other, compared, has_left, has_right, has_cases, has_push_cases, drop_more}
+use Rattle.mx_c3.specs.Linearisation.{bases_of, before_all, each, from_orders, c3, Reaches, AreSound}
+use Rattle.mx_c3.proofs.ListLemmas.{Same, Other, compared, has_left, has_right, has_push_cases}
 use Rattle.mx_c3.proofs.LinearLemmas.{blanks, blanks_set, get_set_other, get_set_same, few, c3_step, base_in_range, base_reached, reach_on, same_place}
 use Rattle.mx_c3.proofs.LinearLaws.{c3_once}
 

@@ -1,5 +1,5 @@
 -- Laws of merges and linearisations.
-use Rattle.std.specs.Prelude.{◌≡◌, ℕ, ◌<◌, ◌↔◌, List, [], ◌∷◌, ◌++◌, length, Some, None, Ok, Err}
+use Rattle.std.specs.Prelude.{◌≡◌, ℕ, ◌<◌, ◌↔◌, List, [], ◌∷◌, ◌++◌, length, Some, Ok, Err}
 use Rattle.mx_c3.specs.declared.space.SpaceId.{SpaceId}
 use Rattle.mx_c3.specs.Lists.{Has, Among, Distinct, Within}
 use Rattle.mx_c3.specs.Merge.{tail, heads, next, without_all, each_once, merge, IsMerge}

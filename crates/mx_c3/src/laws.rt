@@ -6,13 +6,11 @@ pub fn merge_laws()
     ensures next { TakesNext }
     ensures order { MergesInTurn }
     ensures blocked { BlocksInTurn }
-{
-}
+{}
 
 /// The equation of the linearisation, and two ways to show that base lists have no ring.
 pub fn linearisation_laws()
     ensures published { IsPublished }
     ensures ranks { RanksFall }
     ensures in_order { InOrderIsSound }
-{
-}
+{}

@@ -12,6 +12,5 @@ pub mod merge;
 pub mod refusal;
 mod remaining;
 pub mod space;
-
 #[cfg(test)]
 mod tests;

@@ -1,4 +1,4 @@
-use Rattle.std.proofs.Common.{◌≡◌, inl, inr, ◌<◌, ◌≤◌, ap, arith}
+use Rattle.std.proofs.Common.{inl, inr, ap, arith}
 use Rattle.mx_c3.specs.declared.space.SpaceId.{SpaceId}
 use Rattle.mx_c3.proofs.ListLemmas.{has_more}
 use Rattle.mx_c3.proofs.counts.bound_of.Goals as goal

@@ -1,4 +1,4 @@
-use Rattle.std.proofs.Common.{◌≡◌, ℕ, ◌+◌, ◌<◌, ◌≤◌, take, get_or, slice_index, slice_set, length, sym, subst, arith}
+use Rattle.std.proofs.Common.{◌≡◌, ◌+◌, ◌<◌, take, get_or, slice_index, slice_set, length, sym, subst, arith}
 use Rattle.std.proofs.lemmas.List.{take_all, take_more}
 use Rattle.mx_c3.specs.declared.space.SpaceId.{SpaceId}
 use Rattle.mx_c3.specs.Counts.{count, CountsMore}

@@ -1,7 +1,5 @@
-use Rattle.std.proofs.Common.{◌≡◌, take, drop, length, ◌-◌, sym, subst, arith}
+use Rattle.std.proofs.Common.{sym, subst}
 use Rattle.mx_c3.specs.Lists.{Has, Distinct}
-use Rattle.mx_c3.specs.Merge.{tail}
-use Rattle.mx_c3.specs.Counts.{CountsMore}
 use Rattle.mx_c3.proofs.ListLemmas.{has_tail, distinct_tail}
 use Rattle.mx_c3.proofs.CountLemmas.{tail_is}
 use Rattle.mx_c3.proofs.counts.count_tail.Goals as goal

@@ -1,5 +1,4 @@
-use Rattle.std.proofs.Common.{◌≡◌, ◌<◌, ◌≤◌, ◌+◌, ◌-◌, ◌^◌, drop, sym, ◌∙◌, ap, subst, length, get_or, take, slice_index, arith}
-use Rattle.mx_c3.specs.declared.space.SpaceId.{SpaceId}
+use Rattle.std.proofs.Common.{◌<◌, ◌≤◌, ◌+◌, ◌-◌, ◌^◌, drop, sym, ◌∙◌, subst, length, get_or, take, slice_index, arith}
 use Rattle.mx_c3.specs.Lists.{Has, Distinct}
 use Rattle.mx_c3.specs.Merge.{tail}
 use Rattle.mx_c3.specs.Counts.{CountsFirst, CountsMore}

@@ -1,5 +1,5 @@
-use Rattle.std.proofs.Common.{◌≡◌, ◌∙◌, ◌++◌, ◌∷◌, [], take, Some, None, get_or, sym, ap}
-use Rattle.mx_c3.specs.Known.{known, orders_of}
+use Rattle.std.proofs.Common.{◌∙◌, ◌++◌, ◌∷◌, [], take, sym, ap}
+use Rattle.mx_c3.specs.Known.{orders_of}
 use Rattle.mx_c3.proofs.Working.{orders_more_some, orders_more_none}
 use Rattle.mx_c3.proofs.linearise.lists_of.Goals as goal
 use Rattle.mx_c3.proofs.linearise.lists_of.Goals.{in-Some+in_ok-copy+in_ok-push, in_default}

@@ -1,6 +1,5 @@
-use Rattle.std.proofs.Common.{◌≡◌, true, false, get_or, take, sym, ◌∙◌, arith}
+use Rattle.std.proofs.Common.{◌≡◌, true, false, get_or, take, sym, ◌∙◌}
 use Rattle.mx_c3.specs.declared.space.SpaceId.{SpaceId}
-use Rattle.mx_c3.specs.Lists.{Has, Distinct}
 use Rattle.mx_c3.specs.Merge.{stands}
 use Rattle.mx_c3.proofs.NextLaws.{stands_has, has_stands}
 use Rattle.mx_c3.proofs.InOrderLemmas.{distinct_more, distinct_not}

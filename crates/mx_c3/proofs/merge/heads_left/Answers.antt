@@ -1,5 +1,4 @@
-use Rattle.std.proofs.Common.{◌≡◌, ◌++◌, ◌∷◌, [], true, false, Some, None, take, get_or, refl, sym, ap, subst, ◌∙◌, arith}
-use Rattle.mx_c3.specs.declared.space.SpaceId.{SpaceId}
+use Rattle.std.proofs.Common.{◌≡◌, Some, None, take, get_or, sym, ap, ◌∙◌}
 use Rattle.mx_c3.specs.Merge.{head, heads, each_once, stands}
 use Rattle.mx_c3.proofs.MergeLemmas.{heads_more_some, heads_more_none, once_pushed, once_kept}
 use Rattle.mx_c3.proofs.merge.heads_left.Goals as goal

@@ -1,4 +1,4 @@
-use Rattle.std.proofs.Common.{sym, ap, subst, ◌∙◌}
+use Rattle.std.proofs.Common.{subst}
 use Rattle.mx_c3.specs.Merge.{merge, put_all, Answers}
 use Rattle.mx_c3.proofs.NextLaws.{kept_by}
 use Rattle.mx_c3.proofs.merge.merge.Goals as goal

@@ -1,6 +1,4 @@
-use Rattle.std.proofs.Common.{◌≡◌, ℕ, ◌<◌, zero, suc, Bool, true, false, Option, Some, None, length, get_or, drop, slice_index, inl, inr, refl, sym, ap, subst, ◌∙◌, arith}
-use Rattle.mx_c3.specs.declared.space.SpaceId.{SpaceId}
-use Rattle.mx_c3.specs.Lists.{Has, Among}
+use Rattle.std.proofs.Common.{◌≡◌, ◌<◌, true, false, Some, None, length, get_or, slice_index, inl, inr, sym, ap, ◌∙◌}
 use Rattle.mx_c3.specs.Merge.{head, in_tail}
 use Rattle.mx_c3.specs.Counts.{times}
 use Rattle.mx_c3.proofs.ListLemmas.{head_has, among_at}

@@ -1,9 +1,7 @@
-use Rattle.std.proofs.Common.{◌≡◌, ℕ, ◌+◌, List, [], ◌++◌, get_or, take, drop, slice_set, refl, sym, ap, subst, ◌∙◌, add-one, arith}
+use Rattle.std.proofs.Common.{◌++◌, get_or, drop, ap, subst, ◌∙◌, arith}
 use Rattle.std.proofs.lemmas.List.{take_all, drop_all, append-nil}
-use Rattle.mx_c3.specs.declared.space.SpaceId.{SpaceId}
 use Rattle.mx_c3.specs.Lists.{Has}
-use Rattle.mx_c3.specs.Counts.{IsCounted}
-use Rattle.mx_c3.specs.Taking.{drop_head, drop_heads, Follows, CanTake}
+use Rattle.mx_c3.specs.Taking.{drop_heads}
 use Rattle.mx_c3.proofs.CountLemmas.{can_take, counted_step, has_drop_head}
 use Rattle.mx_c3.proofs.MergeLemmas.{taken_step, drop_heads_is}
 use Rattle.mx_c3.proofs.merge.take.Goals as goal

@@ -1,4 +1,4 @@
-use Rattle.std.proofs.Common.{◌≡◌, ◌<◌, ◌-◌, true, false, Some, None, length, slice_index, slice_set, sym, ap, subst, ◌∙◌, arith}
+use Rattle.std.proofs.Common.{◌≡◌, ◌-◌, true, Some, slice_index, slice_set, sym, ap, subst, ◌∙◌}
 use Rattle.mx_c3.specs.Merge.{head, tail, same}
 use Rattle.mx_c3.specs.Taking.{Follows}
 use Rattle.mx_c3.proofs.ListLemmas.{not_false}

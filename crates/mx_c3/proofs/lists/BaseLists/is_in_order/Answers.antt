@@ -1,6 +1,6 @@
-use Rattle.std.proofs.Common.{◌≡◌, ◌<◌, true, false, length, get_or, refl, sym, ap, subst, ◌∙◌, arith}
+use Rattle.std.proofs.Common.{◌≡◌, ◌<◌, true, false, length, get_or, sym, ap, subst, ◌∙◌}
 use Rattle.mx_c3.specs.Lists.{Distinct}
-use Rattle.mx_c3.specs.InOrder.{AllBelow, IsInOrder}
+use Rattle.mx_c3.specs.InOrder.{AllBelow}
 use Rattle.mx_c3.proofs.InOrderLemmas.{in_order_here, in_order_more}
 use Rattle.mx_c3.proofs.lists.BaseLists.is_in_order.Goals as goal
 
