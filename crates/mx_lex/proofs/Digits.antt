@@ -1,0 +1,24 @@
+-- Digits, and the numbers that they spell.
+use Rattle.std.proofs.Common.{◌≡◌, ℕ, ◌+◌, ◌*◌, ◌-◌, ◌/◌, ◌<◌, ◌≤◌, List, [], ◌∷◌, Bool, true, false, leb, length, get_or, take, drop, refl, sym, ap, ◌∙◌, drop-cons, add-one, arith}
+use Rattle.std.specs.List.{prefix_len, AllPass}
+use Rattle.std.specs.Char.{is_ascii_digit}
+use Rattle.std.proofs.lemmas.Bool.Decides.{nat_tests}
+use Rattle.mx_lex.specs.Spans.{digits_from}
+
+-- they spell no less than what stood before them
+pub digits_from_grows : (digits : List ℕ) (value : ℕ) → value ≤ digits_from value digits
+digits_from_grows [] value = omega arith
+digits_from_grows (d ∷ ds) value = omega (arith, digits_from_grows ds (value * 10 + (d - 48)))
+
+-- one digit more
+pub digits_from_more : (digits : List ℕ) (i value : ℕ) → i < length digits → digits_from value (drop i digits) ≡ digits_from (value * 10 + (get_or digits i 0 - 48)) (drop (i + 1) digits)
+digits_from_more digits i value h = rw (add-one, drop-cons digits i 0) refl
+
+-- where one digit more is past a limit, all digits are
+pub past_limit : (digits : List ℕ) (i value limit : ℕ) → i < length digits → (limit - (get_or digits i 0 - 48)) / 10 < value → limit < digits_from value (drop i digits)
+past_limit digits i value limit h past =
+    let more = digits_from_more digits i value h in
+    omega (arith, digits_from_grows (drop (i + 1) digits) (value * 10 + (get_or digits i 0 - 48)))
+
+pub not_at_most : (n limit : ℕ) → limit < n → false ≡ leb n limit
+not_at_most n limit h = grind (arith, nat_tests)

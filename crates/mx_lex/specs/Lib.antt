@@ -1,0 +1,6 @@
+pub mod Bytes
+pub mod Spans
+pub mod Heads
+pub mod Lines
+pub mod Lexing
+pub mod Stacks
