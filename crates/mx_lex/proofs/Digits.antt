@@ -1,8 +1,11 @@
 -- Digits, and the numbers that they spell.
-use Rattle.std.proofs.Common.{◌≡◌, ℕ, ◌+◌, ◌*◌, ◌-◌, ◌/◌, ◌<◌, ◌≤◌, List, [], ◌∷◌, Bool, true, false, leb, length, get_or, take, drop, refl, sym, ap, ◌∙◌, drop-cons, add-one, arith}
+use Rattle.std.proofs.Common.{◌≡◌, ℕ, ◌+◌, ◌*◌, ◌-◌, ◌/◌, ◌<◌, ◌≤◌, List, [], ◌∷◌, Bool, true, false, leb, length, get_or, take, drop, refl, sym, ap, ◌∙◌, get_or-take, drop-cons, add-one, arith}
 use Rattle.std.specs.List.{prefix_len, AllPass}
 use Rattle.std.specs.Char.{is_ascii_digit}
 use Rattle.std.proofs.lemmas.Bool.Decides.{nat_tests}
+use Rattle.std.proofs.lemmas.List.Elements.{All-from_get_or}
+use Rattle.std.proofs.lemmas.List.Folds.{length-prefix_len}
+use Rattle.std.proofs.lemmas.List.Sums.{prefix_len_passes}
 use Rattle.mx_lex.specs.Spans.{digits_from}
 
 -- they spell no less than what stood before them
@@ -22,3 +25,10 @@ past_limit digits i value limit h past =
 
 pub not_at_most : (n limit : ℕ) → limit < n → false ≡ leb n limit
 not_at_most n limit h = grind (arith, nat_tests)
+
+-- the digits at the front are digits
+pub digits_pass : (rest : List ℕ) → AllPass is_ascii_digit (take (prefix_len is_ascii_digit rest) rest)
+digits_pass rest =
+    let n = prefix_len is_ascii_digit rest in
+    All-from_get_or (λ d. is_ascii_digit d ≡ true) (take n rest) 0
+    (λ i lt. let below : i < n = omega (arith, length-prefix_len is_ascii_digit rest) in ap is_ascii_digit (get_or-take n rest i 0 below) ∙ prefix_len_passes is_ascii_digit rest i 0 below)

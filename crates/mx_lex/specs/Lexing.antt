@@ -33,12 +33,15 @@ abbrev pub ◌>>=◌ : {A B : Type 0} → Result A LexRefusal → (A → Result 
 (Ok x) >>= f = f x
 (Err e) >>= f = Err e
 
--- a line's indent where the line begins here, and then what stands at this place
+-- a line's indent where the line begins here, and then what stands behind its leading spaces
+abbrev pub step_behind : ℕ → ℕ → Reading → List ℕ → Result Step LexRefusal
+step_behind at spaces reading first = do
+  levels ← opened_at at reading.line spaces reading.stack first
+  head ← head_at at reading.line first
+  Ok (step_from levels spaces head)
+
 unfoldable pub step_at : ℕ → Reading → List ℕ → Result Step LexRefusal
-step_at at reading rest = do
-  levels ← opened_at at reading.line reading.stack rest
-  head ← head_at (at + lead reading.line rest) reading.line (drop (lead reading.line rest) rest)
-  Ok (step_from levels (lead reading.line rest) head)
+step_at at reading rest = let spaces = lead reading.line rest in step_behind (at + spaces) spaces reading (drop spaces rest)
 
 -- a DEDENT for each level above 0
 abbrev pub dedents_at : ℕ → List ℕ → List Token

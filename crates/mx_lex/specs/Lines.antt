@@ -55,9 +55,9 @@ is_blank (b ∷ bs) = b == 10 || b == 35
 abbrev pub lead : Line → List ℕ → ℕ
 lead line rest = if is_inside line.phase then 0 else prefix_len (λ b. b == 32) rest
 
--- the indent of a line that begins here and is not blank
-unfoldable pub opened_at : ℕ → Line → List ℕ → List ℕ → Indented
-opened_at at line stack rest =
-    let indent = lead line rest in
-    if is_inside line.phase || is_blank (drop indent rest) then Ok (record { given = []; stack = stack })
-    else line_indented line.phase (at + indent) line.number indent stack
+-- What the indent of a line gives that begins here and is not blank. The rest is what stands behind its leading spaces,
+-- at this place.
+abbrev pub opened_at : ℕ → Line → ℕ → List ℕ → List ℕ → Indented
+opened_at at line indent stack first =
+    if is_blank first then Ok (record { given = []; stack = stack })
+    else line_indented line.phase at line.number indent stack

@@ -13,9 +13,6 @@ mod tests;
 mod text;
 
 pub use lexer::lex;
-
-
-
 use mx_list::items::Items;
 use std::alloc::{AllocError, AllocFailed};
 

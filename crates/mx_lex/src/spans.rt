@@ -6,8 +6,6 @@ ghost use Rattle.mx_lex.specs.Bytes as is;
 ghost use Rattle.mx_lex.specs.Spans as spec;
 
 use crate::bytes::{begins_name, continues_name, is_quote};
-
-
 use crate::{LexRefusal, TokenKind};
 
 /// A token's kind, and how many bytes it takes.
@@ -102,13 +100,17 @@ pub fn name(rest: &[u8]) -> Span
 pub fn mark(rest: &[u8], at: u32) -> Result<Span, LexRefusal>
     ensures { result ≡ spec.mark_at at rest.now }
 {
-    if let [first, second, ..] = rest && LONG_MARKS.contains(&(*first, *second)) {
+    if let [first, second, ..] = rest
+        && LONG_MARKS.contains(&(*first, *second))
+    {
         return Ok(Span {
             kind: TokenKind::Mark,
             len: 2,
         });
     }
-    if let [first, ..] = rest && SHORT_MARKS.contains(first) {
+    if let [first, ..] = rest
+        && SHORT_MARKS.contains(first)
+    {
         return Ok(Span {
             kind: TokenKind::Mark,
             len: 1,

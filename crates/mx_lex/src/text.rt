@@ -1,6 +1,6 @@
 //! Texts in quotes.
 
-ghost use Rattle.std.specs.Prelude.{◌≡◌, ◌+◌, ◌≤◌, length, false};
+ghost use Rattle.std.specs.Prelude.{◌≡◌, ◌+◌, ◌≤◌, ◌<◌, length, false, IfOk};
 ghost use Rattle.mx_lex.specs.Spans as spec;
 
 use crate::bytes::{is_escaped, is_printable};
@@ -10,7 +10,8 @@ use crate::{LexRefusal, TokenKind};
 /// The place behind the closing quote. The bytes are those behind the opening one, which stands at `at`.
 fn text_end(inner: &[u8], quote: u8, at: u32) -> Result<u32, LexRefusal>
     requires { at + 1 + length inner.now ≤ 65536 }
-    ensures { result ≡ spec.text_end at quote false (at + 1) inner.now }
+    ensures value { result ≡ spec.text_end at quote false (at + 1) inner.now }
+    ensures behind { IfOk result (λ past. at < past) }
 {
     let mut escaped = false;
     for (i, b) in inner.iter().enumerate() {
