@@ -26,9 +26,9 @@ past_limit digits i value limit h past =
 pub not_at_most : (n limit : ℕ) → limit < n → false ≡ leb n limit
 not_at_most n limit h = grind (arith, nat_tests)
 
--- the digits at the front are digits
-pub digits_pass : (rest : List ℕ) → AllPass is_ascii_digit (take (prefix_len is_ascii_digit rest) rest)
-digits_pass rest =
-    let n = prefix_len is_ascii_digit rest in
-    All-from_get_or (λ d. is_ascii_digit d ≡ true) (take n rest) 0
-    (λ i lt. let below : i < n = omega (arith, length-prefix_len is_ascii_digit rest) in ap is_ascii_digit (get_or-take n rest i 0 below) ∙ prefix_len_passes is_ascii_digit rest i 0 below)
+-- the front that passes passes
+pub front_passes : (p : ℕ → Bool) (rest : List ℕ) → AllPass p (take (prefix_len p rest) rest)
+front_passes p rest =
+    let n = prefix_len p rest in
+    All-from_get_or (λ b. p b ≡ true) (take n rest) 0
+    (λ i lt. let below : i < n = omega (arith, length-prefix_len p rest) in ap p (get_or-take n rest i 0 below) ∙ prefix_len_passes p rest i 0 below)

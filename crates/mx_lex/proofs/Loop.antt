@@ -115,7 +115,7 @@ reads_failed source rest front at line stack error reads is_rest some e =
     let reading : Reading = record { line = line; stack = reverse stack } in
     sym reads.read ∙ ap (λ r. whole front r at reading) (sym is_rest) ∙ turn_failed front rest at reading error some e
 
-at_end : (at : ℕ) (reading : Reading) → tokens_from [] 0 at reading ≡ Ok (closing_at at reading)
+pub at_end : (at : ℕ) (reading : Reading) → tokens_from [] 0 at reading ≡ Ok (closing_at at reading)
 unfolding tokens_from
 at_end at reading = refl
 

@@ -12,7 +12,7 @@ use Rattle.mx_lex.specs.declared.TokenKind.TheVariants.{Name, Keyword, Int, Fix,
 use Rattle.mx_lex.specs.declared.LexRefusal.{LexRefusal}
 use Rattle.mx_lex.specs.declared.LexRefusal.TheVariants.{BadByte, BadNumber, BadText}
 use Rattle.mx_lex.specs.declared.spans.Span.{Span}
-use Rattle.mx_lex.proofs.Tests.{both}
+use Rattle.mx_lex.proofs.Cases.{both}
 
 pub record IsWithin (rest : List ℕ) (len : ℕ) : Type 0 where
   pub some : 0 < len
@@ -30,7 +30,7 @@ first_of_some : (p : ℕ → Bool) (rest : List ℕ) → first_passes p rest ≡
 first_of_some p [] h = absurd (false≢true h)
 first_of_some p (b ∷ bs) h = omega arith
 
-first_weaker : (p q : ℕ → Bool) → ((b : ℕ) → p b ≡ true → q b ≡ true) → (rest : List ℕ) → first_passes p rest ≡ true → first_passes q rest ≡ true
+pub first_weaker : (p q : ℕ → Bool) → ((b : ℕ) → p b ≡ true → q b ≡ true) → (rest : List ℕ) → first_passes p rest ≡ true → first_passes q rest ≡ true
 first_weaker p q weaker [] h = absurd (false≢true h)
 first_weaker p q weaker (b ∷ bs) h = weaker b h
 
@@ -54,7 +54,7 @@ number_within at rest h =
     (λ _. tt))
     (λ _. both (FoundWithin rest) (is_int (take whole rest) behind) (found Int whole) (Err (BadNumber at)) (λ _. digits) (λ _. tt))
 
-abbrev EndsWithin : ℕ → ℕ → Result ℕ LexRefusal → Type 0
+abbrev pub EndsWithin : ℕ → ℕ → Result ℕ LexRefusal → Type 0
 EndsWithin place left outcome = IfOk outcome (λ past. (place < past) × (past ≤ place + left))
 
 ends_later : (place left : ℕ) (outcome : Result ℕ LexRefusal) → EndsWithin (place + 1) left outcome → EndsWithin place (suc left) outcome

@@ -16,7 +16,7 @@ use Rattle.mx_lex.specs.declared.line.Phase.TheVariants.{BeforeFirst, AtStart, I
 use Rattle.mx_lex.specs.declared.line.Line.{Line}
 use Rattle.mx_lex.specs.declared.line.Head.{Head}
 use Rattle.mx_lex.specs.declared.spans.Span.{Span}
-use Rattle.mx_lex.proofs.Tests.{both}
+use Rattle.mx_lex.proofs.Cases.{both}
 use Rattle.mx_lex.proofs.SpanBounds.{IsWithin, FoundWithin, front_within, span_within}
 
 -- how far a line may have come by some bytes

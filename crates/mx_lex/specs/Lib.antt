@@ -4,3 +4,4 @@ pub mod Heads
 pub mod Lines
 pub mod Lexing
 pub mod Stacks
+pub mod Laws

@@ -3,6 +3,7 @@
 
 mod bytes;
 mod head;
+pub mod laws;
 mod lexer;
 mod line;
 mod number;
