@@ -123,7 +123,11 @@ fn close(at: u32, line: Line, stack: &mut Vec<u32>, tokens: &mut Tokens) -> Resu
     Ok(())
 }
 
-/// The tokens of a source, or the first trouble in reading order.
+/// The tokens of a source of at most 65,536 bytes, or its first trouble from the left; `TooLong` comes before all others.
+///
+/// Lines, indents and brackets are those of Python's grammar. A line that is not blank ends with NEWLINE, which stands at
+/// its comment or at its end, and its indent gives INDENT or DEDENTs, which stand at its first byte that is no space.
+/// Inside brackets a line's end is a space. NEWLINE, DEDENTs and END that close the source stand at its end.
 #[tactic(auto, unfolding(crate::specs::Lexing::tokens_of, crate::specs::Lexing::beginning))]
 pub fn lex(alloc: Global, source: &[u8]) -> Result<Tokens, LexRefusal>
     ensures tokens { IfOk result (λ tokens. tokens_of source.now ≡ Ok tokens) }
