@@ -1,12 +1,11 @@
 -- INDENTs and DEDENTs balance: as many blocks are open as the stack has levels above 0.
-use Rattle.std.proofs.Common.{◌≡◌, ◌≢◌, ℕ, ◌+◌, ◌-◌, ◌<◌, ◌≤◌, List, [], ◌∷◌, ◌++◌, Bool, true, false, cond, eqb, ltb, length, take, drop, refl, sym, ap, ◌∙◌, subst, ◌⊎◌, ⊎_elim, append_assoc, Option, None, Some, Result, Ok, Err, arith}
+use Rattle.std.proofs.Common.{◌≡◌, ℕ, ◌+◌, ◌-◌, ◌<◌, List, [], ◌∷◌, ◌++◌, cond, eqb, ltb, length, drop, refl, sym, ap, subst, append_assoc, Option, Ok, Err, arith}
 use Rattle.std.specs.Prelude.{IfOk, option_to_list}
-use Rattle.std.proofs.lemmas.Bool.{eqb-true, eqb-false, ltb-true, ltb-false}
-use Rattle.mx_lex.specs.Spans.{span_at}
+use Rattle.std.proofs.lemmas.Bool.{eqb-true, eqb-false, ltb-true}
 use Rattle.mx_lex.specs.Heads.{empty_token, is_inside}
 use Rattle.mx_lex.specs.Lines.{Levels, Indented, given_before, dedented, indented, line_indented, is_blank, lead, opened_at}
-use Rattle.mx_lex.specs.Lexing.{Reading, Step, Tokens, step_at, dedents_at, closing_at, tokens_from, tokens_of, beginning}
-use Rattle.mx_lex.specs.Laws.{depth_behind, MayStand, Balanced}
+use Rattle.mx_lex.specs.Lexing.{Reading, Step, step_at, dedents_at, closing_at, tokens_of, beginning}
+use Rattle.mx_lex.specs.Laws.{Balanced}
 use Rattle.mx_lex.specs.declared.Token.{Token}
 use Rattle.mx_lex.specs.declared.TokenKind.{TokenKind}
 use Rattle.mx_lex.specs.declared.TokenKind.TheVariants.{Name, Keyword, Int, Fix, Text, Mark, Newline, Indent, Dedent, End}
@@ -14,10 +13,8 @@ use Rattle.mx_lex.specs.declared.LexRefusal.TheVariants.{BadIndent}
 use Rattle.mx_lex.specs.declared.line.Phase.{Phase}
 use Rattle.mx_lex.specs.declared.line.Phase.TheVariants.{BeforeFirst, AtStart, Inside}
 use Rattle.mx_lex.specs.declared.line.Line.{Line}
-use Rattle.mx_lex.specs.declared.line.Head.{Head}
-use Rattle.mx_lex.specs.declared.spans.Span.{Span}
 use Rattle.mx_lex.proofs.Cases.{both}
-use Rattle.mx_lex.proofs.Steps.{IsHeadToken, Opens, step_opens, by_steps}
+use Rattle.mx_lex.proofs.Steps.{IsHeadToken, step_opens, by_steps}
 use Rattle.mx_lex.proofs.Spelled.{IsPlain, span_is_spelled}
 use Rattle.mx_lex.proofs.Order.{not_too_long}
 

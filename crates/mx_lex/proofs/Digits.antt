@@ -1,7 +1,6 @@
 -- Digits, and the numbers that they spell.
-use Rattle.std.proofs.Common.{◌≡◌, ℕ, ◌+◌, ◌*◌, ◌-◌, ◌/◌, ◌<◌, ◌≤◌, List, [], ◌∷◌, Bool, true, false, leb, length, get_or, take, drop, refl, sym, ap, ◌∙◌, get_or-take, drop-cons, add-one, arith}
+use Rattle.std.proofs.Common.{◌≡◌, ℕ, ◌+◌, ◌*◌, ◌-◌, ◌/◌, ◌<◌, ◌≤◌, List, [], ◌∷◌, Bool, true, false, leb, length, get_or, take, drop, refl, ap, ◌∙◌, get_or-take, drop-cons, add-one, arith}
 use Rattle.std.specs.List.{prefix_len, AllPass}
-use Rattle.std.specs.Char.{is_ascii_digit}
 use Rattle.std.proofs.lemmas.Bool.Decides.{nat_tests}
 use Rattle.std.proofs.lemmas.List.Elements.{All-from_get_or}
 use Rattle.std.proofs.lemmas.List.Folds.{length-prefix_len}

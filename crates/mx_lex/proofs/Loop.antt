@@ -1,5 +1,5 @@
 -- One turn of the lexer's loop, over the definition.
-use Rattle.std.proofs.Common.{◌≡◌, ℕ, ◌+◌, ◌-◌, ◌<◌, ◌≤◌, zero, suc, List, [], ◌∷◌, ◌++◌, length, take, drop, reverse, refl, sym, ap, ◌∙◌, subst, append_assoc, add-zero, add-one, Bool, ltb, Result, Ok, Err, arith, length-drop}
+use Rattle.std.proofs.Common.{◌≡◌, ℕ, ◌+◌, ◌-◌, ◌<◌, ◌≤◌, zero, suc, List, [], ◌∷◌, ◌++◌, length, drop, reverse, refl, sym, ap, ◌∙◌, subst, append_assoc, add-zero, ltb, Result, Ok, Err, arith, length-drop}
 use Rattle.std.proofs.Math.ListN.{drop_of_length-le}
 use Rattle.std.proofs.lemmas.List.{drop-drop}
 use Rattle.std.proofs.lemmas.Bool.{cond-false, le-ltb}
@@ -93,13 +93,18 @@ pub record Reads (source : List ℕ) (tokens : List Token) (at : ℕ) (line : Li
   pub brackets : line.brackets ≤ at
   pub number : line.number ≤ at + 1
 
+-- what a call of `step` answered for the rest is bounded
+pub went_bounded : (rest : List ℕ) (front : List Token) (at : ℕ) (line : Line) (stack left : List ℕ) (tokens : List Token) (taken : ℕ) (next : Line) → step_before front (step_at at (record { line = line; stack = reverse stack }) rest) ≡ Ok (record { given = tokens; taken = taken; next = record { line = next; stack = reverse left } }) → Bounded line (length rest) taken next
+went_bounded rest front at line stack left tokens taken next e =
+    turn_bounded front rest at (record { line = line; stack = reverse stack }) (record { given = tokens; taken = taken; next = record { line = next; stack = reverse left } }) e
+
 -- a turn of the loop: what a call of `step` answered for the rest
 pub reads_more : (source rest : List ℕ) (front : List Token) (at : ℕ) (line : Line) (stack left : List ℕ) (tokens : List Token) (taken : ℕ) (next : Line) → Reads source front at line stack → rest ≡ drop at source → 0 < length rest → step_before front (step_at at (record { line = line; stack = reverse stack }) rest) ≡ Ok (record { given = tokens; taken = taken; next = record { line = next; stack = reverse left } }) → Reads source tokens (at + taken) next left
 reads_more source rest front at line stack left tokens taken next reads is_rest some e =
     let reading : Reading = record { line = line; stack = reverse stack } in
     let after : Reading = record { line = next; stack = reverse left } in
     let went : Step = record { given = tokens; taken = taken; next = after } in
-    let bounded = turn_bounded front rest at reading went e in
+    let bounded = went_bounded rest front at line stack left tokens taken next e in
     let long = ap length is_rest ∙ length-drop at source in
     let remains : drop taken rest ≡ drop (at + taken) source = ap (drop taken) is_rest ∙ drop-drop taken at source in
     record {

@@ -1,24 +1,20 @@
 -- Tokens stand in order, END is the last, and each is spelled as its kind says.
-use Rattle.std.proofs.Common.{◌≡◌, ◌≢◌, ℕ, ◌+◌, ◌-◌, ◌<◌, ◌≤◌, List, [], ◌∷◌, ◌++◌, Bool, true, false, cond, eqb, ltb, length, take, drop, refl, sym, ap, ◌∙◌, subst, ◌⊎◌, ⊎_elim, append_assoc, Option, None, Some, Result, Ok, Err, arith, length-drop}
+use Rattle.std.proofs.Common.{◌≡◌, ◌≢◌, ℕ, ◌+◌, ◌<◌, ◌≤◌, List, [], ◌∷◌, ◌++◌, cond, eqb, ltb, length, take, drop, refl, sym, ap, ◌∙◌, subst, ⊎_elim, append_assoc, Option, Ok, Err, arith, length-drop}
 use Rattle.std.specs.Prelude.{All, option_to_list}
 use Rattle.std.proofs.lemmas.List.{drop-drop}
 use Rattle.std.proofs.lemmas.List.Elements.{All-nil, All-cons, All-append, All-head, All-tail}
 use Rattle.mx_lex.specs.Spans.{span_at}
 use Rattle.mx_lex.specs.Heads.{empty_token, is_inside}
-use Rattle.mx_lex.specs.Lines.{Levels, lead}
-use Rattle.mx_lex.specs.Lexing.{Reading, Step, Tokens, step_at, dedents_at, closing_at, tokens_from, tokens_of, beginning}
+use Rattle.mx_lex.specs.Lines.{lead}
+use Rattle.mx_lex.specs.Lexing.{Reading, Step, step_at, dedents_at, closing_at, tokens_from, tokens_of, beginning}
 use Rattle.mx_lex.specs.Laws.{InOrder, EndsWithEnd, IsSpelled, text_of}
 use Rattle.mx_lex.specs.declared.Token.{Token}
-use Rattle.mx_lex.specs.declared.TokenKind.{TokenKind}
-use Rattle.mx_lex.specs.declared.TokenKind.TheVariants.{Name, Keyword, Int, Fix, Text, Mark, Newline, Indent, Dedent, End}
+use Rattle.mx_lex.specs.declared.TokenKind.TheVariants.{Newline, Indent, Dedent, End}
 use Rattle.mx_lex.specs.declared.LexRefusal.TheVariants.{TooLong}
-use Rattle.mx_lex.specs.declared.line.Head.{Head}
 use Rattle.mx_lex.specs.declared.spans.Span.{Span}
 use Rattle.mx_lex.proofs.Cases.{both, chosen}
-use Rattle.mx_lex.proofs.SpanBounds.{IsWithin, span_len}
-use Rattle.mx_lex.proofs.StepBounds.{Bounded, lead_within}
-use Rattle.mx_lex.proofs.Steps.{IsBlock, AreBlocks, IsHeadToken, Opens, step_opens, step_is_bounded, by_steps}
-use Rattle.mx_lex.proofs.Spelled.{IsPlain, Spelled, span_is_spelled}
+use Rattle.mx_lex.proofs.Steps.{AreBlocks, IsHeadToken, step_opens, step_is_bounded, by_steps}
+use Rattle.mx_lex.proofs.Spelled.{IsPlain, span_is_spelled}
 
 -- what holds of an empty INDENT and DEDENT holds of each of them
 blocks_hold : (P : Token → Type 0) (at : ℕ) → P (empty_token Indent at) → P (empty_token Dedent at) → (ts : List Token) → AreBlocks at ts → All P ts

@@ -1,16 +1,15 @@
 -- A name, number, text or mark takes at least one byte, and no more than are left.
-use Rattle.std.proofs.Common.{◌≡◌, ℕ, ◌+◌, ◌-◌, ◌<◌, ◌≤◌, zero, suc, List, [], ◌∷◌, Bool, true, false, cond, eqb, ◌==◌, not, lit<, ◌&&◌, ◌||◌, length, take, drop, refl, sym, ap, ◌∙◌, subst, ⊎_elim, Result, Ok, Err, arith, length-drop}
-use Rattle.std.specs.Prelude.{IfOk, codes}
+use Rattle.std.proofs.Common.{◌≡◌, ℕ, ◌+◌, ◌<◌, ◌≤◌, suc, List, [], ◌∷◌, Bool, true, false, ◌==◌, not, lit<, ◌&&◌, length, take, drop, sym, ◌∙◌, subst, Result, Ok, Err, arith, length-drop}
+use Rattle.std.specs.Prelude.{IfOk}
 use Rattle.std.specs.List.{prefix_len}
 use Rattle.std.specs.Char.{is_ascii_digit}
 use Rattle.std.proofs.lemmas.List.Sums.{prefix_len-le-length}
-use Rattle.std.proofs.lemmas.Bool.{false≢true, or_left, and_parts}
+use Rattle.std.proofs.lemmas.Bool.{false≢true, or_left}
 use Rattle.mx_lex.specs.Bytes.{begins_name, continues_name, is_printable, is_quote, is_escaped, first_passes}
-use Rattle.mx_lex.specs.Spans.{Found, found, is_keyword, name_at, is_int, is_fix, number_at, text_end, text_until, text_at, long_marks, short_marks, begins_with_one, mark_at, span_at}
-use Rattle.mx_lex.specs.declared.TokenKind.{TokenKind}
-use Rattle.mx_lex.specs.declared.TokenKind.TheVariants.{Name, Keyword, Int, Fix, Text, Mark}
+use Rattle.mx_lex.specs.Spans.{Found, found, name_at, is_int, is_fix, number_at, text_end, text_until, text_at, long_marks, short_marks, begins_with_one, mark_at, span_at}
+use Rattle.mx_lex.specs.declared.TokenKind.TheVariants.{Int, Fix, Mark}
 use Rattle.mx_lex.specs.declared.LexRefusal.{LexRefusal}
-use Rattle.mx_lex.specs.declared.LexRefusal.TheVariants.{BadByte, BadNumber, BadText}
+use Rattle.mx_lex.specs.declared.LexRefusal.TheVariants.{BadByte, BadNumber}
 use Rattle.mx_lex.specs.declared.spans.Span.{Span}
 use Rattle.mx_lex.proofs.Cases.{both}
 

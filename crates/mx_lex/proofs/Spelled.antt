@@ -1,24 +1,22 @@
 -- What a span that begins at the rest says of its bytes.
-use Rattle.std.proofs.Common.{◌≡◌, ℕ, ◌+◌, ◌-◌, ◌<◌, ◌≤◌, zero, suc, List, [], ◌∷◌, ◌++◌, Bool, true, false, cond, leb, ◌==◌, not, lit<, ◌&&◌, ◌||◌, length, take, drop, refl, sym, ap, ◌∙◌, subst, Result, Ok, Err, arith, add-one, add_comm, length-drop, length-take-le, take-append-drop}
-use Rattle.std.specs.Prelude.{IfOk, All}
-use Rattle.std.specs.List.{prefix_len, AllPass, list_any}
+use Rattle.std.proofs.Common.{◌≡◌, ℕ, ◌+◌, ◌-◌, ◌<◌, zero, suc, List, [], ◌∷◌, ◌++◌, Bool, true, false, leb, ◌==◌, not, ◌&&◌, length, take, drop, ap, ◌∙◌, subst, Result, Ok, Err, arith, length-take-le}
+use Rattle.std.specs.Prelude.{IfOk}
+use Rattle.std.specs.List.{prefix_len, AllPass}
 use Rattle.std.specs.Char.{is_ascii_digit}
-use Rattle.std.specs.Str.{bytes_eq}
 use Rattle.std.proofs.Math.Seq.{take-add}
 use Rattle.std.proofs.lemmas.List.Elements.{All-nil, All-cons}
-use Rattle.std.proofs.lemmas.List.Sums.{prefix_len-le-length}
 use Rattle.std.proofs.lemmas.Bool.{false≢true, not-false, and_parts, leb-true, eqb-true, or_left, or_right}
 use Rattle.mx_lex.specs.Bytes.{begins_name, continues_name, is_printable, is_quote, is_escaped, first_passes}
 use Rattle.mx_lex.specs.Spans.{Found, found, is_keyword, name_at, digits_from, is_whole, is_glued, is_int, is_fix, whole_limit, number_at, text_end, text_until, text_at, long_marks, short_marks, begins_with_one, mark_at, span_at}
-use Rattle.mx_lex.specs.Laws.{IsName, IsInt, IsFix, IsText, IsSpelled, is_mark}
+use Rattle.mx_lex.specs.Laws.{IsSpelled}
 use Rattle.mx_lex.specs.declared.TokenKind.{TokenKind}
-use Rattle.mx_lex.specs.declared.TokenKind.TheVariants.{Name, Keyword, Int, Fix, Text, Mark, Newline, Indent, Dedent, End}
+use Rattle.mx_lex.specs.declared.TokenKind.TheVariants.{Name, Keyword, Int, Fix, Text, Mark}
 use Rattle.mx_lex.specs.declared.LexRefusal.{LexRefusal}
-use Rattle.mx_lex.specs.declared.LexRefusal.TheVariants.{BadByte, BadNumber, BadText}
+use Rattle.mx_lex.specs.declared.LexRefusal.TheVariants.{BadByte, BadNumber}
 use Rattle.mx_lex.specs.declared.spans.Span.{Span}
 use Rattle.mx_lex.proofs.Cases.{both}
 use Rattle.mx_lex.proofs.Digits.{front_passes}
-use Rattle.mx_lex.proofs.SpanBounds.{IsWithin, EndsWithin, front_within, first_weaker, name_within, text_within, text_end_within}
+use Rattle.mx_lex.proofs.SpanBounds.{EndsWithin, front_within, first_weaker, text_end_within}
 
 -- a kind of token that has bytes
 abbrev pub IsPlain : TokenKind → Type 0

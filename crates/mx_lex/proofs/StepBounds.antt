@@ -1,23 +1,20 @@
 -- A step takes at least one byte and no more than are left, and counts no more brackets and lines than it takes bytes.
-use Rattle.std.proofs.Common.{◌≡◌, ℕ, ◌+◌, ◌-◌, ◌<◌, ◌≤◌, List, [], ◌∷◌, ◌++◌, Bool, true, false, cond, ◌==◌, ◌&&◌, length, take, drop, refl, sym, ap, ◌∙◌, subst, Option, None, Some, Result, Ok, Err, arith, length-drop}
-use Rattle.std.specs.Prelude.{IfOk, option_to_list}
+use Rattle.std.proofs.Common.{◌≡◌, ℕ, ◌+◌, ◌-◌, ◌<◌, ◌≤◌, List, [], ◌∷◌, true, ◌==◌, length, drop, ap, subst, Result, Ok, Err, arith, length-drop}
+use Rattle.std.specs.Prelude.{IfOk}
 use Rattle.std.specs.List.{prefix_len}
 use Rattle.std.proofs.lemmas.List.Sums.{prefix_len-le-length}
-use Rattle.std.proofs.lemmas.Bool.{eqb-true, eq-eqb}
+use Rattle.std.proofs.lemmas.Bool.{eqb-true}
 use Rattle.mx_lex.specs.Bytes.{is_printable, is_opening, is_closing}
 use Rattle.mx_lex.specs.Spans.{Found, span_at}
 use Rattle.mx_lex.specs.Heads.{ends_line, ended, next_line, newline_at, is_inside, brackets_behind, nothing, ends_here, comment_at, token_from, head_at}
 use Rattle.mx_lex.specs.Lines.{Levels, Indented, lead, opened_at}
-use Rattle.mx_lex.specs.Lexing.{Reading, Step, step_from, step_behind, step_at, ◌>>=◌}
+use Rattle.mx_lex.specs.Lexing.{Reading, Step, step_from, step_at, ◌>>=◌}
 use Rattle.mx_lex.specs.declared.LexRefusal.{LexRefusal}
 use Rattle.mx_lex.specs.declared.LexRefusal.TheVariants.{BadByte}
-use Rattle.mx_lex.specs.declared.line.Phase.{Phase}
-use Rattle.mx_lex.specs.declared.line.Phase.TheVariants.{BeforeFirst, AtStart, Inside}
 use Rattle.mx_lex.specs.declared.line.Line.{Line}
 use Rattle.mx_lex.specs.declared.line.Head.{Head}
-use Rattle.mx_lex.specs.declared.spans.Span.{Span}
 use Rattle.mx_lex.proofs.Cases.{both}
-use Rattle.mx_lex.proofs.SpanBounds.{IsWithin, FoundWithin, front_within, span_within}
+use Rattle.mx_lex.proofs.SpanBounds.{FoundWithin, front_within, span_within}
 
 -- how far a line may have come by some bytes
 pub record Counts (line : Line) (taken : ℕ) (next : Line) : Type 0 where

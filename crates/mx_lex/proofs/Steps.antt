@@ -1,13 +1,12 @@
 -- What holds at the end of a source and is kept by each step holds of its tokens; and what a step gives.
-use Rattle.std.proofs.Common.{◌≡◌, ℕ, ◌+◌, ◌-◌, ◌<◌, ◌≤◌, zero, suc, List, [], ◌∷◌, ◌++◌, Bool, true, false, cond, ltb, ◌==◌, ◌&&◌, length, take, drop, refl, sym, ap, ◌∙◌, subst, ◌⊎◌, inl, inr, Option, None, Some, Result, Ok, Err, arith, length-drop}
-use Rattle.std.specs.Prelude.{IfOk, IfSome, All, option_to_list}
-use Rattle.std.proofs.lemmas.List.Elements.{All-nil, All-cons, All-append}
+use Rattle.std.proofs.Common.{◌≡◌, ℕ, ◌+◌, ◌<◌, ◌≤◌, zero, suc, List, [], ◌∷◌, ◌++◌, ltb, ◌==◌, length, drop, refl, sym, ◌∙◌, subst, ◌⊎◌, inl, inr, Option, None, Some, Result, Ok, Err, arith, length-drop}
+use Rattle.std.specs.Prelude.{IfOk}
 use Rattle.std.specs.List.{prefix_len}
 use Rattle.mx_lex.specs.Bytes.{is_printable}
 use Rattle.mx_lex.specs.Spans.{Found, span_at}
 use Rattle.mx_lex.specs.Heads.{empty_token, ends_line, ended, next_line, newline_at, nothing, ends_here, comment_at, token_from, head_at}
-use Rattle.mx_lex.specs.Lines.{Levels, Indented, given_before, dedented, indented, first_indented, line_indented, is_blank, lead, opened_at}
-use Rattle.mx_lex.specs.Lexing.{Reading, Step, Tokens, step_from, step_behind, step_at, ◌>>=◌, tokens_before, tokens_from, closing_at}
+use Rattle.mx_lex.specs.Lines.{Levels, Indented, given_before, dedented, indented, line_indented, is_blank, lead, opened_at}
+use Rattle.mx_lex.specs.Lexing.{Reading, Step, Tokens, step_from, step_at, ◌>>=◌, tokens_before, tokens_from, closing_at}
 use Rattle.mx_lex.specs.declared.Token.{Token}
 use Rattle.mx_lex.specs.declared.TokenKind.TheVariants.{Newline, Indent, Dedent}
 use Rattle.mx_lex.specs.declared.LexRefusal.{LexRefusal}

@@ -1,7 +1,7 @@
 -- What one byte or token of a line does: the token that it gives, the bytes that it takes, and how the line goes on.
-use Rattle.std.specs.Prelude.{ℕ, ◌+◌, ◌-◌, Bool, true, false, ◌&&◌, ◌||◌, ◌==◌, List, [], ◌∷◌, drop, if◌then◌else◌, Option, None, Some, Result, Ok, Err}
+use Rattle.std.specs.Prelude.{ℕ, ◌+◌, ◌-◌, Bool, true, false, ◌&&◌, ◌==◌, List, [], ◌∷◌, drop, if◌then◌else◌, Option, None, Some, Result, Ok, Err}
 use Rattle.std.specs.List.{prefix_len}
-use Rattle.mx_lex.specs.Bytes.{is_printable, is_opening, is_closing, first_passes}
+use Rattle.mx_lex.specs.Bytes.{is_printable, is_opening, is_closing}
 use Rattle.mx_lex.specs.Spans.{Found, span_at}
 use Rattle.mx_lex.specs.declared.Token.{Token}
 use Rattle.mx_lex.specs.declared.TokenKind.{TokenKind}

@@ -8,7 +8,7 @@ use Rattle.mx_lex.specs.Spans.{is_keyword, is_whole, digits_from, whole_limit, l
 use Rattle.mx_lex.specs.Heads.{empty_token}
 use Rattle.mx_lex.specs.declared.Token.{Token}
 use Rattle.mx_lex.specs.declared.TokenKind.{TokenKind}
-use Rattle.mx_lex.specs.declared.TokenKind.TheVariants.{Name, Keyword, Int, Fix, Text, Mark, Newline, Indent, Dedent, End}
+use Rattle.mx_lex.specs.declared.TokenKind.TheVariants.{Name, Keyword, Int, Fix, Text, Mark, Indent, Dedent, End}
 
 -- the tokens stand between two places, and each begins at or behind the end of the one before it
 abbrev pub InOrder : ℕ → ℕ → List Token → Type 0

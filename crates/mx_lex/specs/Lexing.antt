@@ -1,5 +1,5 @@
 -- The tokens of a source.
-use Rattle.std.specs.Prelude.{ℕ, ◌+◌, ◌-◌, zero, suc, Bool, ◌==◌, nat_lt, List, [], ◌∷◌, ◌++◌, length, drop, if◌then◌else◌, Option, None, Some, option_to_list, Result, Ok, Err}
+use Rattle.std.specs.Prelude.{ℕ, ◌+◌, ◌-◌, zero, suc, ◌==◌, nat_lt, List, [], ◌∷◌, ◌++◌, length, drop, if◌then◌else◌, option_to_list, Result, Ok, Err}
 use Rattle.mx_lex.specs.Heads.{empty_token, is_inside, head_at}
 use Rattle.mx_lex.specs.Lines.{Levels, lead, opened_at}
 use Rattle.mx_lex.specs.declared.Token.{Token}

@@ -1,6 +1,6 @@
 -- What one name, number, text, mark or comment at the front of the rest is, and how many bytes it takes.
-use Rattle.std.specs.Prelude.{ℕ, ◌+◌, ◌*◌, ◌-◌, Bool, true, false, not, ◌&&◌, ◌||◌, ◌==◌, nat_eq, nat_le, nat_lt, List, [], ◌∷◌, length, take, drop, if◌then◌else◌, Result, Ok, Err, codes}
-use Rattle.std.specs.List.{prefix_len, list_any, list_all, starts_with}
+use Rattle.std.specs.Prelude.{ℕ, ◌+◌, ◌*◌, ◌-◌, Bool, true, false, not, ◌&&◌, ◌||◌, ◌==◌, nat_le, List, [], ◌∷◌, length, take, drop, if◌then◌else◌, Result, Ok, Err, codes}
+use Rattle.std.specs.List.{prefix_len, list_any, list_all}
 use Rattle.std.specs.Char.{is_ascii_digit}
 use Rattle.std.specs.Str.{bytes_eq}
 use Rattle.mx_lex.specs.Bytes.{begins_name, continues_name, is_printable, is_quote, is_escaped, first_passes}

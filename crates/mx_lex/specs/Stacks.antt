@@ -1,6 +1,6 @@
 -- What a call that works on the stack of indents and on the tokens leaves.
 use Rattle.std.specs.Prelude.{◌≡◌, ◌≢◌, ℕ, List, [], ◌∷◌, ◌++◌, reverse, Option, None, Some, Result, Ok, Err}
-use Rattle.mx_lex.specs.Lines.{Levels, Indented, given_before}
+use Rattle.mx_lex.specs.Lines.{Indented, given_before}
 use Rattle.mx_lex.specs.Lexing.{Step}
 use Rattle.mx_lex.specs.declared.line.Line.{Line}
 use Rattle.mx_lex.specs.declared.Token.{Token}

@@ -1,31 +1,25 @@
-use Rattle.std.proofs.Common.{◌≡◌, ◌+◌, ◌<◌, length, reverse, sym, ap, ◌∙◌, Ok, arith}
+use Rattle.std.proofs.Common.{◌<◌, length, reverse, sym, ap, ◌∙◌, Ok, arith}
 use Rattle.std.proofs.lemmas.Result.{err_from_is_err_and}
 use Rattle.mx_lex.specs.Lexing.{Reading, Step}
 use Rattle.mx_lex.proofs.StepBounds.{Bounded}
-use Rattle.mx_lex.proofs.Loop.{Reads, reads_more, reads_failed, reads_all, turn_bounded, tokens_of_short}
+use Rattle.mx_lex.proofs.Loop.{reads_more, reads_failed, reads_all, went_bounded, tokens_of_short}
 use Rattle.mx_lex.proofs.lexer.lex.Goals as goal
-use Rattle.mx_lex.proofs.lexer.lex.Goals.{After-next-1}
 
 pub returns-in_err-taken-clause-trouble : goal.returns-in_err-taken-clause-trouble
 returns-in_err-taken-clause-trouble c =
     let p = err_from_is_err_and c.from_residual-in_err-taken.result c.from_residual-in_err-taken.ensures.1 in
     let some : 0 < length c.split_at.result.1.now = omega arith in
-    rw (p.1, p.2) (λ other. tokens_of_short c.args.source.now c.if-source-gt-MOST_BYTES.false
+    rw (p.1, p.2) (λ other. tokens_of_short c.args.source.now (omega arith)
     ∙ reads_failed c.args.source.now c.split_at.result.1.now c.loop-at.tokens c.loop-at.at c.loop-at.line c.loop-at.stack.items c.in_err-taken.field-0.0 c.loop-at.invariant c.split_at.ensures.back some (c.in_err-taken.ensures other))
 
-bounded : (c : After-next-1) → Bounded c.loop-at.line (length c.split_at.result.1.now) c.in_ok-taken.taken c.in_ok-taken.next
-bounded c =
-    let before : Reading = record { line = c.loop-at.line; stack = reverse c.loop-at.stack.items } in
-    let after : Reading = record { line = c.in_ok-taken.next; stack = reverse c.step.new.stack.items } in
-    let went : Step = record { given = c.step.new.tokens; taken = c.in_ok-taken.taken; next = after } in
-    turn_bounded c.loop-at.tokens c.split_at.result.1.now c.loop-at.at before went c.in_ok-taken.ensures
-
 pub overflow_add-at : goal.overflow_add-at
-overflow_add-at c = let b = bounded c in omega (arith, b.within)
+overflow_add-at c =
+    let b = went_bounded c.split_at.result.1.now c.loop-at.tokens c.loop-at.at c.loop-at.line c.loop-at.stack.items c.step.new.stack.items c.step.new.tokens c.in_ok-taken.taken c.in_ok-taken.next c.in_ok-taken.ensures in
+    omega (arith, b.within)
 
 pub loop-at-smaller : goal.loop-at-smaller
 loop-at-smaller c =
-    let b = bounded c in
+    let b = went_bounded c.split_at.result.1.now c.loop-at.tokens c.loop-at.at c.loop-at.line c.loop-at.stack.items c.step.new.stack.items c.step.new.tokens c.in_ok-taken.taken c.in_ok-taken.next c.in_ok-taken.ensures in
     let some : 0 < length c.split_at.result.1.now = omega arith in
     let taken : 0 < c.in_ok-taken.taken = b.some some in
     omega (arith, b.within)
@@ -37,6 +31,6 @@ loop-at-preserved c =
 
 pub returns-clause-tokens : goal.returns-clause-tokens
 returns-clause-tokens c =
-    tokens_of_short c.args.source.now c.if-source-gt-MOST_BYTES.false
+    tokens_of_short c.args.source.now (omega arith)
     ∙ reads_all c.args.source.now c.loop-at.tokens c.loop-at.at c.loop-at.line c.loop-at.stack.items c.loop-at.invariant c.loop-at-test.false
     ∙ ap (λ ts. Ok ts) (sym c.in_ok-close.ensures.ok)

@@ -1,4 +1,4 @@
-use Rattle.std.proofs.Common.{subst, ◌<◌, ℕ, sym, ap, ◌∙◌, leb, false, ◌≡◌, arith}
+use Rattle.std.proofs.Common.{arith}
 use Rattle.mx_lex.proofs.Digits.{past_limit, not_at_most}
 use Rattle.mx_lex.proofs.number.is_at_most.Goals as goal
 
