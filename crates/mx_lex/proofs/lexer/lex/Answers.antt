@@ -1,7 +1,5 @@
-use Rattle.std.proofs.Common.{◌<◌, length, reverse, sym, ap, ◌∙◌, Ok, arith}
+use Rattle.std.proofs.Common.{◌<◌, length, sym, ap, ◌∙◌, Ok, arith}
 use Rattle.std.proofs.lemmas.Result.{err_from_is_err_and}
-use Rattle.mx_lex.specs.Lexing.{Reading, Step}
-use Rattle.mx_lex.proofs.StepBounds.{Bounded}
 use Rattle.mx_lex.proofs.Loop.{reads_more, reads_failed, reads_all, went_bounded, tokens_of_short}
 use Rattle.mx_lex.proofs.lexer.lex.Goals as goal
 
