@@ -1,0 +1,8 @@
+use Rattle.std.proofs.Common.{arith}
+use Rattle.mx_lex.proofs.Digits.{past_limit, not_at_most}
+use Rattle.mx_lex.proofs.number.is_at_most.Goals as goal
+
+pub returns-then-value-limit : goal.returns-then-value-limit
+returns-then-value-limit c =
+    let past = past_limit c.args.digits.now c.loop-b.b-index c.loop-b.value c.args.limit c.loop-b-test.true (rw (← c.from-digit.ensures) c.if-value-limit.true) in
+    not_at_most _ _ (omega (arith, c.loop-b.invariant.spelled, past))

@@ -1,0 +1,15 @@
+use Rattle.std.proofs.Common.{◌≡◌, ℕ, List, take, sym, ap, ◌∙◌, subst}
+use Rattle.std.specs.List.{prefix_len, AllPass}
+use Rattle.std.specs.Char.{is_ascii_digit}
+use Rattle.mx_lex.proofs.Digits.{front_passes}
+use Rattle.mx_lex.proofs.number.number.Goals as goal
+
+-- what was split off are the digits at the front
+digits_split : (rest digits : List ℕ) (n : ℕ) → digits ≡ take n rest → n ≡ prefix_len is_ascii_digit rest → AllPass is_ascii_digit digits
+digits_split rest digits n front len = subst (AllPass is_ascii_digit) (sym (front ∙ ap (λ k. take k rest) len)) (front_passes is_ascii_digit rest)
+
+pub is_fix-requires : goal.is_fix-requires
+is_fix-requires c = digits_split c.args.rest.now _ _ c.split_at.ensures.front c.digits_len.ensures.value
+
+pub is_int-requires : goal.is_int-requires
+is_int-requires c = digits_split c.args.rest.now _ _ c.split_at.ensures.front c.digits_len.ensures.value
