@@ -1,4 +1,8 @@
 //! Edges, and the three lists that each of them stands in.
+ghost use Rattle.std.specs.Prelude.{◌≡◌, None, IfSome};
+ghost use Rattle.slab.specs.Slab.{ContainsKey};
+ghost use Rattle.mx_graph.specs.Linked.{links_of, with_links, ends_with, ends_without, with_next, with_previous, push, bridge, Maps, SameRoom};
+
 use crate::ids::{EdgeId, NodeId};
 use slab::Slab;
 
@@ -38,7 +42,9 @@ pub(crate) struct Edge {
 }
 
 impl Edge {
-    fn links(&self, order: Order) -> Links {
+    fn links(&self, order: Order) -> Links
+        ensures { result ≡ links_of order self.now }
+    {
         match order {
             Order::Reads => self.reads,
             Order::Readers => self.readers,
@@ -46,7 +52,9 @@ impl Edge {
         }
     }
 
-    fn set_links(&mut self, order: Order, links: Links) {
+    fn set_links(&mut self, order: Order, links: Links)
+        ensures { self.new ≡ with_links order links self.old }
+    {
         match order {
             Order::Reads => self.reads = links,
             Order::Readers => self.readers = links,
@@ -56,7 +64,9 @@ impl Edge {
 }
 
 impl Ends {
-    pub(crate) fn none() -> Ends {
+    pub(crate) fn none() -> Ends
+        ensures { result ≡ record { first = None; last = None } }
+    {
         Ends {
             first: None,
             last: None,
@@ -65,7 +75,9 @@ impl Ends {
 }
 
 impl Links {
-    pub(crate) fn after(last: Option<EdgeId>) -> Links {
+    pub(crate) fn after(last: Option<EdgeId>) -> Links
+        ensures { result ≡ record { previous = last; next = None } }
+    {
         Links {
             previous: last,
             next: None,
@@ -73,20 +85,33 @@ impl Links {
     }
 }
 
-fn set_next(edges: &mut Slab<Edge>, order: Order, id: EdgeId, next: Option<EdgeId>) {
+fn set_next(edges: &mut Slab<Edge>, order: Order, id: EdgeId, next: Option<EdgeId>)
+    requires { ContainsKey edges.old id.at }
+    ensures maps { Maps edges.old edges.new (with_next order id next) }
+    ensures room { SameRoom edges.old edges.new }
+{
     let edge = &mut edges[id.at as usize];
     let Links { previous, next: _ } = edge.links(order);
     edge.set_links(order, Links { previous, next });
 }
 
-fn set_previous(edges: &mut Slab<Edge>, order: Order, id: EdgeId, previous: Option<EdgeId>) {
+fn set_previous(edges: &mut Slab<Edge>, order: Order, id: EdgeId, previous: Option<EdgeId>)
+    requires { ContainsKey edges.old id.at }
+    ensures maps { Maps edges.old edges.new (with_previous order id previous) }
+    ensures room { SameRoom edges.old edges.new }
+{
     let edge = &mut edges[id.at as usize];
     let Links { previous: _, next } = edge.links(order);
     edge.set_links(order, Links { previous, next });
 }
 
 /// Puts the edge, whose links already name the last one as its previous, at the end of a list.
-pub(crate) fn link_last(edges: &mut Slab<Edge>, order: Order, ends: Ends, id: EdgeId) -> Ends {
+pub(crate) fn link_last(edges: &mut Slab<Edge>, order: Order, ends: Ends, id: EdgeId) -> Ends
+    requires { IfSome ends.last (λ last. ContainsKey edges.old last.at) }
+    ensures ends { result ≡ ends_with id ends }
+    ensures maps { Maps edges.old edges.new (push order ends.last id) }
+    ensures room { SameRoom edges.old edges.new }
+{
     match ends.last {
         Some(last) => {
             set_next(edges, order, last, Some(id));
@@ -103,7 +128,13 @@ pub(crate) fn link_last(edges: &mut Slab<Edge>, order: Order, ends: Ends, id: Ed
 }
 
 /// Joins the neighbours that an edge has in a list.
-pub(crate) fn unlink(edges: &mut Slab<Edge>, order: Order, ends: Ends, links: Links) -> Ends {
+pub(crate) fn unlink(edges: &mut Slab<Edge>, order: Order, ends: Ends, links: Links) -> Ends
+    requires previous { IfSome links.previous (λ id. ContainsKey edges.old id.at) }
+    requires next { IfSome links.next (λ id. ContainsKey edges.old id.at) }
+    ensures ends { result ≡ ends_without links ends }
+    ensures maps { Maps edges.old edges.new (bridge order links) }
+    ensures room { SameRoom edges.old edges.new }
+{
     if let Some(previous) = links.previous {
         set_next(edges, order, previous, links.next);
     }
@@ -114,7 +145,9 @@ pub(crate) fn unlink(edges: &mut Slab<Edge>, order: Order, ends: Ends, links: Li
 }
 
 impl Ends {
-    fn without(self, links: Links) -> Ends {
+    fn without(self, links: Links) -> Ends
+        ensures { result ≡ ends_without links self }
+    {
         Ends {
             first: if links.previous.is_none() {
                 links.next

@@ -1,12 +1,19 @@
 //! The graph of reads.
-use crate::edges::{Edge, Ends, Links, Order, link_last, unlink};
+ghost use Rattle.std.specs.Prelude.{◌≡◌, ℕ, ◌+◌, ◌<◌, ◌≤◌, List, [], ◌∷◌, ◌++◌, Some, None, IsSome, IfSome, IfOk, IsOk, OnOk, filter, false};
+ghost use Rattle.std.specs.FinMap as map;
+ghost use Rattle.mx_graph.specs.Relation.{by_reader, by_read, find, first_in, next_in, IsLive, IsEdge, IsRelation, Walks, no_graph, SameButRoom};
+
+use crate::edges::{Edge, Ends, Links, Order, link_last};
 use crate::ids::{EdgeId, NoMemory, NodeId};
-use crate::marking::{forget_visited, visit_all};
 use crate::nodes::Node;
+use crate::room::reserve_in;
 use slab::Slab;
 use std::alloc::Global;
+use std::marker::Model;
 
 /// Which node read which, with marks on nodes.
+///
+/// Only `new` and `reserve` take memory. Adding, marking and removing cost in proportion to the nodes and edges touched.
 #[derive(Drop)]
 pub struct ReadGraph {
     nodes: Slab<Node>,
@@ -19,8 +26,26 @@ pub struct ReadGraph {
     closed: bool,
 }
 
+impl Model for ReadGraph {
+    ghost use Rattle.mx_graph.specs.Relation.{Graph, graph_code};
+
+    ghost Value = { Graph };
+
+    ghost coded = { graph_code };
+
+    ghost use Rattle.mx_graph.specs.Sound.{graph_of, IsSound};
+
+    ghost view = { graph_of };
+
+    ghost invariant = { IsSound };
+}
+
 impl ReadGraph {
-    pub fn new(alloc: Global) -> Result<ReadGraph, NoMemory> {
+    /// A graph without nodes.
+    pub fn new(alloc: Global) -> Result<ReadGraph, NoMemory>
+        ensures empty { IfOk result (λ g. g ≡ no_graph) }
+        ensures succeeds { IsOk result }
+    {
         Ok(ReadGraph {
             nodes: Slab::new(alloc),
             edges: Slab::new(alloc),
@@ -30,21 +55,42 @@ impl ReadGraph {
         })
     }
 
-    pub fn reserve(&mut self, nodes: u32, edges: u32) -> Result<(), NoMemory> {
-        self.nodes.reserve(nodes as usize)?;
-        self.edges.reserve(edges as usize)?;
-        if self.nodes.capacity() > MOST || self.edges.capacity() > MOST {
-            return Err(NoMemory);
-        }
-        Ok(())
+    /// Makes room for so many more nodes and edges at least.
+    ///
+    /// After an error nodes, marks and edges are as before, and only the room may differ.
+    pub fn reserve(&mut self, nodes: u32, edges: u32) -> Result<(), NoMemory>
+        ensures nodes { OnOk result (nodes ≤ self.new.spare_nodes) }
+        ensures edges { OnOk result (edges ≤ self.new.spare_edges) }
+        ensures same { SameButRoom self.old self.new }
+        ensures had_room { nodes ≤ self.old.spare_nodes → edges ≤ self.old.spare_edges → IsOk result × (self.new ≡ self.old) }
+    {
+        reserve_in(&mut self.nodes, nodes)?;
+        reserve_in(&mut self.edges, edges)
     }
 
-    pub fn add_node(&mut self) -> NodeId {
+    /// Adds a node without edges and mark.
+    pub fn add_node(&mut self) -> NodeId
+        requires { 0 < self.old.spare_nodes }
+        ensures fresh { map.get self.old.nodes result.at ≡ None }
+        ensures nodes { self.new.nodes ≡ map.insert self.old.nodes result.at false }
+        ensures edges { self.new.edges ≡ self.old.edges }
+        ensures spare_nodes { self.new.spare_nodes + 1 ≡ self.old.spare_nodes }
+        ensures spare_edges { self.new.spare_edges ≡ self.old.spare_edges }
+    {
         let key = self.nodes.insert_reserved(Node::alone());
         NodeId { at: key as u32 }
     }
 
-    pub fn add_edge(&mut self, reader: NodeId, read: NodeId) {
+    /// Adds an edge behind all others.
+    pub fn add_edge(&mut self, reader: NodeId, read: NodeId)
+        requires spare { 0 < self.old.spare_edges }
+        requires reader { IsLive self.old reader }
+        requires read { IsLive self.old read }
+        ensures edge { (id : EdgeId) × ((find id.at self.old.edges ≡ None) × (self.new.edges ≡ self.old.edges ++ record { id = id; reader = reader; read = read } ∷ [])) }
+        ensures nodes { self.new.nodes ≡ self.old.nodes }
+        ensures spare_nodes { self.new.spare_nodes ≡ self.old.spare_nodes }
+        ensures spare_edges { self.new.spare_edges + 1 ≡ self.old.spare_edges }
+    {
         let reads = self.nodes[reader.at as usize].reads;
         let readers = self.nodes[read.at as usize].readers;
         let key = self.edges.insert_reserved(Edge {
@@ -60,93 +106,74 @@ impl ReadGraph {
         self.added = link_last(&mut self.edges, Order::Added, self.added, id);
         self.nodes[reader.at as usize].reads = reads;
         self.nodes[read.at as usize].readers = readers;
-        if self.is_marked(read) && !self.is_marked(reader) {
+        if self.nodes[read.at as usize].marked && !self.nodes[reader.at as usize].marked {
             self.closed = false;
         }
     }
 
-    pub fn mark_readers(&mut self, from: NodeId) {
-        if self.closed && self.is_marked(from) {
-            return;
-        }
-        self.marked = visit_all(&mut self.nodes, &self.edges, self.closed, self.marked, from);
-        forget_visited(&mut self.nodes, from);
-    }
-
-    pub fn remove_marked(&mut self) -> u32 {
-        let mut count = 0;
-        while let Some(id) = self.marked {
-            while let Some(edge) = self.first_read(id) {
-                self.remove_edge(edge);
-            }
-            while let Some(edge) = self.first_reader(id) {
-                self.remove_edge(edge);
-            }
-            let node = self.nodes.remove(id.at as usize);
-            self.marked = node.next_marked;
-            count += 1;
-        }
-        self.closed = true;
-        count
-    }
-
-    fn remove_edge(&mut self, id: EdgeId) {
-        let Edge {
-            reader,
-            read,
-            reads,
-            readers,
-            added,
-        } = self.edges.remove(id.at as usize);
-        let ends = self.nodes[reader.at as usize].reads;
-        let ends = unlink(&mut self.edges, Order::Reads, ends, reads);
-        self.nodes[reader.at as usize].reads = ends;
-        let ends = self.nodes[read.at as usize].readers;
-        let ends = unlink(&mut self.edges, Order::Readers, ends, readers);
-        self.nodes[read.at as usize].readers = ends;
-        self.added = unlink(&mut self.edges, Order::Added, self.added, added);
-    }
-
-    pub fn is_marked(&self, id: NodeId) -> bool {
+    /// Whether the node is marked.
+    pub fn is_marked(&self, id: NodeId) -> bool
+        requires { IsLive self.now id }
+        ensures { map.get self.now.nodes id.at ≡ Some result }
+    {
         self.nodes[id.at as usize].marked
     }
 
-    pub fn first_read(&self, id: NodeId) -> Option<EdgeId> {
+    /// The first edge that the node reads by. From it `next_read` leads through all of them in order of adding.
+    pub fn first_read(&self, id: NodeId) -> Option<EdgeId>
+        requires { IsLive self.now id }
+        ensures first { result ≡ first_in (by_reader id) self.now.edges }
+        ensures walks { Walks (by_reader id) self.now.edges result (filter (by_reader id) self.now.edges) }
+        ensures edge { IfSome result (λ edge. IsEdge self.now edge) }
+        ensures relation { IsRelation self.now }
+    {
         self.nodes[id.at as usize].reads.first
     }
 
-    pub fn next_read(&self, id: EdgeId) -> Option<EdgeId> {
+    /// The next edge of the same reader.
+    pub fn next_read(&self, id: EdgeId) -> Option<EdgeId>
+        requires { IsEdge self.now id }
+        ensures next { IfSome (find id.at self.now.edges) (λ e. result ≡ next_in (by_reader e.reader) id.at self.now.edges) }
+        ensures edge { IfSome result (λ edge. IsEdge self.now edge) }
+    {
         self.edges[id.at as usize].reads.next
     }
 
-    pub fn first_reader(&self, id: NodeId) -> Option<EdgeId> {
+    /// The first edge by which the node is read. From it `next_reader` leads through all of them in order of adding.
+    pub fn first_reader(&self, id: NodeId) -> Option<EdgeId>
+        requires { IsLive self.now id }
+        ensures first { result ≡ first_in (by_read id) self.now.edges }
+        ensures walks { Walks (by_read id) self.now.edges result (filter (by_read id) self.now.edges) }
+        ensures edge { IfSome result (λ edge. IsEdge self.now edge) }
+        ensures relation { IsRelation self.now }
+    {
         self.nodes[id.at as usize].readers.first
     }
 
-    pub fn next_reader(&self, id: EdgeId) -> Option<EdgeId> {
+    /// The next edge to the same node.
+    pub fn next_reader(&self, id: EdgeId) -> Option<EdgeId>
+        requires { IsEdge self.now id }
+        ensures next { IfSome (find id.at self.now.edges) (λ e. result ≡ next_in (by_read e.read) id.at self.now.edges) }
+        ensures edge { IfSome result (λ edge. IsEdge self.now edge) }
+    {
         self.edges[id.at as usize].readers.next
     }
 
-    pub fn reader_of(&self, id: EdgeId) -> NodeId {
+    /// The node that reads.
+    pub fn reader_of(&self, id: EdgeId) -> NodeId
+        requires { IsEdge self.now id }
+        ensures reader { IfSome (find id.at self.now.edges) (λ e. result ≡ e.reader) }
+        ensures live { IsLive self.now result }
+    {
         self.edges[id.at as usize].reader
     }
 
-    pub fn read_of(&self, id: EdgeId) -> NodeId {
+    /// The node that is read.
+    pub fn read_of(&self, id: EdgeId) -> NodeId
+        requires { IsEdge self.now id }
+        ensures read { IfSome (find id.at self.now.edges) (λ e. result ≡ e.read) }
+        ensures live { IsLive self.now result }
+    {
         self.edges[id.at as usize].read
     }
 }
-
-#[cfg(test)]
-impl ReadGraph {
-    /// Whether the node is in the graph.
-    pub(crate) fn is_live(&self, id: NodeId) -> bool {
-        self.nodes.contains(id.at as usize)
-    }
-
-    /// Whether the edge is in the graph.
-    pub(crate) fn is_live_edge(&self, id: EdgeId) -> bool {
-        self.edges.contains(id.at as usize)
-    }
-}
-
-const MOST: usize = 4_294_967_295;

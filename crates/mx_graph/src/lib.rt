@@ -7,10 +7,8 @@
 mod edges;
 mod graph;
 mod ids;
-mod marking;
 mod nodes;
-#[cfg(test)]
-mod tests;
+mod room;
 
 pub use graph::ReadGraph;
 pub use ids::{EdgeId, NoMemory, NodeId};

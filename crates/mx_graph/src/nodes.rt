@@ -1,4 +1,6 @@
 //! Nodes, and the two chains that run through them: the marked nodes, and those that a marking has visited.
+ghost use Rattle.std.specs.Prelude.{◌≡◌, None, false};
+
 use crate::edges::Ends;
 use crate::ids::NodeId;
 use slab::Slab;
@@ -19,7 +21,9 @@ pub(crate) struct Node {
 
 impl Node {
     /// A node without edges and marks.
-    pub(crate) fn alone() -> Node {
+    pub(crate) fn alone() -> Node
+        ensures { result ≡ record { reads = record { first = None; last = None }; readers = record { first = None; last = None }; marked = false; next_marked = None; visited = false; next_visited = None } }
+    {
         Node {
             reads: Ends::none(),
             readers: Ends::none(),
