@@ -1,2 +1,5 @@
 pub mod Lists
 pub mod Neighbours
+pub mod View
+pub mod Slabs
+pub mod Graphs

@@ -411,3 +411,17 @@ module _ (p : Entry → Bool) (front back : List Entry) (x : Entry) where
   last-left-else u =
       let old : last_in p (front ++ (x ∷ back)) ≡ or_else (or_else (last_in p back) None) (last_in p front) = rw u at (last-append p front (x ∷ back)) in
       last-append p front back ∙ sym (old ∙ ap (λ o. or_else o (last_in p front)) (or-none (last_in p back)))
+
+-- the front of a list without repeats has no edge of the back
+pub miss-front : (xs : List Entry) (e : Entry) (ys : List Entry) → IsApart (xs ++ (e ∷ ys)) → find e.id.at xs ≡ None
+miss-front [] e ys a = refl
+miss-front (x ∷ xs) e ys a =
+    let rest : find e.id.at xs ≡ None = miss-front xs e ys a.1 in
+    elim (eqb x.id.at e.id.at) as (λ b. eqb x.id.at e.id.at ≡ b → cond b (Some x) (find e.id.at xs) ≡ None) [
+      | true ↦ λ t.
+          let same : x.id.at ≡ e.id.at = eqb-true x.id.at e.id.at t in
+          let there : find e.id.at (xs ++ (e ∷ ys)) ≡ Some e = find-append e.id.at xs (e ∷ ys) ∙ rw (rest, eq-eqb e.id.at e.id.at refl) refl in
+          let gone : find x.id.at (xs ++ (e ∷ ys)) ≡ None = a.0 in
+          absurd (cc)
+      | false ↦ λ t. rest
+    ] refl

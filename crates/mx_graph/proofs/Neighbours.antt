@@ -95,6 +95,17 @@ find-apart (y ∷ xs) x ys q e a g =
     second None true x r h = cc
     second None false x r h = h
 
+apart-drop : (xs : List Entry) (x : Entry) (ys : List Entry) → IsApart (xs ++ (x ∷ ys)) → IsApart (xs ++ ys)
+apart-drop [] x ys a = a.1
+apart-drop (y ∷ xs) x ys a =
+    let parts : find_or (find y.id.at xs) (cond (eqb x.id.at y.id.at) (Some x) (find y.id.at ys)) ≡ None = sym (find-append y.id.at xs (x ∷ ys)) ∙ a.0 in
+    (find-append y.id.at xs ys ∙ both (find y.id.at xs) (eqb x.id.at y.id.at) x (find y.id.at ys) parts, apart-drop xs x ys a.1)
+  where
+    both : (o : Option Entry) (b : Bool) (x : Entry) (r : Option Entry) → find_or o (cond b (Some x) r) ≡ None → find_or o r ≡ None
+    both (Some y) b x r h = cc
+    both None true x r h = cc
+    both None false x r h = h
+
 -- the edge x under k leaves
 module _ (xs : List Entry) (k : ℕ) (x : Entry) (a : IsApart xs) (f : find k xs ≡ Some x) where
   here : xs ≡ before k xs ++ (x ∷ after k xs)
@@ -180,3 +191,6 @@ module _ (xs : List Entry) (k : ℕ) (x : Entry) (a : IsApart xs) (f : find k xs
   ends-left-else p t =
       subst (λ (l : List Entry). ends_in p (without k xs) ≡ ends_in p l) (sym here)
       (rw (first-left-else p (before k xs) (after k xs) x t, last-left-else p (before k xs) (after k xs) x t) refl)
+
+  pub apart-without : IsApart (without k xs)
+  apart-without = apart-drop (before k xs) x (after k xs) parted

@@ -1,15 +1,16 @@
 -- What a graph of reads keeps in its slabs. No public clause cites this module.
-use Rattle.std.specs.Prelude.{◌≡◌, ℕ, zero, suc, ◌+◌, ◌-◌, ◌≤◌, Bool, true, false, ◌||◌, ◌==◌, nat_le, if◌then◌else◌, List, [], ◌∷◌, length, Option, Some, None, IsSome, option_map}
+use Rattle.std.specs.Prelude.{◌≡◌, ℕ, zero, suc, ◌+◌, ◌-◌, ◌≤◌, Bool, true, false, ◌||◌, ◌==◌, nat_le, if◌then◌else◌, List, [], ◌∷◌, ◌++◌, length, Option, Some, None, IsSome, option_map}
 use Rattle.std.specs.Ordering.{nat_cmp}
 use Rattle.std.specs.FinMap as map
 use Rattle.slab.specs.Slab.{Slab, get, slab_len}
 use Rattle.mx_graph.specs.declared.ids.NodeId.{NodeId}
 use Rattle.mx_graph.specs.declared.ids.EdgeId.{EdgeId}
 use Rattle.mx_graph.specs.declared.edges.Ends.{Ends}
+use Rattle.mx_graph.specs.declared.edges.AllEnds.{AllEnds}
 use Rattle.mx_graph.specs.declared.edges.Edge.{Edge}
 use Rattle.mx_graph.specs.declared.nodes.Node.{Node}
 use Rattle.mx_graph.specs.declared.graph.ReadGraph.TheInside.{Inside}
-use Rattle.mx_graph.specs.Relation.{Entry, Graph, by_reader, by_read, find, IsApart}
+use Rattle.mx_graph.specs.Relation.{Entry, Graph, by_reader, by_read, find, without, IsApart}
 use Rattle.mx_graph.specs.Linked.{edge_in, ends_in}
 
 -- how many values a slab still takes without memory, while each key fits an id
@@ -66,6 +67,38 @@ pub record HasEdges (s : Slab Edge) (edges : List Entry) : Type 0 where
   pub apart : IsApart edges
   pub held : (q : ℕ) → get s q ≡ option_map (edge_in edges) (find q edges)
   pub count : slab_len s ≡ length edges
+
+-- these are the ends of the three lists that an edge between two nodes stands in
+pub record AreEnds (reader read : NodeId) (edges : List Entry) (ends : AllEnds) : Type 0 where
+  pub reads : ends.reads ≡ ends_in (by_reader reader) edges
+  pub readers : ends.readers ≡ ends_in (by_read read) edges
+  pub added : ends.added ≡ ends_in (λ _. true) edges
+
+-- the slab holds some list of edges, of which these are the ends
+abbrev pub KnownEnds : Slab Edge → NodeId → NodeId → AllEnds → Type 0
+KnownEnds s reader read ends = (edges : List Entry) × (HasEdges s edges × AreEnds reader read edges ends)
+
+-- the list of edges got one more at its end
+pub record GotEdge (new : Slab Edge) (x : Entry) (old : List Entry) (after : AllEnds) : Type 0 where
+  pub fresh : find x.id.at old ≡ None
+  pub edges : HasEdges new (old ++ (x ∷ []))
+  pub ends : AreEnds x.reader x.read (old ++ (x ∷ [])) after
+
+-- the edge was one of the list, and is no more
+pub record LostEdge (new : Slab Edge) (id : EdgeId) (gone : Edge) (old : List Entry) (after : AllEnds) : Type 0 where
+  pub entry : Entry
+  pub found : find id.at old ≡ Some entry
+  pub reader : gone.reader ≡ entry.reader
+  pub read : gone.read ≡ entry.read
+  pub edges : HasEdges new (without id.at old)
+  pub ends : AreEnds gone.reader gone.read (without id.at old) after
+
+-- the node at q, where the ends of one node's reads and of one node's readers are set
+abbrev pub with_ends : NodeId → NodeId → AllEnds → ℕ → Node → Node
+with_ends reader read ends q node = record node {
+  reads = if reader.at == q then ends.reads else node.reads;
+  readers = if read.at == q then ends.readers else node.readers;
+}
 
 -- a node names the ends of its lists
 pub record HasEnds (edges : List Entry) (q : ℕ) (node : Node) : Type 0 where

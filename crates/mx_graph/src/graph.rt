@@ -3,9 +3,10 @@ ghost use Rattle.std.specs.Prelude.{◌≡◌, ℕ, ◌+◌, ◌<◌, ◌≤◌,
 ghost use Rattle.std.specs.FinMap as map;
 ghost use Rattle.mx_graph.specs.Relation.{by_reader, by_read, find, first_in, next_in, IsLive, IsEdge, IsRelation, Walks, no_graph, SameButRoom};
 
-use crate::edges::{Edge, Ends, Links, Order, link_last};
+use crate::edges::{AllEnds, Edge, Ends};
 use crate::ids::{EdgeId, NoMemory, NodeId};
-use crate::nodes::Node;
+use crate::nodes::{Node, keeps_closed, set_ends};
+use crate::places::insert_edge;
 use crate::room::reserve_in;
 use slab::Slab;
 use std::alloc::Global;
@@ -91,24 +92,15 @@ impl ReadGraph {
         ensures spare_nodes { self.new.spare_nodes ≡ self.old.spare_nodes }
         ensures spare_edges { self.new.spare_edges + 1 ≡ self.old.spare_edges }
     {
-        let reads = self.nodes[reader.at as usize].reads;
-        let readers = self.nodes[read.at as usize].readers;
-        let key = self.edges.insert_reserved(Edge {
-            reader,
-            read,
-            reads: Links::after(reads.last),
-            readers: Links::after(readers.last),
-            added: Links::after(self.added.last),
-        });
-        let id = EdgeId { at: key as u32 };
-        let reads = link_last(&mut self.edges, Order::Reads, reads, id);
-        let readers = link_last(&mut self.edges, Order::Readers, readers, id);
-        self.added = link_last(&mut self.edges, Order::Added, self.added, id);
-        self.nodes[reader.at as usize].reads = reads;
-        self.nodes[read.at as usize].readers = readers;
-        if self.nodes[read.at as usize].marked && !self.nodes[reader.at as usize].marked {
-            self.closed = false;
-        }
+        let ends = AllEnds {
+            reads: self.nodes[reader.at as usize].reads,
+            readers: self.nodes[read.at as usize].readers,
+            added: self.added,
+        };
+        let (_, ends) = insert_edge(&mut self.edges, reader, read, ends);
+        set_ends(&mut self.nodes, reader, read, ends);
+        self.added = ends.added;
+        self.closed = self.closed && keeps_closed(&self.nodes, reader, read);
     }
 
     /// Whether the node is marked.

@@ -8,6 +8,7 @@ mod edges;
 mod graph;
 mod ids;
 mod nodes;
+mod places;
 mod room;
 
 pub use graph::ReadGraph;

@@ -1,7 +1,10 @@
 //! Nodes, and the two chains that run through them: the marked nodes, and those that a marking has visited.
-ghost use Rattle.std.specs.Prelude.{◌≡◌, None, false};
+ghost use Rattle.std.specs.Prelude.{◌≡◌, ℕ, None, Some, false, not, ◌||◌, option_map};
+ghost use Rattle.slab.specs.Slab.{get, slab_len, ContainsKey};
+ghost use Rattle.mx_graph.specs.Linked.{SameRoom};
+ghost use Rattle.mx_graph.specs.Sound.{with_ends};
 
-use crate::edges::Ends;
+use crate::edges::{AllEnds, Ends};
 use crate::ids::NodeId;
 use slab::Slab;
 
@@ -33,4 +36,24 @@ impl Node {
             next_visited: None,
         }
     }
+}
+
+/// Sets the ends of the reads of one node, and of the readers of one.
+pub(crate) fn set_ends(nodes: &mut Slab<Node>, reader: NodeId, read: NodeId, ends: AllEnds)
+    requires reader { ContainsKey nodes.old reader.at }
+    requires read { ContainsKey nodes.old read.at }
+    ensures set { (q : ℕ) → get nodes.new q ≡ option_map (with_ends reader read ends q) (get nodes.old q) }
+    ensures room { SameRoom nodes.old nodes.new }
+{
+    nodes[reader.at as usize].reads = ends.reads;
+    nodes[read.at as usize].readers = ends.readers;
+}
+
+/// Whether an edge between these leaves each reader of a marked node marked.
+pub(crate) fn keeps_closed(nodes: &Slab<Node>, reader: NodeId, read: NodeId) -> bool
+    requires reader { ContainsKey nodes.now reader.at }
+    requires read { ContainsKey nodes.now read.at }
+    ensures { (a b : Node) → get nodes.now reader.at ≡ Some a → get nodes.now read.at ≡ Some b → result ≡ (not b.marked || a.marked) }
+{
+    !nodes[read.at as usize].marked || nodes[reader.at as usize].marked
 }
