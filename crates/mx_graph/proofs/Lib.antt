@@ -3,3 +3,4 @@ pub mod Neighbours
 pub mod View
 pub mod Slabs
 pub mod Graphs
+pub mod Removal

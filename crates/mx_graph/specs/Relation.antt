@@ -1,5 +1,5 @@
 -- What a contract sees of a graph of reads.
-use Rattle.std.specs.Prelude.{◌≡◌, ℕ, ◌+◌, Bool, true, false, ◌==◌, if◌then◌else◌, List, [], ◌∷◌, ◌++◌, Option, Some, None, IsSome, refl}
+use Rattle.std.specs.Prelude.{◌≡◌, ℕ, ◌+◌, Bool, true, false, not, ◌&&◌, ◌==◌, if◌then◌else◌, List, [], ◌∷◌, ◌++◌, Option, Some, None, IsSome, refl}
 use Rattle.std.specs.Coded.{Coded, code_by, coded×, coded_ℕ, coded_bool, coded_list}
 use Rattle.std.specs.Ordering.{nat_cmp}
 use Rattle.std.specs.FinMap as map
@@ -112,3 +112,20 @@ no_graph = record { nodes = map.empty; edges = []; spare_nodes = 0; spare_edges 
 -- the same nodes, marks and edges
 abbrev pub SameButRoom : Graph → Graph → Type 0
 SameButRoom old new = (new.nodes ≡ old.nodes) × (new.edges ≡ old.edges)
+
+-- the edge does not touch the node
+abbrev pub is_off : NodeId → Entry → Bool
+is_off id e = not (by_reader id e) && not (by_read id e)
+
+-- the option holds true
+abbrev pub is_set : Option Bool → Bool
+is_set None = false
+is_set (Some b) = b
+
+-- the node is marked
+abbrev pub is_marked_in : map.FinMap nat_cmp Bool → ℕ → Bool
+is_marked_in nodes q = is_set (map.get nodes q)
+
+-- neither end of the edge is marked
+abbrev pub is_kept : map.FinMap nat_cmp Bool → Entry → Bool
+is_kept nodes e = not (is_marked_in nodes e.reader.at) && not (is_marked_in nodes e.read.at)

@@ -100,6 +100,10 @@ with_ends reader read ends q node = record node {
   readers = if read.at == q then ends.readers else node.readers;
 }
 
+-- the node at q, where one node is marked no more
+abbrev pub unmarked_at : NodeId → ℕ → Node → Node
+unmarked_at id q node = record node { marked = if id.at == q then false else node.marked }
+
 -- a node names the ends of its lists
 pub record HasEnds (edges : List Entry) (q : ℕ) (node : Node) : Type 0 where
   pub reads : node.reads ≡ ends_in (by_reader (record { at = q })) edges

@@ -1,12 +1,12 @@
 //! The graph of reads.
-ghost use Rattle.std.specs.Prelude.{◌≡◌, ℕ, ◌+◌, ◌<◌, ◌≤◌, List, [], ◌∷◌, ◌++◌, Some, None, IsSome, IfSome, IfOk, IsOk, OnOk, filter, false};
+ghost use Rattle.std.specs.Prelude.{◌≡◌, ℕ, ◌+◌, ◌<◌, ◌≤◌, List, [], ◌∷◌, ◌++◌, Some, None, IsSome, IfSome, IfOk, IsOk, OnOk, IfNone, filter, true, false, if◌then◌else◌};
 ghost use Rattle.std.specs.FinMap as map;
-ghost use Rattle.mx_graph.specs.Relation.{by_reader, by_read, find, first_in, next_in, IsLive, IsEdge, IsRelation, Walks, no_graph, SameButRoom};
+ghost use Rattle.mx_graph.specs.Relation.{by_reader, by_read, find, first_in, next_in, IsLive, IsEdge, IsRelation, Walks, no_graph, SameButRoom, without, is_off, is_marked_in, is_kept};
 
 use crate::edges::{AllEnds, Edge, Ends};
 use crate::ids::{EdgeId, NoMemory, NodeId};
-use crate::nodes::{Node, keeps_closed, set_ends};
-use crate::places::insert_edge;
+use crate::nodes::{Node, keeps_closed, set_ends, unmark};
+use crate::places::{insert_edge, take_edge};
 use crate::room::reserve_in;
 use slab::Slab;
 use std::alloc::Global;
@@ -101,6 +101,96 @@ impl ReadGraph {
         set_ends(&mut self.nodes, reader, read, ends);
         self.added = ends.added;
         self.closed = self.closed && keeps_closed(&self.nodes, reader, read);
+    }
+
+    /// Removes all marked nodes with their edges, and gives how many nodes they were.
+    pub fn remove_marked(&mut self) -> u32
+        ensures nodes { (q : ℕ) → map.get self.new.nodes q ≡ (if is_marked_in self.old.nodes q then None else map.get self.old.nodes q) }
+        ensures edges { self.new.edges ≡ filter (is_kept self.old.nodes) self.old.edges }
+        ensures count { result + map.len self.new.nodes ≡ map.len self.old.nodes }
+        ensures spare_nodes { self.old.spare_nodes ≤ self.new.spare_nodes }
+        ensures spare_edges { self.old.spare_edges ≤ self.new.spare_edges }
+    {
+        let before = self.node_count();
+        'marked: while let Some(id) = self.unmark_last() {
+            self.remove_edges(id);
+            self.remove_node(id);
+        }
+        before - self.node_count()
+    }
+
+    fn node_count(&self) -> u32
+        ensures { result ≡ map.len self.now.nodes }
+    {
+        self.nodes.len() as u32
+    }
+
+    /// Takes the mark off the node that was marked last.
+    fn unmark_last(&mut self) -> Option<NodeId>
+        ensures some { IfSome result (λ id. (map.get self.old.nodes id.at ≡ Some true) × (self.new.nodes ≡ map.insert self.old.nodes id.at false)) }
+        ensures none { IfNone result (((q : ℕ) → map.get self.old.nodes q ≡ Some true → ⊥) × (self.new.nodes ≡ self.old.nodes)) }
+        ensures edges { self.new.edges ≡ self.old.edges }
+        ensures spare_nodes { self.new.spare_nodes ≡ self.old.spare_nodes }
+        ensures spare_edges { self.new.spare_edges ≡ self.old.spare_edges }
+        ensures relation { IsRelation self.old }
+    {
+        let Some(id) = self.marked else {
+            self.closed = true;
+            return None;
+        };
+        self.marked = unmark(&mut self.nodes, id);
+        self.closed = false;
+        Some(id)
+    }
+
+    /// Removes all edges of a node.
+    fn remove_edges(&mut self, id: NodeId)
+        requires { IsLive self.old id }
+        ensures edges { self.new.edges ≡ filter (is_off id) self.old.edges }
+        ensures no_reads { first_in (by_reader id) self.new.edges ≡ None }
+        ensures no_readers { first_in (by_read id) self.new.edges ≡ None }
+        ensures nodes { self.new.nodes ≡ self.old.nodes }
+        ensures spare_nodes { self.new.spare_nodes ≡ self.old.spare_nodes }
+        ensures spare_edges { self.old.spare_edges ≤ self.new.spare_edges }
+    {
+        'reads: while let Some(edge) = self.first_read(id) {
+            self.remove_edge(edge);
+        }
+        'readers: while let Some(edge) = self.first_reader(id) {
+            self.remove_edge(edge);
+        }
+    }
+
+    fn remove_edge(&mut self, id: EdgeId)
+        requires { IsEdge self.old id }
+        ensures edges { self.new.edges ≡ without id.at self.old.edges }
+        ensures nodes { self.new.nodes ≡ self.old.nodes }
+        ensures spare_nodes { self.new.spare_nodes ≡ self.old.spare_nodes }
+        ensures spare_edges { self.old.spare_edges ≤ self.new.spare_edges }
+    {
+        let edge = &self.edges[id.at as usize];
+        let (reader, read) = (edge.reader, edge.read);
+        let ends = AllEnds {
+            reads: self.nodes[reader.at as usize].reads,
+            readers: self.nodes[read.at as usize].readers,
+            added: self.added,
+        };
+        let ends = take_edge(&mut self.edges, id, ends);
+        set_ends(&mut self.nodes, reader, read, ends);
+        self.added = ends.added;
+    }
+
+    /// Removes a node without mark and edges.
+    fn remove_node(&mut self, id: NodeId)
+        requires unmarked { map.get self.old.nodes id.at ≡ Some false }
+        requires no_reads { first_in (by_reader id) self.old.edges ≡ None }
+        requires no_readers { first_in (by_read id) self.old.edges ≡ None }
+        ensures nodes { self.new.nodes ≡ map.remove self.old.nodes id.at }
+        ensures edges { self.new.edges ≡ self.old.edges }
+        ensures spare_nodes { self.old.spare_nodes ≤ self.new.spare_nodes }
+        ensures spare_edges { self.new.spare_edges ≡ self.old.spare_edges }
+    {
+        self.nodes.remove(id.at as usize);
     }
 
     /// Whether the node is marked.
