@@ -20,6 +20,7 @@ use Rattle.mx_graph.specs.Sound.{graph_of, room, is_in, next_of, first_of, marks
 use Rattle.mx_graph.proofs.Lists.{first-append, first-stands, around}
 use Rattle.mx_graph.proofs.Neighbours.{ends-left-else, find-without}
 use Rattle.mx_graph.proofs.Graphs.{none-some, list-of, node-of, stays-mapped, marks-mapped, KeepsMark, keeps-ends}
+use Rattle.mx_graph.proofs.Slabs.{length-without}
 use Rattle.mx_graph.proofs.View.{mark, marks-view, tied}
 
 -- no edge that does not pass is missed
@@ -438,3 +439,49 @@ rest-edges old g h r n = filter-each (is_kept old) g.edges r.apart (λ q e f.
 
     unset : (q : ℕ) → IsSome (map.get g.nodes q) → is_marked_in old q ≡ false
     unset q l = by q (map.get g.nodes q) refl l (h q)
+
+-- one edge of the node leaves
+pub record IsStep (id : NodeId) (xs ys : List Entry) : Type 0 where
+  pub edges : filter (is_off id) ys ≡ filter (is_off id) xs
+  pub less : length ys < length xs
+  pub none : (p : Entry → Bool) → first_in p xs ≡ None → first_in p ys ≡ None
+
+pub step-off : (id : NodeId) (p : Entry → Bool) (xs ys : List Entry) (edge : EdgeId) → ((e : Entry) → p e ≡ true → is_off id e ≡ false)
+    → IsApart xs → first_in p xs ≡ Some edge → ys ≡ without edge.at xs → IsStep id xs ys
+step-off id p xs ys edge off a f is =
+    let x = first-passes p xs edge a f in
+    let shorter : length (without edge.at xs) + 1 ≡ length xs = length-without xs edge.at x.0 x.1.0 in
+    let same : length ys ≡ length (without edge.at xs) = ap length is in
+    record {
+      edges = ap (filter (is_off id)) is ∙ filter-without (is_off id) xs edge.at x.0 x.1.0 (off x.0 x.1.1);
+      less = omega (arith, shorter, same);
+      none = λ r n. ap (first_in r) is ∙ none-without r xs edge.at x.0 x.1.0 n;
+    }
+
+pub reader-off : (id : NodeId) (e : Entry) → by_reader id e ≡ true → is_off id e ≡ false
+reader-off id e t = ap (λ b. not b && not (by_read id e)) t
+
+pub read-off : (id : NodeId) (e : Entry) → by_read id e ≡ true → is_off id e ≡ false
+read-off id e t =
+    ap (λ b. not (by_reader id e) && not b) t ∙ elim (by_reader id e) as (λ b. (not b && false) ≡ false) [ true ↦ refl | false ↦ refl ]
+
+pub set-false : (m : Nodes) (k : ℕ) → map.get (map.insert m k false) k ≡ Some false
+set-false m k = map.get-insert nat_cmp_total m k false k ∙ rw (tied k) refl
+
+-- a node that was marked leaves with its edges
+pub record IsTurn (old m new : Nodes) (before_edges mid after_edges : List Entry) : Type 0 where
+  pub rest : IsRest old new
+  pub less : map.len new + 1 ≡ map.len m
+  pub edges : filter (is_kept old) after_edges ≡ filter (is_kept old) before_edges
+
+pub turn : (old m mid new : Nodes) (id : NodeId) (xs ys zs : List Entry) → IsRest old m → map.get m id.at ≡ Some true → mid ≡ map.insert m id.at false
+    → new ≡ map.remove mid id.at → ys ≡ xs → zs ≡ filter (is_off id) ys → IsTurn old m new xs ys zs
+turn old m mid new id xs ys zs rest t is gone same off =
+    let nodes : new ≡ map.remove (map.insert m id.at false) id.at = gone ∙ ap (λ (x : Nodes). map.remove x id.at) is in
+    let was : map.get old id.at ≡ Some true = was-set old m id.at t (rest id.at) in
+    let len : map.len new ≡ map.len (map.remove (map.insert m id.at false) id.at) = ap map.len nodes in
+    record {
+      rest = subst (IsRest old) (sym nodes) (rest-step old m id.at t rest);
+      less = omega (arith, len, len-step m id.at t);
+      edges = ap (filter (is_kept old)) (off ∙ ap (filter (is_off id)) same) ∙ filter-twice (is_kept old) (is_off id) xs (off-kept old id was);
+    }
