@@ -1,6 +1,6 @@
 -- How the bytes of a line spell its tokens.
-use Rattle.std.specs.Prelude.{◌≡◌, ◌≤◌, ◌*◌, ◌-◌, ◌+◌, ◌^◌, ℕ, Bool, true, false, not, ◌&&◌, ◌||◌, List, [], ◌∷◌, ◌++◌, map, ◌==◌, codes, IsTrue, IsFalse}
-use Rattle.std.specs.List.{list_any, list_all}
+use Rattle.std.specs.Prelude.{◌≡◌, ◌≤◌, ◌*◌, ◌-◌, ◌+◌, ◌^◌, ◌==◌, ℕ, Bool, true, false, not, ◌&&◌, ◌||◌, List, [], ◌∷◌, ◌++◌, map, codes, IsTrue, IsFalse}
+use Rattle.std.specs.List.{list_all}
 use Rattle.std.specs.Int.Digits.{number_from_digits}
 use Rattle.mx_syntax.specs.declared.first.token.Token.{Token}
 use Rattle.mx_syntax.specs.declared.first.token.Token.TheVariants.{Name, Int, If, Else, Plus, Minus, Times, Open, Close, Equals, Compare}
@@ -39,21 +39,19 @@ pub data Lexeme : List ℕ → Token → Type 0 where
   equal : Lexeme (codes "==") (Compare op.Eq)
   unequal : Lexeme (codes "!=") (Compare op.Ne)
 
-abbrev pub is_one_of : List ℕ → ℕ → Bool
-is_one_of bytes b = list_any (λ c. c == b) bytes
-
--- The bytes that may not follow a token directly: with one of them it would be another, longer token, or a number that is none.
+-- The bytes that may not follow a token directly: with one of them it would be another, longer
+-- token, or a number that is none. 46 is the point, 61 is =, and 42 is *.
 abbrev pub goes_on : Token → ℕ → Bool
 goes_on (Name w) b = is_name_byte b
 goes_on If b = is_name_byte b
 goes_on Else b = is_name_byte b
 goes_on (Int n) b = is_name_byte b || b == 46
-goes_on Plus b = is_one_of (codes "=") b
-goes_on Minus b = is_one_of (codes "=") b
-goes_on Times b = is_one_of (codes "*=") b
-goes_on Equals b = is_one_of (codes "=") b
-goes_on (Compare op.Lt) b = is_one_of (codes "=") b
-goes_on (Compare op.Gt) b = is_one_of (codes "=") b
+goes_on Plus b = b == 61
+goes_on Minus b = b == 61
+goes_on Times b = b == 42 || b == 61
+goes_on Equals b = b == 61
+goes_on (Compare op.Lt) b = b == 61
+goes_on (Compare op.Gt) b = b == 61
 goes_on _ b = false
 
 abbrev pub first_is : (ℕ → Bool) → List ℕ → Bool

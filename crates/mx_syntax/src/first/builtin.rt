@@ -1,6 +1,8 @@
 //! The functions that a formula can always call.
 
-ghost use Rattle.std.specs.Prelude.{◌≡◌};
+ghost use Rattle.std.specs.Prelude.{◌≡◌, ◌==◌};
+ghost use Rattle.std.specs.List.{list_any};
+ghost use Rattle.std.specs.Cmp.Lexicographic.{pointwise};
 ghost use Rattle.mx_syntax.specs.Builtin as spec;
 
 const BUILTINS: [&str; 14] = [
@@ -12,5 +14,11 @@ const BUILTINS: [&str; 14] = [
 pub fn is_builtin(word: &[u8]) -> bool
     ensures { result ≡ spec.is_builtin word.now }
 {
-    BUILTINS.iter().any(|builtin| word == builtin.as_bytes())
+    is_among(&BUILTINS, word)
+}
+
+fn is_among(words: &[&str], word: &[u8]) -> bool
+    ensures { result ≡ list_any (λ w. pointwise ◌==◌ word.now w.now) words.now }
+{
+    words.iter().any(|w| word == w.as_bytes())
 }

@@ -7,7 +7,7 @@ ghost use Rattle.std.specs.Char.{is_ascii_digit};
 ghost use Rattle.mx_syntax.specs.Tokens.{number};
 ghost use Rattle.mx_syntax.specs.Tokens as tokens;
 ghost use Rattle.mx_syntax.specs.Lexing as spec;
-ghost use Rattle.mx_syntax.specs.Reading.{Reads};
+ghost use Rattle.mx_syntax.specs.Reading.{Reads, behind};
 
 use crate::expr::CmpOp;
 use crate::first::builtin::is_builtin;
@@ -113,6 +113,7 @@ impl<'a> Bytes<'a> {
     }
 
     /// The mark or the pair of marks that begins with this byte.
+    #[tactic(auto, unfolding(crate::specs::Lexing::mark))]
     fn mark(&mut self, byte: u8) -> Result<Token, FirstRefusal>
         ensures { Reads (spec.mark byte self.old) result self.new }
     {
@@ -198,7 +199,7 @@ impl<'a> Bytes<'a> {
     }
 
     fn skip_byte(&mut self)
-        ensures { self.new ≡ spec.behind self.old }
+        ensures { self.new ≡ behind self.old }
     {
         if let [_, rest @ ..] = self.left {
             self.left = rest;
