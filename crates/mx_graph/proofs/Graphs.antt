@@ -1,8 +1,7 @@
 -- The invariant of a graph, as nodes and edges come.
-use Rattle.std.proofs.Common.{◌≡◌, ◌∙◌, ℕ, ◌+◌, ◌-◌, ◌<◌, count_by, ◌≤◌, Bool, true, false, cond, eqb, List, [], ◌∷◌, ◌++◌, length, Option, Some, None, is_some, IsSome, refl, sym, ap, subst, arith, append_assoc, not, ◌||◌, ◌&&◌}
-use Rattle.std.specs.Prelude.{option_map, IfSome, filter, slice_index_or, nat_le}
+use Rattle.std.proofs.Common.{◌≡◌, ◌∙◌, ℕ, ◌+◌, ◌-◌, ◌<◌, count_by, ◌≤◌, Bool, true, false, cond, eqb, List, [], ◌∷◌, ◌++◌, Option, Some, None, is_some, IsSome, refl, sym, ap, subst, arith, append_assoc, not, ◌||◌}
+use Rattle.std.specs.Prelude.{option_map, filter, slice_index_or, nat_le}
 use Rattle.std.specs.FinMap as map
-use Rattle.std.specs.Ordering.{nat_cmp}
 use Rattle.std.proofs.lemmas.List.{get_or_past}
 use Rattle.std.proofs.lemmas.Bool.{eqb-true, eqb-false, eq-eqb}
 use Rattle.std.proofs.lemmas.Bool.Decides.{nat_tests}
@@ -16,8 +15,8 @@ use Rattle.mx_graph.specs.declared.nodes.Node.{Node}
 use Rattle.mx_graph.specs.declared.graph.ReadGraph.TheInside.{Inside}
 use Rattle.mx_graph.specs.Relation.{Entry, by_reader, by_read, find, after, first_in, last_in, next_in, IsApart, Walks, IsRelation}
 use Rattle.mx_graph.specs.Linked.{ends_in, edge_in}
-use Rattle.mx_graph.specs.Sound.{graph_of, room, is_in, next_of, first_of, HasEdges, AreEnds, GotEdge, HasEnds, HasMark, HasMarks, EachNode, IsClosed, IsSound, with_ends}
-use Rattle.mx_graph.proofs.Lists.{find-append, after-right, miss-front, first-stands, last-stands}
+use Rattle.mx_graph.specs.Sound.{graph_of, room, is_in, HasEdges, AreEnds, GotEdge, HasEnds, HasMark, HasMarks, EachNode, IsSound, with_ends}
+use Rattle.mx_graph.proofs.Lists.{after-right, miss-front, first-stands, last-stands}
 use Rattle.mx_graph.proofs.Neighbours.{ends-pushed-else, find-pushed}
 use Rattle.mx_graph.proofs.Slabs.{IsIn, first-in, next-is-in, entry-of, edge-at}
 use Rattle.mx_graph.proofs.View.{mark, marks-view, graph-edges}

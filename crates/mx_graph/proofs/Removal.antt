@@ -1,5 +1,5 @@
 -- What removal keeps: lists of edges without some of them, and the invariant of a graph.
-use Rattle.std.proofs.Common.{◌≡◌, ◌∙◌, ℕ, ◌+◌, ◌-◌, ◌≤◌, ◌<◌, Bool, true, false, cond, eqb, not, ◌&&◌, List, [], ◌∷◌, ◌++◌, length, Option, Some, None, is_some, IsSome, refl, sym, ap, subst, arith, zero, suc, ◌||◌, ◌⊎◌, inl, inr}
+use Rattle.std.proofs.Common.{◌≡◌, ◌∙◌, ℕ, ◌+◌, ◌-◌, ◌≤◌, ◌<◌, Bool, true, false, cond, eqb, not, ◌&&◌, List, [], ◌∷◌, ◌++◌, length, Option, Some, None, IsSome, refl, sym, ap, subst, arith, zero, suc, ◌||◌, ◌⊎◌, inl, inr}
 use Rattle.std.specs.Prelude.{option_map, filter, nat_le}
 use Rattle.std.specs.Ordering.{nat_cmp, eq_by_cmp}
 use Rattle.std.specs.Cmp.{nat_cmp_total}
@@ -16,10 +16,10 @@ use Rattle.mx_graph.specs.declared.nodes.Node.{Node}
 use Rattle.mx_graph.specs.declared.graph.ReadGraph.TheInside.{Inside}
 use Rattle.mx_graph.specs.Relation.{Entry, Graph, IsRelation, by_reader, by_read, find, before, after, first_in, without, or_else, is_off, is_set, is_marked_in, is_kept, IsApart}
 use Rattle.mx_graph.specs.Linked.{ends_in}
-use Rattle.mx_graph.specs.Sound.{graph_of, room, is_in, next_of, first_of, marks_of, HasEdges, AreEnds, LostEdge, HasEnds, HasMark, HasMarks, EachNode, IsClosed, IsDistinct, IsSound, with_ends, unmarked_at}
+use Rattle.mx_graph.specs.Sound.{graph_of, room, is_in, next_of, first_of, marks_of, HasEdges, AreEnds, LostEdge, HasEnds, HasMark, HasMarks, EachNode, IsSound, with_ends, unmarked_at}
 use Rattle.mx_graph.proofs.Lists.{first-append, first-stands, around}
 use Rattle.mx_graph.proofs.Neighbours.{ends-left-else, find-without}
-use Rattle.mx_graph.proofs.Graphs.{none-some, list-of, node-of, stays-mapped, marks-mapped, KeepsMark, keeps-ends}
+use Rattle.mx_graph.proofs.Graphs.{none-some, list-of, node-of, stays-mapped, marks-mapped, keeps-ends}
 use Rattle.mx_graph.proofs.Slabs.{length-without}
 use Rattle.mx_graph.proofs.View.{mark, marks-view, tied}
 

@@ -1,5 +1,5 @@
 //! The graph of reads.
-ghost use Rattle.std.specs.Prelude.{◌≡◌, ℕ, ◌+◌, ◌<◌, ◌≤◌, List, [], ◌∷◌, ◌++◌, Some, None, IsSome, IfSome, IfOk, IsOk, OnOk, IfNone, filter, true, false, if◌then◌else◌};
+ghost use Rattle.std.specs.Prelude.{◌≡◌, ℕ, ◌+◌, ◌<◌, ◌≤◌, List, [], ◌∷◌, ◌++◌, Some, None, IsSome, IfSome, IfOk, IsOk, OnOk, IfNone, filter, true, false, if◌then◌else◌, IsTrue, ◌↔◌};
 ghost use Rattle.std.specs.FinMap as map;
 ghost use Rattle.mx_graph.specs.Relation.{by_reader, by_read, find, first_in, next_in, IsLive, IsEdge, IsRelation, Walks, no_graph, SameButRoom, without, is_off, is_marked_in, is_kept};
 
@@ -191,6 +191,13 @@ impl ReadGraph {
         ensures spare_edges { self.new.spare_edges ≡ self.old.spare_edges }
     {
         self.nodes.remove(id.at as usize);
+    }
+
+    /// Whether the node is in the graph, as each call with a node asks of its caller.
+    pub fn is_live(&self, id: NodeId) -> bool
+        ensures { IsTrue result ↔ IsLive self.now id }
+    {
+        self.nodes.contains(id.at as usize)
     }
 
     /// Whether the node is marked.

@@ -10,6 +10,8 @@ mod ids;
 mod nodes;
 mod places;
 mod room;
+#[cfg(test)]
+mod tests;
 
 pub use graph::ReadGraph;
 pub use ids::{EdgeId, NoMemory, NodeId};

@@ -1,6 +1,5 @@
-use Rattle.std.proofs.Common.{◌≡◌, ◌∙◌, IsSome, ◌<◌, Some, refl, sym, ap, subst, arith}
-use Rattle.std.specs.FinMap as map
-use Rattle.mx_graph.specs.Relation.{Graph, IsLive, IsEdge, IsRelation, Walks, by_reader, by_read, find, first_in, next_in}
+use Rattle.std.proofs.Common.{◌∙◌, ◌<◌, refl, sym, ap, subst, arith}
+use Rattle.mx_graph.specs.Relation.{Graph}
 use Rattle.mx_graph.proofs.Graphs.{sound-node, room-some}
 use Rattle.mx_graph.proofs.View.{mark, marks-view, insert-view}
 use Rattle.std.specs.Prelude.{option_map}
