@@ -1,0 +1,5 @@
+pub mod Exact
+pub mod Words
+pub mod Rules
+pub mod Lexed
+pub mod Turns
