@@ -1,0 +1,1 @@
+//! Laws over the definitions. Each is proved as what a function ensures that does nothing.
