@@ -50,3 +50,8 @@ key_result text (Params path) = Missing
 key_result text (Exists path) = Missing
 key_result text (Input node) = Missing
 key_result text (Table name) = Missing
+
+-- the cells after a definition: a name that is there keeps its place and takes the formula, and a new name goes last
+abbrev pub define : Text → Label → Formula → Text
+define [] name f = (name, f) ∷ []
+define (c ∷ cs) name f = if same_name name c.0 then (c.0, f) ∷ cs else c ∷ define cs name f
