@@ -3,8 +3,8 @@ use Rattle.std.specs.Prelude.{◌≡◌, ◌⊎◌, ℕ, suc, ◌+◌, ◌≤◌
 use Rattle.mx_value.specs.declared.node.Node.{Node}
 use Rattle.mx_value.specs.declared.value.Value.{Value}
 use Rattle.mx_meaning.specs.declared.event.Reply.{Reply}
-use Rattle.mx_meaning.specs.declared.refusal.EvalRefusal.{EvalRefusal}
-use Rattle.mx_meaning.specs.declared.refusal.EvalRefusal.TheVariants as refusal
+use Rattle.mx_value.specs.declared.refusal.EvalRefusal.{EvalRefusal}
+use Rattle.mx_value.specs.declared.refusal.EvalRefusal.TheVariants as refusal
 use Rattle.mx_meaning.specs.Lists.{Has, Distinct, Disjoint}
 use Rattle.mx_meaning.specs.Model.{Text}
 use Rattle.mx_meaning.specs.Meaning.{Means, Gives, Faults, NoSuch, WrongCount}

@@ -5,8 +5,8 @@ use Rattle.mx_value.specs.declared.value.Value.{Value as Values}
 use Rattle.mx_value.specs.declared.fault.FaultKind.{FaultKind}
 use Rattle.mx_meaning.specs.declared.event.Reply.{Reply}
 use Rattle.mx_meaning.specs.declared.event.Event.{Event}
-use Rattle.mx_meaning.specs.declared.refusal.EvalRefusal.{EvalRefusal}
-use Rattle.mx_meaning.specs.declared.refusal.EvalRefusal.TheVariants as refusal
+use Rattle.mx_value.specs.declared.refusal.EvalRefusal.{EvalRefusal}
+use Rattle.mx_value.specs.declared.refusal.EvalRefusal.TheVariants as refusal
 use Rattle.mx_meaning.specs.Model.{Text}
 use Rattle.mx_meaning.specs.Meaning.{Outcome, Run, Gives, body, Means, Leads}
 use Rattle.mx_meaning.specs.Chains.{LastAsk, IsRing, MeansNothing}

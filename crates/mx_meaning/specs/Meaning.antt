@@ -31,7 +31,7 @@ use Rattle.mx_syntax.specs.declared.stmt.Formula.{Formula}
 use Rattle.mx_meaning.specs.declared.key.Key.{Key}
 use Rattle.mx_meaning.specs.declared.key.Key.TheVariants as key
 use Rattle.mx_meaning.specs.declared.event.Reply.{Reply}
-use Rattle.mx_meaning.specs.declared.event.Read.{Read}
+use Rattle.mx_value.specs.declared.read.Read.{Read}
 use Rattle.mx_meaning.specs.declared.event.Event.{Event}
 use Rattle.mx_meaning.specs.declared.event.Event.TheVariants.{Looked, Asked, Noted}
 use Rattle.mx_meaning.specs.Model.{Text, KeyResult, Missing, CellsHere, FormulaHere, InputHere, key_result, same_name}

@@ -2,8 +2,6 @@
 #![tactic(auto)]
 
 pub mod event;
-pub mod key;
 pub mod kept;
+pub mod key;
 pub mod laws;
-pub mod namespace;
-pub mod refusal;
