@@ -1,0 +1,106 @@
+//! The model text: the cells of the one space Main.
+ghost use Rattle.std.specs.Prelude.{◌≡◌, ◌↔◌, [], Some, length, codes, IsTrue, IfOk, OnOk, OnErr, option_copied};
+ghost use Rattle.std.specs.Map.{lookup};
+ghost use Rattle.mx_meaning.specs.Model.{same_name, main_path, define};
+ghost use Rattle.mx_meaning.specs.Meaning.{path_of};
+
+use indexmap::IndexMap;
+use mx_list::list::List;
+use mx_syntax::stmt::Formula;
+use mx_value::label::Label;
+use mx_value::node::Path;
+use mx_value::value::{Addr, Segment};
+use std::alloc::{AllocError, Global};
+use std::marker::Model;
+
+/// Cells by name, in order of first definition.
+#[derive(Drop)]
+pub struct ModelText {
+    /// The name of the one space, and its path.
+    main: Label,
+    path: Path,
+    cells: IndexMap<Label, Formula>,
+}
+
+impl Model for ModelText {
+    ghost use Rattle.std.specs.Prelude.{◌≡◌, codes};
+    ghost use Rattle.std.specs.Coded.{codes as known};
+    ghost use Rattle.mx_value.specs.contracts.value.Value as value;
+    ghost use Rattle.mx_syntax.specs.contracts.expr.Expr as expr;
+    ghost use Rattle.mx_syntax.specs.contracts.stmt.Stmt as stmt;
+    ghost use Rattle.mx_meaning.specs.Model.{Text, main_path};
+
+    ghost Value = { Text };
+
+    ghost coded = { Prim.hlevel (known, value.the_row.coded, expr.the_row.coded, stmt.the_row.coded) };
+
+    ghost view = { λ t. t.cells.entries };
+
+    ghost invariant = { λ t. (t.main ≡ codes "Main") × (t.path ≡ main_path) };
+}
+
+impl ModelText {
+    pub fn new(alloc: Global) -> Result<ModelText, AllocError>
+        ensures { IfOk result (λ t. t ≡ []) }
+    {
+        let Ok(main) = Label::new(alloc, b"Main") else {
+            return Err(AllocError);
+        };
+        let mut names = Vec::new(alloc);
+        names.push(main.copy()?)?;
+        Ok(ModelText {
+            main,
+            path: List::from_vec(alloc, names)?,
+            cells: IndexMap::new(alloc),
+        })
+    }
+
+    /// The path of the space Main.
+    pub fn path(&self) -> &Path
+        ensures { result.now ≡ main_path }
+    {
+        &self.path
+    }
+
+    /// Whether this is the path of the space Main.
+    pub fn has_path(&self, path: &Path) -> bool
+        ensures { IsTrue result ↔ path.now ≡ main_path }
+    {
+        match path.as_slice() {
+            [name] => name.same(&self.main),
+            _ => false,
+        }
+    }
+
+    /// Whether this is the address of the space Main.
+    pub fn has_space(&self, at: &Addr) -> bool
+        ensures { IsTrue result ↔ path_of at.now ≡ Some main_path }
+    {
+        match at.as_slice() {
+            [Segment::Name(name)] => name.same(&self.main),
+            _ => false,
+        }
+    }
+
+    /// The formula of the cells of this name.
+    pub fn formula(&self, name: &Label) -> Option<&Formula>
+        ensures { option_copied result ≡ lookup (same_name name.now) self.now }
+    {
+        self.cells.get(name)
+    }
+
+    pub fn count(&self) -> usize
+        ensures { result ≡ length self.now }
+    {
+        self.cells.len()
+    }
+
+    /// Defines cells. Cells that are there keep their place.
+    pub fn define(&mut self, name: Label, formula: Formula) -> Result<(), AllocError>
+        ensures ok { OnOk result (self.new ≡ define self.old name formula) }
+        ensures err { OnErr result (self.new ≡ self.old) }
+    {
+        self.cells.insert(name, formula)?;
+        Ok(())
+    }
+}
