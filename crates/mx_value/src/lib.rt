@@ -2,6 +2,7 @@
 #![tactic(auto)]
 
 pub mod copies;
+pub mod equality;
 pub mod fault;
 pub mod fixed;
 pub mod label;
@@ -9,6 +10,7 @@ pub mod name;
 pub mod namespace;
 pub mod nesting;
 pub mod node;
+pub mod normal;
 pub mod plain;
 pub mod read;
 pub mod refusal;
