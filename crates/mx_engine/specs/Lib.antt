@@ -1,1 +1,3 @@
 pub mod Tasks
+pub mod Items
+pub mod Edits

@@ -1,15 +1,16 @@
 -- What the tasks of a run stand for: the rest of the run.
-use Rattle.std.specs.Prelude.{◌≡◌, ℤ, Bool, true, Option, Some, None, ℕ, List, [], ◌∷◌, ◌++◌, map, drop, false}
+use Rattle.std.specs.Prelude.{◌≡◌, ℤ, Bool, true, Option, Some, None, Result, Ok, Err, ℕ, List, [], ◌∷◌, ◌++◌, map, drop, false}
 use Rattle.mx_value.specs.declared.label.Label.{Label}
 use Rattle.mx_value.specs.declared.value.Value.{Value, out-Value}
 use Rattle.mx_value.specs.declared.value.Segment.{Segment}
+use Rattle.mx_value.specs.declared.fault.FaultKind.{FaultKind}
 use Rattle.mx_value.specs.declared.node.Node.{Node}
 use Rattle.mx_value.specs.declared.node.Node.TheVariants.{Cell, Item}
-use Rattle.mx_syntax.specs.declared.stmt.Param.{Param}
 use Rattle.mx_meaning.specs.declared.event.Event.{Event}
-use Rattle.mx_meaning.specs.Model.{Text, main_path}
+use Rattle.mx_meaning.specs.Model.{Text}
 use Rattle.mx_meaning.specs.Meaning.{Run, Ends, Asks, Leads, Env, fits_whole, fault, reading, sum_read, product_read, arm_read, sum_from, product_from, added, multiplied, compared, tested, choice_from, called, cells_in, locals_of, ended}
 use Rattle.mx_meaning.specs.Chains.{asks_of}
+use Rattle.mx_engine.specs.declared.frame.Scope.{Scope}
 use Rattle.mx_engine.specs.declared.frame.Task.{Task}
 use Rattle.mx_engine.specs.declared.frame.Task.TheVariants.{SumFirst, SumRest, ProductFirst, ProductRest, CompareFirst, CompareRest, Test, CallPart, Argument}
 use Rattle.mx_engine.specs.declared.frame.Next.{Next}
@@ -25,9 +26,9 @@ abbrev pub arguments_of : Node → List Value
 arguments_of (Cell at name args) = args
 arguments_of (Item at args) = args
 
--- where the formula of a node in the space Main runs
-abbrev pub env_of : Node → List Param → Env
-env_of n params = record { node = n; at = address_of n; source = main_path; locals = locals_of params (arguments_of n) }
+-- where the formula of a node runs
+abbrev pub env_of : Node → Scope → Env
+env_of n scope = record { node = n; at = address_of n; source = scope.source; locals = locals_of scope.params (arguments_of n) }
 
 -- what a task does with a value, before the tasks that wait for its own
 abbrev pub continued : Task → Env → (Value → Run) → Value → Run
@@ -72,3 +73,8 @@ pub record GoesOnAlone (text : Text) (run : Run) (olds news : List Event) (rest 
 abbrev pub Fitting : ℤ → Option ℤ → Type 0
 Fitting z None = fits_whole z ≡ false
 Fitting z (Some n) = (fits_whole z ≡ true) × (n ≡ z)
+
+-- a value that was computed, or the fault that came of it
+abbrev pub computed : Result Value FaultKind → Env → (Value → Run) → Run
+computed (Ok v) env go = go v
+computed (Err k) env go = fault k env

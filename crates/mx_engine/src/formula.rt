@@ -1,19 +1,21 @@
 //! The run of a formula, step by step, up to its value or to a node that it asks.
 ghost use Rattle.std.specs.Prelude.{◌≡◌, ◌*ℤ◌, ℕ, List as Many, [], ◌∷◌, map, drop, length, nat_eq, Some, None, false, true, IfOk, MatchOption, IsTrue, option_copied};
 ghost use Rattle.mx_meaning.specs.Model.{Text};
-ghost use Rattle.mx_meaning.specs.Meaning.{reading, whole_of, cells_in, sum_from, product_from, choice_from, added, multiplied, compared, given_whole, sum_of, compared_whole, sum_read, product_read, arm_read, local_of, locals_of, sought, called, Env, Run};
-ghost use Rattle.mx_engine.specs.Tasks.{continued, cont, run_at, stopped_at, env_of, arguments_of, GoesOnAlone, Fitting};
-ghost use Rattle.mx_value.specs.declared.value.Value.{out-Value};
+ghost use Rattle.mx_meaning.specs.Meaning.{reading, whole_of, cells_in, sum_from, product_from, choice_from, added, multiplied, compared, given_whole, sum_of, comparison_of, comparison_read, post_of, trailer_read, compared_whole, sum_read, product_read, arm_read, local_of, locals_of, sought, called, Env, Run};
+ghost use Rattle.mx_engine.specs.Tasks.{address_of, continued, cont, run_at, stopped_at, env_of, arguments_of, GoesOnAlone, Fitting, computed};
+ghost use Rattle.mx_value.specs.declared.value.Value.{Value, out-Value};
 
 use crate::copies::copy_expr;
-use crate::frame::{Next, Stop, Task};
+use crate::frame::{Frame, Next, Scope, Stop, Task};
 use crate::text::ModelText;
 use mx_list::items::Items;
 use mx_list::list::List;
 use mx_list::shared::Shared;
 use mx_meaning::event::Event;
 use mx_meaning::key::Key;
-use mx_syntax::expr::{Args, Arm, CmpOp, Comparison, Expr, ProductOp, ProductPart, SumOp, SumPart, Trailer};
+use mx_syntax::expr::{
+    Args, Arm, CmpOp, Comparison, Expr, ProductOp, ProductPart, SumOp, SumPart, Trailer,
+};
 use mx_syntax::stmt::Param;
 use mx_value::fault::FaultKind;
 use mx_value::label::Label;
@@ -55,65 +57,437 @@ fn product_whole(a: i64, b: i64) -> Option<i64>
     a.checked_mul(b)
 }
 
-fn add(op: SumOp, total: &Value, value: &Value) -> Next
-    ensures { (env : Env) (ts : Many Task) → added op total.now value.now env (cont ts env) ≡ run_at result ts env }
+fn add(op: SumOp, total: &Value, value: &Value) -> Result<Value, FaultKind>
+    ensures { (env : Env) (go : Value → Run) → added op total.now value.now env go ≡ computed result env go }
 {
     let Some(a) = whole(total) else {
-        return Next::Fault(FaultKind::TypeMismatch);
+        return Err(FaultKind::TypeMismatch);
     };
     let Some(b) = whole(value) else {
-        return Next::Fault(FaultKind::TypeMismatch);
+        return Err(FaultKind::TypeMismatch);
     };
     match sum_whole(op, a, b) {
-        Some(sum) => Next::Give(Value::Int(sum)),
-        None => Next::Fault(FaultKind::Overflow),
+        Some(sum) => Ok(Value::Int(sum)),
+        None => Err(FaultKind::Overflow),
     }
 }
 
-fn multiply(op: ProductOp, total: &Value, value: &Value) -> Next
-    ensures { (env : Env) (ts : Many Task) → multiplied op total.now value.now env (cont ts env) ≡ run_at result ts env }
+fn multiply(op: ProductOp, total: &Value, value: &Value) -> Result<Value, FaultKind>
+    ensures { (env : Env) (go : Value → Run) → multiplied op total.now value.now env go ≡ computed result env go }
 {
     match op {
         ProductOp::Times => {}
-        ProductOp::Over => return Next::Fault(FaultKind::TypeMismatch),
-        ProductOp::Floor => return Next::Fault(FaultKind::TypeMismatch),
-        ProductOp::Rem => return Next::Fault(FaultKind::TypeMismatch),
+        ProductOp::Over => return Err(FaultKind::TypeMismatch),
+        ProductOp::Floor => return Err(FaultKind::TypeMismatch),
+        ProductOp::Rem => return Err(FaultKind::TypeMismatch),
     }
     let Some(a) = whole(total) else {
-        return Next::Fault(FaultKind::TypeMismatch);
+        return Err(FaultKind::TypeMismatch);
     };
     let Some(b) = whole(value) else {
-        return Next::Fault(FaultKind::TypeMismatch);
+        return Err(FaultKind::TypeMismatch);
     };
     match product_whole(a, b) {
-        Some(product) => Next::Give(Value::Int(product)),
-        None => Next::Fault(FaultKind::Overflow),
+        Some(product) => Ok(Value::Int(product)),
+        None => Err(FaultKind::Overflow),
     }
 }
 
-fn compare(op: CmpOp, left: &Value, right: &Value) -> Next
-    ensures { (env : Env) (ts : Many Task) → compared op left.now right.now env (cont ts env) ≡ run_at result ts env }
+fn compare(op: CmpOp, left: &Value, right: &Value) -> Result<Value, FaultKind>
+    ensures { (env : Env) (go : Value → Run) → compared op left.now right.now env go ≡ computed result env go }
 {
     let Some(a) = whole(left) else {
-        return Next::Fault(FaultKind::TypeMismatch);
+        return Err(FaultKind::TypeMismatch);
     };
     let Some(b) = whole(right) else {
-        return Next::Fault(FaultKind::TypeMismatch);
+        return Err(FaultKind::TypeMismatch);
     };
     compare_whole(op, a, b)
 }
 
-fn compare_whole(op: CmpOp, a: i64, b: i64) -> Next
-    ensures { (env : Env) (ts : Many Task) → compared_whole op a b env (cont ts env) ≡ run_at result ts env }
+fn compare_whole(op: CmpOp, a: i64, b: i64) -> Result<Value, FaultKind>
+    ensures { (env : Env) (go : Value → Run) → compared_whole op a b env go ≡ computed result env go }
 {
     match op {
-        CmpOp::Lt => Next::Give(Value::Flag(a < b)),
-        CmpOp::Le => Next::Give(Value::Flag(a <= b)),
-        CmpOp::Gt => Next::Give(Value::Flag(b < a)),
-        CmpOp::Ge => Next::Give(Value::Flag(b <= a)),
-        CmpOp::Eq => Next::Give(Value::Flag(a <= b && b <= a)),
-        CmpOp::Ne => Next::Give(Value::Flag(!(a <= b && b <= a))),
-        CmpOp::In => Next::Fault(FaultKind::TypeMismatch),
-        CmpOp::NotIn => Next::Fault(FaultKind::TypeMismatch),
+        CmpOp::Lt => Ok(Value::Flag(a < b)),
+        CmpOp::Le => Ok(Value::Flag(a <= b)),
+        CmpOp::Gt => Ok(Value::Flag(b < a)),
+        CmpOp::Ge => Ok(Value::Flag(b <= a)),
+        CmpOp::Eq => Ok(Value::Flag(a <= b && b <= a)),
+        CmpOp::Ne => Ok(Value::Flag(!(a <= b && b <= a))),
+        CmpOp::In => Err(FaultKind::TypeMismatch),
+        CmpOp::NotIn => Err(FaultKind::TypeMismatch),
     }
+}
+
+/// The argument of a parameter.
+fn local(
+    alloc: Global,
+    node: &Node,
+    scope: &Scope,
+    name: &Label,
+) -> Result<Option<Value>, AllocError>
+    ensures { IfOk result (λ v. v ≡ local_of (locals_of scope.now.params (arguments_of node.now)) name.now) }
+{
+    let arguments = arguments(node).as_slice();
+    let params = scope.params.as_slice();
+    for (i, argument) in arguments.iter().enumerate() {
+        if i >= params.len() {
+            return Ok(None);
+        }
+        if params[i].name == *name {
+            return Ok(Some(argument.copy(alloc)?));
+        }
+    }
+    Ok(None)
+}
+
+/// The value of a name: a parameter, or cells of the space Main.
+fn name_value(
+    alloc: Global,
+    text: &ModelText,
+    node: &Node,
+    scope: &Scope,
+    name: Label,
+    events: &mut Items<Event>,
+) -> Result<Next, AllocError>
+    ensures { IfOk result (λ next. (ts : Many Task) → GoesOnAlone text.now (sought (local_of (locals_of scope.now.params (arguments_of node.now)) name) name (env_of node.now scope.now) (cont ts (env_of node.now scope.now))) events.old events.new (run_at next ts (env_of node.now scope.now))) }
+{
+    if let Some(value) = local(alloc, node, scope, &name)? {
+        return Ok(Next::Give(value));
+    }
+    events.push(Event::Looked(Key::Name(scope.source.copy()?, name.copy()?)))?;
+    if let Some(_) = text.formula_at(&scope.source, &name) {
+        return Ok(Next::Give(Value::Cells(CellsAt {
+            space: address(node).copy()?,
+            name,
+        })));
+    }
+    events.push(Event::Looked(Key::Global(name)))?;
+    Ok(Next::Fault(FaultKind::NoName))
+}
+
+fn arguments(node: &Node) -> &Items<Value>
+    ensures { result.now ≡ arguments_of node.now }
+{
+    match node {
+        Node::Cell(_, _, arguments) => arguments,
+        Node::Item(_, arguments) => arguments,
+    }
+}
+
+fn address(node: &Node) -> &Addr
+    ensures { result.now ≡ address_of node.now }
+{
+    match node {
+        Node::Cell(at, _, _) => at,
+        Node::Item(at, _) => at,
+    }
+}
+
+/// A value is called with one argument.
+fn call(
+    alloc: Global,
+    text: &ModelText,
+    value: &Value,
+    argument: Value,
+    events: &mut Items<Event>,
+) -> Result<Next, AllocError>
+    ensures { IfOk result (λ next. (env : Env) (ts : Many Task) → GoesOnAlone text.now (called (cells_in (out-Value value.now)) (argument ∷ []) env (cont ts env)) events.old events.new (run_at next ts env)) }
+{
+    match value {
+        Value::Cells(at) => call_cells(alloc, text, at, argument, events),
+        Value::Nothing => Ok(Next::Fault(FaultKind::NotCallable)),
+        Value::Flag(_) => Ok(Next::Fault(FaultKind::NotCallable)),
+        Value::Int(_) => Ok(Next::Fault(FaultKind::NotCallable)),
+        Value::Fix(_) => Ok(Next::Fault(FaultKind::NotCallable)),
+        Value::Text(_) => Ok(Next::Fault(FaultKind::NotCallable)),
+        Value::Tup(_) => Ok(Next::Fault(FaultKind::NotCallable)),
+        Value::Space(_) => Ok(Next::Fault(FaultKind::NotCallable)),
+        Value::Table(_) => Ok(Next::Fault(FaultKind::NotCallable)),
+    }
+}
+
+/// Cells are called with one argument.
+fn call_cells(
+    alloc: Global,
+    text: &ModelText,
+    at: &CellsAt,
+    argument: Value,
+    events: &mut Items<Event>,
+) -> Result<Next, AllocError>
+    ensures { IfOk result (λ next. (env : Env) (ts : Many Task) → GoesOnAlone text.now (called (Some at.now) (argument ∷ []) env (cont ts env)) events.old events.new (run_at next ts env)) }
+{
+    let Some(source) = text.source_of(alloc, &at.space)? else {
+        return Ok(Next::Fault(FaultKind::TypeMismatch));
+    };
+    events.push(Event::Looked(Key::Cells(source.copy()?, at.name.copy()?)))?;
+    let Some(formula) = text.formula_at(&source, &at.name) else {
+        return Ok(Next::Fault(FaultKind::NotCallable));
+    };
+    if let None = whole(&argument) {
+        return Ok(Next::Fault(FaultKind::TypeMismatch));
+    }
+    if formula.params.len() != 1 {
+        return Ok(Next::Fault(FaultKind::WrongCountInside));
+    }
+    let mut arguments = Vec::new(alloc);
+    arguments.push(argument)?;
+    Ok(Next::Ask(Shared::new(
+        alloc,
+        Node::Cell(
+            at.space.copy()?,
+            at.name.copy()?,
+            Items::from_vec(arguments),
+        ),
+    )?))
+}
+
+/// One step into an expression.
+fn enter(
+    alloc: Global,
+    text: &ModelText,
+    node: &Node,
+    scope: &Scope,
+    expr: Expr,
+    tasks: &mut Vec<Task>,
+    events: &mut Items<Event>,
+) -> Result<Next, AllocError>
+    ensures { IfOk result (λ next. GoesOnAlone text.now (reading expr (env_of node.now scope.now) (cont tasks.old.items (env_of node.now scope.now))) events.old events.new (run_at next tasks.new.items (env_of node.now scope.now))) }
+{
+    match expr {
+        Expr::Lit(value) => Ok(Next::Give(value)),
+        Expr::Name(name) => name_value(alloc, text, node, scope, name, events),
+        Expr::Sum { first, rest } => {
+            tasks.push(Task::SumFirst { rest })?;
+            Ok(Next::Eval(copy_expr(alloc, first.get())?))
+        }
+        Expr::Product { first, rest } => {
+            tasks.push(Task::ProductFirst { rest })?;
+            Ok(Next::Eval(copy_expr(alloc, first.get())?))
+        }
+        Expr::Cond { arms, last } => choose(alloc, arms, 0, last, tasks),
+        Expr::Compare { first, rest } => enter_comparison(alloc, &first, &rest, tasks),
+        Expr::Post { of, trailers } => enter_call(alloc, &of, &trailers, tasks),
+        Expr::Tuple(_) => Ok(Next::Fault(FaultKind::TypeMismatch)),
+        Expr::Or(_) => Ok(Next::Fault(FaultKind::TypeMismatch)),
+        Expr::And(_) => Ok(Next::Fault(FaultKind::TypeMismatch)),
+        Expr::Not { .. } => Ok(Next::Fault(FaultKind::TypeMismatch)),
+        Expr::Signed { .. } => Ok(Next::Fault(FaultKind::TypeMismatch)),
+        Expr::Power { .. } => Ok(Next::Fault(FaultKind::TypeMismatch)),
+    }
+}
+
+fn enter_comparison(
+    alloc: Global,
+    first: &Shared<Expr>,
+    rest: &List<Comparison>,
+    tasks: &mut Vec<Task>,
+) -> Result<Next, AllocError>
+    ensures { IfOk result (λ next. (env : Env) → comparison_of (reading first.now) (map comparison_read rest.now) env (cont tasks.old.items env) ≡ run_at next tasks.new.items env) }
+{
+    match rest.as_slice() {
+        [Comparison::Op(op, right)] => {
+            tasks.push(Task::CompareFirst {
+                op: *op,
+                right: copy_expr(alloc, right)?,
+            })?;
+            Ok(Next::Eval(copy_expr(alloc, first.get())?))
+        }
+        _ => Ok(Next::Fault(FaultKind::TypeMismatch)),
+    }
+}
+
+fn enter_call(
+    alloc: Global,
+    first: &Shared<Expr>,
+    trailers: &List<Trailer>,
+    tasks: &mut Vec<Task>,
+) -> Result<Next, AllocError>
+    ensures { IfOk result (λ next. (env : Env) → post_of (reading first.now) (map trailer_read trailers.now) env (cont tasks.old.items env) ≡ run_at next tasks.new.items env) }
+{
+    let [Trailer::Call(Args::List(arguments))] = trailers.as_slice() else {
+        return Ok(Next::Fault(FaultKind::TypeMismatch));
+    };
+    let [argument] = arguments.as_slice() else {
+        return Ok(Next::Fault(FaultKind::TypeMismatch));
+    };
+    tasks.push(Task::CallPart {
+        argument: copy_expr(alloc, argument)?,
+    })?;
+    Ok(Next::Eval(copy_expr(alloc, first.get())?))
+}
+
+/// The next part of a sum of which the parts before have this total.
+fn sum_next(
+    alloc: Global,
+    total: Value,
+    rest: List<SumPart>,
+    at: usize,
+    tasks: &mut Vec<Task>,
+) -> Result<Next, AllocError>
+    ensures { IfOk result (λ next. (env : Env) → sum_from (map sum_read (drop at rest)) total env (cont tasks.old.items env) ≡ run_at next tasks.new.items env) }
+{
+    let Some(part) = rest.get(at) else {
+        return Ok(Next::Give(total));
+    };
+    let op = part.op;
+    let of = copy_expr(alloc, &part.of)?;
+    tasks.push(Task::SumRest {
+        total,
+        op,
+        rest,
+        next: at + 1,
+    })?;
+    Ok(Next::Eval(of))
+}
+
+/// The next factor of a product of which the factors before give this.
+fn product_next(
+    alloc: Global,
+    total: Value,
+    rest: List<ProductPart>,
+    at: usize,
+    tasks: &mut Vec<Task>,
+) -> Result<Next, AllocError>
+    ensures { IfOk result (λ next. (env : Env) → product_from (map product_read (drop at rest)) total env (cont tasks.old.items env) ≡ run_at next tasks.new.items env) }
+{
+    let Some(part) = rest.get(at) else {
+        return Ok(Next::Give(total));
+    };
+    let op = part.op;
+    let of = copy_expr(alloc, &part.of)?;
+    tasks.push(Task::ProductRest {
+        total,
+        op,
+        rest,
+        next: at + 1,
+    })?;
+    Ok(Next::Eval(of))
+}
+
+/// The next test of a conditional, or its last part.
+fn choose(
+    alloc: Global,
+    arms: List<Arm>,
+    at: usize,
+    last: Shared<Expr>,
+    tasks: &mut Vec<Task>,
+) -> Result<Next, AllocError>
+    ensures { IfOk result (λ next. (env : Env) → choice_from (map arm_read (drop at arms)) (reading last) env (cont tasks.old.items env) ≡ run_at next tasks.new.items env) }
+{
+    let Some(arm) = arms.get(at) else {
+        return Ok(Next::Eval(copy_expr(alloc, last.get())?));
+    };
+    let value = copy_expr(alloc, &arm.value)?;
+    let test = copy_expr(alloc, &arm.test)?;
+    tasks.push(Task::Test {
+        value,
+        arms,
+        next: at + 1,
+        last,
+    })?;
+    Ok(Next::Eval(test))
+}
+
+/// One step of a task that waited for this value.
+fn go_on(
+    alloc: Global,
+    text: &ModelText,
+    task: Task,
+    value: Value,
+    tasks: &mut Vec<Task>,
+    events: &mut Items<Event>,
+) -> Result<Next, AllocError>
+    ensures { IfOk result (λ next. (env : Env) → GoesOnAlone text.now (continued task env (cont tasks.old.items env) value) events.old events.new (run_at next tasks.new.items env)) }
+{
+    match task {
+        Task::SumFirst { rest } => sum_next(alloc, value, rest, 0, tasks),
+        Task::SumRest {
+            total,
+            op,
+            rest,
+            next,
+        } => match add(op, &total, &value) {
+            Ok(total) => sum_next(alloc, total, rest, next, tasks),
+            Err(kind) => Ok(Next::Fault(kind)),
+        },
+        Task::ProductFirst { rest } => product_next(alloc, value, rest, 0, tasks),
+        Task::ProductRest {
+            total,
+            op,
+            rest,
+            next,
+        } => match multiply(op, &total, &value) {
+            Ok(total) => product_next(alloc, total, rest, next, tasks),
+            Err(kind) => Ok(Next::Fault(kind)),
+        },
+        Task::CompareFirst { op, right } => {
+            tasks.push(Task::CompareRest { left: value, op })?;
+            Ok(Next::Eval(right))
+        }
+        Task::CompareRest { left, op } => match compare(op, &left, &value) {
+            Ok(flag) => Ok(Next::Give(flag)),
+            Err(kind) => Ok(Next::Fault(kind)),
+        },
+        Task::Test {
+            value: given,
+            arms,
+            next,
+            last,
+        } => match value {
+            Value::Flag(true) => Ok(Next::Eval(given)),
+            Value::Flag(false) => choose(alloc, arms, next, last, tasks),
+            _ => Ok(Next::Fault(FaultKind::TypeMismatch)),
+        },
+        Task::CallPart { argument } => {
+            tasks.push(Task::Argument { called: value })?;
+            Ok(Next::Eval(argument))
+        }
+        Task::Argument { called } => call(alloc, text, &called, value, events),
+    }
+}
+
+/// Goes on to the value of the run, or to where it asks a node or meets a fault.
+pub fn run_on(
+    alloc: Global,
+    text: &ModelText,
+    node: &Node,
+    frame: &mut Frame,
+    first: Next,
+) -> Result<Stop, AllocError>
+    ensures { IfOk result (λ stop. (frame.new.scope ≡ frame.old.scope) × GoesOnAlone text.now (run_at first frame.old.tasks.items (env_of node.now frame.old.scope)) frame.old.events frame.new.events (stopped_at stop frame.new.tasks.items (env_of node.now frame.old.scope))) }
+{
+    let mut next = first;
+    for _ in 0..u64::MAX {
+        match next {
+            Next::Eval(expr) => {
+                next = enter(
+                    alloc,
+                    text,
+                    node,
+                    &frame.scope,
+                    expr,
+                    &mut frame.tasks,
+                    &mut frame.events,
+                )?;
+            }
+            Next::Give(value) => match frame.tasks.pop() {
+                Some(task) => {
+                    next = go_on(
+                        alloc,
+                        text,
+                        task,
+                        value,
+                        &mut frame.tasks,
+                        &mut frame.events,
+                    )?;
+                }
+                None => return Ok(Stop::Value(value)),
+            },
+            Next::Ask(to) => return Ok(Stop::Ask(to)),
+            Next::Fault(kind) => return Ok(Stop::Fault(kind)),
+        }
+    }
+    Err(AllocError)
 }

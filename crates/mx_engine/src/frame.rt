@@ -6,7 +6,7 @@ use mx_meaning::event::Event;
 use mx_syntax::expr::{Arm, CmpOp, Expr, ProductOp, ProductPart, SumOp, SumPart};
 use mx_syntax::stmt::Param;
 use mx_value::fault::FaultKind;
-use mx_value::node::Node;
+use mx_value::node::{Node, Path};
 use mx_value::value::Value;
 
 /// What waits for the value of an expression, with the values that are already computed.
@@ -62,10 +62,17 @@ pub enum Next {
     Fault(FaultKind),
 }
 
-/// A run of a node: its parameters, what waits in it, and what it has done.
+/// Where a formula runs, beside its node: the path whose names it seeks, and its parameters.
+#[derive(Drop)]
+pub struct Scope {
+    pub source: Path,
+    pub params: List<Param>,
+}
+
+/// A run of a node: where it runs, what waits in it, and what it has done.
 #[derive(Drop)]
 pub struct Frame {
-    pub params: List<Param>,
+    pub scope: Scope,
     pub tasks: Vec<Task>,
     pub events: Items<Event>,
 }

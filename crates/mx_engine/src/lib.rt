@@ -2,7 +2,12 @@
 #![tactic(auto)]
 
 mod copies;
+pub mod edit;
+pub mod engine;
 mod formula;
 pub mod frame;
+mod machine;
 pub mod steps;
+#[cfg(test)]
+mod tests;
 pub mod text;

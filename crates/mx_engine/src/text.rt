@@ -1,7 +1,7 @@
 //! The model text: the cells of the one space Main.
-ghost use Rattle.std.specs.Prelude.{◌≡◌, ◌↔◌, [], Some, length, codes, IsTrue, IfOk, OnOk, OnErr, option_copied};
+ghost use Rattle.std.specs.Prelude.{◌≡◌, ◌↔◌, [], Some, is_some, length, codes, IsTrue, IfOk, OnOk, OnErr, option_copied};
 ghost use Rattle.std.specs.Map.{lookup};
-ghost use Rattle.mx_meaning.specs.Model.{same_name, main_path, define};
+ghost use Rattle.mx_meaning.specs.Model.{same_name, same_path, main_path, define, formula_at};
 ghost use Rattle.mx_meaning.specs.Meaning.{path_of};
 
 use indexmap::IndexMap;
@@ -64,12 +64,9 @@ impl ModelText {
 
     /// Whether this is the path of the space Main.
     pub fn has_path(&self, path: &Path) -> bool
-        ensures { IsTrue result ↔ path.now ≡ main_path }
+        ensures { result ≡ same_path path.now main_path }
     {
-        match path.as_slice() {
-            [name] => name.same(&self.main),
-            _ => false,
-        }
+        *path == self.path
     }
 
     /// Whether this is the address of the space Main.
@@ -82,11 +79,31 @@ impl ModelText {
         }
     }
 
-    /// The formula of the cells of this name.
-    pub fn formula(&self, name: &Label) -> Option<&Formula>
-        ensures { option_copied result ≡ lookup (same_name name.now) self.now }
+    /// The source of the namespace at an address without items: the address's names.
+    pub fn source_of(&self, alloc: Global, at: &Addr) -> Result<Option<Path>, AllocError>
+        ensures { IfOk result (λ p. p ≡ path_of at.now) }
     {
-        self.cells.get(name)
+        if self.has_space(at) {
+            return Ok(Some(self.path.copy()?));
+        }
+        names_of(alloc, at)
+    }
+
+    /// The formula of the cells that a path binds to a name.
+    pub fn formula_at(&self, path: &Path, name: &Label) -> Option<&Formula>
+        ensures { option_copied result ≡ formula_at self.now path.now name.now }
+    {
+        if *path == self.path {
+            return self.cells.get(name);
+        }
+        None
+    }
+
+    /// Whether the space Main has cells of this name.
+    pub fn has_cells(&self, name: &Label) -> bool
+        ensures { result ≡ is_some (lookup (same_name name.now) self.now) }
+    {
+        self.cells.contains_key(name)
     }
 
     pub fn count(&self) -> usize
@@ -103,4 +120,18 @@ impl ModelText {
         self.cells.insert(name, formula)?;
         Ok(())
     }
+}
+
+/// The names of an address without items.
+fn names_of(alloc: Global, at: &Addr) -> Result<Option<Path>, AllocError>
+    ensures { IfOk result (λ p. p ≡ path_of at.now) }
+{
+    let mut names = Vec::new(alloc);
+    for segment in at.as_slice() {
+        match segment {
+            Segment::Name(name) => names.push(name.copy()?)?,
+            Segment::Item(_) => return Ok(None),
+        }
+    }
+    Ok(Some(List::from_vec(alloc, names)?))
 }
