@@ -1,11 +1,16 @@
 -- The parser of a line's bytes reads what the line spells, and no other tokens.
-use Rattle.std.proofs.Common.{◌≡◌, ◌≢◌, ◌==◌, ◌+◌, ◌≤◌, ◌<◌, ◌^◌, ◌&&◌, ◌||◌, ◌⊎◌, ℕ, zero, suc, Bool, true, false, not, cond, nat_le, codes, List, [], ◌∷◌, ◌++◌, length, take, drop, Option, Some, None, refl, sym, ap, subst, ◌∙◌, append_assoc, arith, inl, inr}
+use Rattle.std.proofs.Common.{◌≡◌, ◌≢◌, ◌==◌, ◌+◌, ◌*◌, ◌≤◌, ◌<◌, ◌^◌, ◌&&◌, ◌||◌, ◌⊎◌, ℕ, zero, suc, Bool, true, false, not, cond, nat_le, nat_lt, codes, map, Err, ◌-◌, drop-cons, List, [], ◌∷◌, ◌++◌, length, get_or, take, drop, Option, Some, None, refl, sym, ap, subst, ◌∙◌, append_assoc, arith, inl, inr}
 use Rattle.std.specs.List.{list_all, prefix_len}
 use Rattle.std.specs.Char.{is_ascii_alphabetic, is_ascii_digit}
 use Rattle.std.specs.Cmp.Lexicographic.{pointwise}
 use Rattle.std.proofs.lemmas.List.{append-nil, length-append, take-append-drop}
 use Rattle.std.proofs.lemmas.Bool.Decides.{nat_tests}
-use Rattle.mx_value.specs.Label.{is_printable}
+use Rattle.std.specs.Int.Digits.{number_from_digits_after}
+use Rattle.std.proofs.lemmas.List.Sums.{prefix_len-le-length}
+use Rattle.std.specs.Prelude.{IsOkUnless, IsErrOf, MatchOption, IsTrue, Result}
+use Rattle.mx_value.specs.declared.label.LabelRefusal.{LabelRefusal}
+use Rattle.mx_value.specs.declared.label.LabelRefusal.TheVariants as LabelRefusals
+use Rattle.mx_value.specs.Label.{is_printable, first_unprintable}
 use Rattle.mx_value.specs.Name.{is_name, is_name_byte, is_spelled, is_keyword}
 use Rattle.mx_syntax.specs.Builtin.{is_builtin}
 use Rattle.mx_syntax.specs.declared.first.token.Token.{Token}
@@ -15,6 +20,7 @@ use Rattle.mx_syntax.specs.Tokens.{Lexeme, Line, first_is, goes_on, is_decimal, 
 use Rattle.mx_syntax.specs.Reading.{Outcome, Parser, and_then, ◌>>=◌, pure, refuse, sees, behind, choose}
 use Rattle.mx_syntax.specs.Lexing.{Bytes, one, begins, paired, unequal, mark, word_by, word, integer_by, integer, marked, lexeme, apart, token, at_end, is_space, line_by, line}
 use Rattle.mx_syntax.proofs.Words.{same_is}
+use Rattle.mx_syntax.proofs.Turns.{after, after_more}
 
 abbrev pub read : {A : Type 0} → A → Bytes → Outcome ℕ A
 read a bs = Some (a, bs)
@@ -27,7 +33,7 @@ bind_bytes None f b rest e = absurd cc
 pub byte_pair : {A : Type 0} {a b : A} {x y : Bytes} → read a x ≡ read b y → (a ≡ b) × (x ≡ y)
 byte_pair {A} {a} {b} {x} {y} e = let p : (a, x) ≡ (b, y) = cc in (ap (λ (q : A × Bytes). q.0) p, ap (λ (q : A × Bytes). q.1) p)
 
-chosen : {A : Type 0} (b : Bool) (x y : A) (r : A) → cond b x y ≡ r → ((b ≡ true) × (x ≡ r)) ⊎ ((b ≡ false) × (y ≡ r))
+pub chosen : {A : Type 0} (b : Bool) (x y : A) (r : A) → cond b x y ≡ r → ((b ≡ true) × (x ≡ r)) ⊎ ((b ≡ false) × (y ≡ r))
 chosen true x y r e = inl (refl, e)
 chosen false x y r e = inr (refl, e)
 
@@ -35,7 +41,7 @@ pub both_true : (a b : Bool) → (a && b) ≡ true → (a ≡ true) × (b ≡ tr
 both_true true b h = (refl, h)
 both_true false b h = absurd cc
 
-both : (a b : Bool) → a ≡ true → b ≡ true → (a && b) ≡ true
+pub both : (a b : Bool) → a ≡ true → b ≡ true → (a && b) ≡ true
 both a b h k = ap (λ (c : Bool). c && b) h ∙ k
 
 not_true : (b : Bool) → not b ≡ true → b ≡ false
@@ -88,7 +94,7 @@ integer_cut ds bs rest t e = elim (chosen (is_decimal ds && nat_le (number ds) (
 ]
 
 -- a byte that passes a test for one byte
-is_byte : (b k : ℕ) → (b == k) ≡ true → b ≡ k
+pub is_byte : (b k : ℕ) → (b == k) ≡ true → b ≡ k
 is_byte b k h = grind (arith, nat_tests, h)
 
 begins_with : (k : ℕ) (bs : Bytes) → begins k bs ≡ true → bs ≡ k ∷ behind bs
@@ -341,17 +347,17 @@ line_is bs = step_same (line_by (length bs)) line bs (λ rest lt. fuel_same (len
 pub line_ended : (bs : Bytes) → at_end bs ≡ true → line bs ≡ Some ([], bs)
 line_ended bs h = line_is bs ∙ ap (λ (c : Bool). cond c (Some ([], bs)) (cond (sees is_space bs) (line (behind bs)) ((token >>= λ t. line >>= λ ts. pure (t ∷ ts)) bs))) h
 
-pub line_spaced : (b : ℕ) (bs : Bytes) → (b == 10) ≡ false → (b == 32) ≡ true → line (b ∷ bs) ≡ line bs
-line_spaced b bs h k =
-    line_is (b ∷ bs)
-    ∙ ap (λ (c : Bool). cond c (Some ([], b ∷ bs)) (cond (b == 32) (line bs) ((token >>= λ t. line >>= λ ts. pure (t ∷ ts)) (b ∷ bs)))) h
-    ∙ ap (λ (c : Bool). cond c (line bs) ((token >>= λ t. line >>= λ ts. pure (t ∷ ts)) (b ∷ bs))) k
+pub line_spaced : (bs : Bytes) → at_end bs ≡ false → sees is_space bs ≡ true → line bs ≡ line (behind bs)
+line_spaced bs h k =
+    line_is bs
+    ∙ ap (λ (c : Bool). cond c (Some ([], bs)) (cond (sees is_space bs) (line (behind bs)) ((token >>= λ t. line >>= λ ts. pure (t ∷ ts)) bs))) h
+    ∙ ap (λ (c : Bool). cond c (line (behind bs)) ((token >>= λ t. line >>= λ ts. pure (t ∷ ts)) bs)) k
 
-pub line_more : (b : ℕ) (bs : Bytes) → (b == 10) ≡ false → (b == 32) ≡ false → line (b ∷ bs) ≡ and_then (token (b ∷ bs)) (λ t. line >>= λ ts. pure (t ∷ ts))
-line_more b bs h k =
-    line_is (b ∷ bs)
-    ∙ ap (λ (c : Bool). cond c (Some ([], b ∷ bs)) (cond (b == 32) (line bs) ((token >>= λ t. line >>= λ ts. pure (t ∷ ts)) (b ∷ bs)))) h
-    ∙ ap (λ (c : Bool). cond c (line bs) ((token >>= λ t. line >>= λ ts. pure (t ∷ ts)) (b ∷ bs))) k
+pub line_more : (bs : Bytes) → at_end bs ≡ false → sees is_space bs ≡ false → line bs ≡ and_then (token bs) (λ t. line >>= λ ts. pure (t ∷ ts))
+line_more bs h k =
+    line_is bs
+    ∙ ap (λ (c : Bool). cond c (Some ([], bs)) (cond (sees is_space bs) (line (behind bs)) ((token >>= λ t. line >>= λ ts. pure (t ∷ ts)) bs))) h
+    ∙ ap (λ (c : Bool). cond c (line (behind bs)) ((token >>= λ t. line >>= λ ts. pure (t ∷ ts)) bs)) k
 
 pub record LineCut (bs rest : Bytes) (ts : List Token) : Type 0 where
   pub used : Bytes
@@ -415,13 +421,126 @@ free_whole t (b ∷ v) rest h k = h
 
 pub line_read : (u rest : Bytes) (ts : List Token) → Line u ts → at_end rest ≡ true → line (u ++ rest) ≡ Some (ts, rest)
 line_read _ rest _ Line.ended k = line_ended rest k
-line_read _ rest ts (Line.space {u} h) k = line_spaced 32 (u ++ rest) refl refl ∙ line_read u rest ts h k
+line_read _ rest ts (Line.space {u} h) k = line_spaced (32 ∷ (u ++ rest)) refl refl ∙ line_read u rest ts h k
 line_read _ rest _ (Line.token {u} {v} {t} {ts} h free others) k =
     let b = lexeme_begins u t h in
     let regrouped : (u ++ v) ++ rest ≡ b.head ∷ (b.tail ++ (v ++ rest)) = append_assoc u v rest ∙ ap (λ (x : Bytes). x ++ (v ++ rest)) b.is in
     let back : b.head ∷ (b.tail ++ (v ++ rest)) ≡ u ++ (v ++ rest) = ap (λ (x : Bytes). x ++ (v ++ rest)) (sym b.is) in
     ap line regrouped
-    ∙ line_more b.head (b.tail ++ (v ++ rest)) b.no_end b.no_space
+    ∙ line_more (b.head ∷ (b.tail ++ (v ++ rest))) b.no_end b.no_space
     ∙ ap (λ (x : Bytes). and_then (token x) (λ t. line >>= λ ts. pure (t ∷ ts))) back
     ∙ ap (λ (o : Outcome ℕ Token). and_then o (λ t. line >>= λ ts. pure (t ∷ ts))) (token_read u (v ++ rest) t h (free_whole t v rest free k))
     ∙ ap (λ (o : Outcome ℕ (List Token)). and_then o (λ ts. pure (t ∷ ts))) (line_read v rest ts others k)
+
+-- ---- fronts
+
+front_step : (is : ℕ → Bool) (x : ℕ) (xs : Bytes) (b : Bool) → is x ≡ b → list_all is (take (prefix_len is xs) xs) ≡ true → list_all is (take (cond b (1 + prefix_len is xs) 0) (x ∷ xs)) ≡ true
+front_step is x xs true h ih =
+    ap (λ (n : ℕ). list_all is (take n (x ∷ xs))) (let n : 1 + prefix_len is xs ≡ suc (prefix_len is xs) = omega arith in n)
+    ∙ both (is x) (list_all is (take (prefix_len is xs) xs)) h ih
+front_step is x xs false h ih = refl
+
+pub front_passes : (is : ℕ → Bool) (xs : Bytes) → list_all is (take (prefix_len is xs) xs) ≡ true
+front_passes is [] = refl
+front_passes is (x ∷ xs) = front_step is x xs (is x) refl (front_passes is xs)
+
+passes_printable : (b : ℕ) → is_name_byte b ≡ true → not (not (is_printable b)) ≡ true
+passes_printable b h = grind (arith, nat_tests, h)
+
+whole_front : (w : Bytes) → list_all is_name_byte w ≡ true → prefix_len (λ b. not (not (is_printable b))) w ≡ length w
+whole_front [] h = refl
+whole_front (b ∷ w) h =
+    let p = both_true (is_name_byte b) (list_all is_name_byte w) h in
+    ap (λ (c : Bool). cond c (1 + prefix_len (λ b. not (not (is_printable b))) w) 0) (passes_printable b p.0)
+    ∙ (let ih = whole_front w p.1 in let n : 1 + prefix_len (λ b. not (not (is_printable b))) w ≡ suc (length w) = omega (arith, ih) in n)
+
+-- a word is printable
+pub no_unprintable : (w : Bytes) → list_all is_name_byte w ≡ true → first_unprintable w ≡ None
+no_unprintable w h = ap (λ (n : ℕ). cond (nat_lt n (length w)) (Some n) None) (whole_front w h) ∙ not_below (length w)
+  where
+    not_below : (n : ℕ) → cond (nat_lt n n) (Some n) None ≡ None
+    not_below n = ap (λ (c : Bool). cond c (Some n) None) (let e : nat_lt n n ≡ false = grind (arith, nat_tests) in e)
+
+pub grows : (n : ℕ) (ds : Bytes) → n ≤ number_from_digits_after 10 n ds
+grows n [] = omega arith
+grows n (d ∷ ds) = let ih = grows (n * 10 + d) ds in omega (arith, ih)
+
+pub front_within : (is : ℕ → Bool) (xs : Bytes) → prefix_len is xs ≤ length xs
+front_within is xs = prefix_len-le-length is xs
+
+-- ---- turns of the loop over a line
+
+pub lost_byte : (bs : Bytes) → sees is_space bs ≡ true → length (behind bs) < length bs
+lost_byte [] h = absurd cc
+lost_byte (b ∷ bs) h = omega arith
+
+pub spaced_turn : (front : List Token) (bs : Bytes) (total : Outcome ℕ (List Token)) → at_end bs ≡ false → sees is_space bs ≡ true → after front (line bs) ≡ total → after front (line (behind bs)) ≡ total
+spaced_turn front bs total h k so_far = ap (after front) (sym (line_spaced bs h k)) ∙ so_far
+
+pub token_turn : (front : List Token) (bs mid : Bytes) (t : Token) (total : Outcome ℕ (List Token)) → at_end bs ≡ false → sees is_space bs ≡ false → token bs ≡ Some (t, mid) → after front (line bs) ≡ total → after (front ++ t ∷ []) (line mid) ≡ total
+token_turn front bs mid t total h k e so_far =
+    after_more front t (line mid)
+    ∙ ap (after front) (sym (line_more bs h k ∙ ap (λ (o : Outcome ℕ Token). and_then o (λ t. line >>= λ ts. pure (t ∷ ts))) e))
+    ∙ so_far
+
+pub token_fails : (front : List Token) (bs : Bytes) (total : Outcome ℕ (List Token)) → at_end bs ≡ false → sees is_space bs ≡ false → token bs ≡ None → after front (line bs) ≡ total → total ≡ None
+token_fails front bs total h k e so_far = sym so_far ∙ ap (after front) (line_more bs h k ∙ ap (λ (o : Outcome ℕ Token). and_then o (λ t. line >>= λ ts. pure (t ∷ ts))) e)
+
+pub line_done : (front : List Token) (bs : Bytes) (total : Outcome ℕ (List Token)) → at_end bs ≡ true → after front (line bs) ≡ total → total ≡ Some (front, bs)
+line_done front bs total h so_far = sym so_far ∙ ap (after front) (line_ended bs h) ∙ ap (λ (xs : List Token). read xs bs) (append-nil front)
+
+-- ---- decimal digits
+
+pub one_digit : (ds : Bytes) → list_all is_ascii_digit ds ≡ true → length ds ≡ 1 → is_decimal ds ≡ true
+one_digit [] h n = absurd (omega (arith, n))
+one_digit (d ∷ []) h n = (both_true (is_ascii_digit d) true h).0
+one_digit (d ∷ e ∷ ds) h n = absurd (omega (arith, n))
+
+last_true : (b : Bool) → (b && true) ≡ b
+last_true true = refl
+last_true false = refl
+
+pub more_digits : (ds : Bytes) → list_all is_ascii_digit ds ≡ true → 1 < length ds → is_decimal ds ≡ not (get_or ds 0 0 == 48)
+more_digits [] h n = absurd (omega (arith, n))
+more_digits (d ∷ []) h n = absurd (omega (arith, n))
+more_digits (d ∷ e ∷ ds) h n =
+    let p = both_true (is_ascii_digit d) (list_all is_ascii_digit (e ∷ ds)) h in
+    ap (λ (c : Bool). (c && not (d == 48)) && list_all is_ascii_digit (e ∷ ds)) p.0
+    ∙ ap (λ (c : Bool). not (d == 48) && c) p.1
+    ∙ last_true (not (d == 48))
+
+pub no_digit : (ds : Bytes) → length ds ≡ 0 → is_decimal ds ≡ false
+no_digit [] n = refl
+no_digit (d ∷ ds) n = absurd (omega (arith, n))
+
+pub integer_some : (ds rest : Bytes) → is_decimal ds ≡ true → number ds ≤ 2 ^ 63 → integer_by ds rest ≡ Some (Int (number ds), rest)
+integer_some ds rest h le =
+    let small : nat_le (number ds) (2 ^ 63) ≡ true = grind (arith, nat_tests, le) in
+    ap (λ (c : Bool). cond c (one (Int (number ds)) rest) None) (both (is_decimal ds) (nat_le (number ds) (2 ^ 63)) h small)
+
+pub integer_large : (ds rest : Bytes) → is_decimal ds ≡ true → (number ds ≤ 2 ^ 63 → ⊥) → integer_by ds rest ≡ None
+integer_large ds rest h large =
+    let big : nat_le (number ds) (2 ^ 63) ≡ false = large_by (nat_le (number ds) (2 ^ 63)) refl in
+    ap (λ (c : Bool). cond (c && nat_le (number ds) (2 ^ 63)) (one (Int (number ds)) rest) None) h
+    ∙ ap (λ (c : Bool). cond c (one (Int (number ds)) rest) None) big
+  where
+    large_by : (b : Bool) → nat_le (number ds) (2 ^ 63) ≡ b → b ≡ false
+    large_by true e = absurd (large (let n : number ds ≤ 2 ^ 63 = grind (arith, nat_tests, e) in n))
+    large_by false e = refl
+
+pub integer_not : (ds rest : Bytes) → is_decimal ds ≡ false → integer_by ds rest ≡ None
+integer_not ds rest h = ap (λ (c : Bool). cond (c && nat_le (number ds) (2 ^ 63)) (one (Int (number ds)) rest) None) h
+
+pub digit_step : (value i : ℕ) (ds : Bytes) (total : ℕ) → i < length ds → number_from_digits_after 10 value (map (λ d. d - 48) (drop i ds)) ≡ total → value * 10 + (get_or ds i 0 - 48) ≤ total
+digit_step value i ds total lt e =
+    let next : drop i ds ≡ get_or ds i 0 ∷ drop (i + 1) ds = drop-cons ds i 0 lt in
+    let ge = grows (value * 10 + (get_or ds i 0 - 48)) (map (λ d. d - 48) (drop (i + 1) ds)) in
+    let same = ap (λ (x : Bytes). number_from_digits_after 10 value (map (λ d. d - 48) x)) (sym next) ∙ e in
+    subst (λ (n : ℕ). value * 10 + (get_or ds i 0 - 48) ≤ n) same ge
+
+printable_by : (w : Bytes) (r : Result Bytes LabelRefusal) (place : ℕ) (o : Option ℕ) → o ≡ None → MatchOption o (IsOkUnless r LabelRefusals.NoMemory) (λ p. IsErrOf r (LabelRefusals.NotPrintable p)) → r ≡ Err (LabelRefusals.NotPrintable place) → ⊥
+printable_by w r place None none exact is = let h = subst (λ q. IsOkUnless q LabelRefusals.NoMemory) is exact in absurd (let e : LabelRefusals.NotPrintable place ≡ LabelRefusals.NoMemory = h in cc)
+printable_by w r place (Some p) none exact is = absurd cc
+
+pub printable_label : (w : Bytes) (r : Result Bytes LabelRefusal) (place : ℕ) → IsTrue (list_all is_name_byte w) → MatchOption (first_unprintable w) (IsOkUnless r LabelRefusals.NoMemory) (λ p. IsErrOf r (LabelRefusals.NotPrintable p)) → r ≡ Err (LabelRefusals.NotPrintable place) → ⊥
+printable_label w r place h exact is = printable_by w r place (first_unprintable w) (no_unprintable w h) exact is

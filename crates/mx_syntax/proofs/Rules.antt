@@ -94,7 +94,7 @@ only_else = record { here = refl; alone = alone_else }
 
 -- a name, an operator, a comparison
 
-accepted : {A : Type 0} (says : Token → Option A) (ts rest : Tokens) (a : A) → accept says ts ≡ Some (a, rest) → (t : Token) × (ts ≡ t ∷ rest) × (says t ≡ Some a)
+pub accepted : {A : Type 0} (says : Token → Option A) (ts rest : Tokens) (a : A) → accept says ts ≡ Some (a, rest) → (t : Token) × (ts ≡ t ∷ rest) × (says t ≡ Some a)
 accepted says [] rest a e = absurd cc
 accepted says (t ∷ ts) rest a e = let p = taken_some ts (says t) a rest e in (t, ap (λ (x : Tokens). t ∷ x) p.1, p.0)
 
@@ -123,12 +123,12 @@ after_sum = or is_sum_op after_product
 abbrev pub after_whole : Kinds
 after_whole = or is_if after_sum
 
-sum_op_off : (t : Token) → is_sum_op t ≡ true → after_product t ≡ false
+pub sum_op_off : (t : Token) → is_sum_op t ≡ true → after_product t ≡ false
 sum_op_off Plus h = refl
 sum_op_off Minus h = refl
 sum_op_off _ h = absurd cc
 
-if_off : (t : Token) → is_if t ≡ true → after_sum t ≡ false
+pub if_off : (t : Token) → is_if t ≡ true → after_sum t ≡ false
 if_off If h = refl
 if_off _ h = absurd cc
 
@@ -248,10 +248,10 @@ module _ (p : List ℕ) (In : Rel Expr) (inner : Parser Token Expr) (i : Exact a
   unfolding factor
   factor_complete _ rest _ (ProductTail.times {u} {x} h) = ap (λ (o : Outcome Token Expr). and_then o (λ x. pure (timed x))) (atom_complete u rest x h)
 
-  factor_exact : Exact none (ProductTail p In) (factor p inner)
+  pub factor_exact : Exact none (ProductTail p In) (factor p inner)
   factor_exact = record { sound = factor_sound; complete = λ u rest y h s. factor_complete u rest y h }
 
-  factor_begins : (u rest : Tokens) (y : ProductPart) → ProductTail p In u y → sees is_times (u ++ rest) ≡ true
+  pub factor_begins : (u rest : Tokens) (y : ProductPart) → ProductTail p In u y → sees is_times (u ++ rest) ≡ true
   factor_begins _ rest _ (ProductTail.times h) = refl
 
   product_to : (left right : Tokens) (x : Expr) (ys : List ProductPart) → Atom p In left x → Parts (ProductTail p In) right ys → Product p In (left ++ right) (product_of x ys)
@@ -302,10 +302,10 @@ module _ (p : List ℕ) (In : Rel Expr) (inner : Parser Token Expr) (i : Exact a
   sum_part_complete _ rest _ (SumTail.plus {u} {x} h) s = ap (λ (o : Outcome Token Expr). and_then o (λ x. pure (summed sums.Plus x))) (product_exact.complete u rest x h s)
   sum_part_complete _ rest _ (SumTail.minus {u} {x} h) s = ap (λ (o : Outcome Token Expr). and_then o (λ x. pure (summed sums.Minus x))) (product_exact.complete u rest x h s)
 
-  sum_part_exact : Exact after_product (SumTail p In) (sum_part p inner)
+  pub sum_part_exact : Exact after_product (SumTail p In) (sum_part p inner)
   sum_part_exact = record { sound = sum_part_sound; complete = sum_part_complete }
 
-  sum_part_begins : (u rest : Tokens) (y : SumPart) → SumTail p In u y → sees is_sum_op (u ++ rest) ≡ true
+  pub sum_part_begins : (u rest : Tokens) (y : SumPart) → SumTail p In u y → sees is_sum_op (u ++ rest) ≡ true
   sum_part_begins _ rest _ (SumTail.plus h) = refl
   sum_part_begins _ rest _ (SumTail.minus h) = refl
 
@@ -394,10 +394,10 @@ module _ (p : List ℕ) (In : Rel Expr) (inner : Parser Token Expr) (i : Exact a
       ∙ ap (λ (o : Outcome Token Expr). and_then o otherwise) (test_complete h.tested (Else ∷ (h.other ++ rest)) c.0 h.test_is refl)
       ∙ ap (λ (o : Outcome Token Expr). and_then o (λ v. pure (c.0, v))) (sum_exact.complete h.other rest c.1 h.value_is s)
 
-  choice_exact : Exact after_sum Choice (choice p inner)
+  pub choice_exact : Exact after_sum Choice (choice p inner)
   choice_exact = record { sound = choice_sound; complete = choice_complete }
 
-  choice_begins : (u rest : Tokens) (c : Expr × Expr) → Choice u c → sees is_if (u ++ rest) ≡ true
+  pub choice_begins : (u rest : Tokens) (c : Expr × Expr) → Choice u c → sees is_if (u ++ rest) ≡ true
   choice_begins u rest c h = ap (λ (v : Tokens). sees is_if (v ++ rest)) h.parts
 
   choices_to : (left right : Tokens) (x : Expr) (ps : List (Expr × Expr)) → Sum p In left x → Parts Choice right ps → Choices p In (left ++ right) (arms_of x ps) (last_of x ps)
@@ -405,8 +405,8 @@ module _ (p : List ℕ) (In : Rel Expr) (inner : Parser Token Expr) (i : Exact a
   choices_to left _ x _ h (Parts.more {u} {v} {x = c} {xs = ps} one others) =
       let rest = choices_to one.other v c.1 ps one.value_is others in
       let same : left ++ (u ++ v) ≡ left ++ If ∷ one.tested ++ Else ∷ (one.other ++ v) =
-          ap (λ (w : Tokens). left ++ (w ++ v)) one.parts ∙ ap (λ (w : Tokens). left ++ If ∷ w) (append_assoc one.tested (Else ∷ one.other) v)
-          ∙ sym (append_assoc left (If ∷ one.tested) (Else ∷ (one.other ++ v))) in
+      ap (λ (w : Tokens). left ++ (w ++ v)) one.parts ∙ ap (λ (w : Tokens). left ++ If ∷ w) (append_assoc one.tested (Else ∷ one.other) v)
+      ∙ sym (append_assoc left (If ∷ one.tested) (Else ∷ (one.other ++ v))) in
       subst (λ (w : Tokens). Choices p In w (arms_of x (c ∷ ps)) (last_of x (c ∷ ps))) (sym same) (Choices.arm h one.test_is rest)
 
   whole_by : (u : Tokens) (arms : List Arm) (x : Expr) → Choices p In u arms x → Whole p In u (cond_by arms x)

@@ -7,7 +7,7 @@ ghost use Rattle.std.specs.Char.{is_ascii_digit};
 ghost use Rattle.mx_syntax.specs.Tokens.{number};
 ghost use Rattle.mx_syntax.specs.Tokens as tokens;
 ghost use Rattle.mx_syntax.specs.Lexing as spec;
-ghost use Rattle.mx_syntax.specs.Reading.{Reads, behind};
+ghost use Rattle.mx_syntax.specs.Reading.{Reads, behind, sees};
 
 use crate::expr::CmpOp;
 use crate::first::builtin::is_builtin;
@@ -53,6 +53,20 @@ fn digits_len(bytes: &[u8]) -> usize
         len += 1;
     }
     len
+}
+
+/// Whether these digits are a decimal number: 0, or no leading zero.
+fn is_decimal(digits: &[u8]) -> bool
+    requires { IsTrue (list_all is_ascii_digit digits.now) }
+    ensures { result ≡ tokens.is_decimal digits.now }
+{
+    if digits.is_empty() {
+        return false;
+    }
+    if digits.len() == 1 {
+        return true;
+    }
+    digits[0] != b'0'
 }
 
 /// The number that these digits write, where a token can hold it.
@@ -141,6 +155,7 @@ impl<'a> Bytes<'a> {
         }
     }
 
+    #[tactic(auto, unfolding(crate::specs::Lexing::word))]
     fn word(&mut self, alloc: Global) -> Result<Token, FirstRefusal>
         ensures { Reads (spec.word self.old) result self.new }
     {
@@ -164,15 +179,16 @@ impl<'a> Bytes<'a> {
     {
         let (digits, rest) = self.left.split_at(digits_len(self.left));
         self.left = rest;
-        if digits.len() > 1 && digits[0] == b'0' {
+        if !is_decimal(digits) {
             return Err(FirstRefusal::NotBuilt);
         }
-        match value_of(digits) {
-            Some(value) => Ok(Token::Int(value)),
-            None => Err(FirstRefusal::NotBuilt),
-        }
+        let Some(value) = value_of(digits) else {
+            return Err(FirstRefusal::NotBuilt);
+        };
+        Ok(Token::Int(value))
     }
 
+    #[tactic(auto, unfolding(crate::specs::Lexing::lexeme))]
     fn lexeme(&mut self, alloc: Global) -> Result<Token, FirstRefusal>
         ensures { Reads (spec.lexeme self.old) result self.new }
     {
@@ -188,6 +204,7 @@ impl<'a> Bytes<'a> {
     }
 
     /// The next token, which no byte behind it makes another one.
+    #[tactic(auto, unfolding(crate::specs::Lexing::token))]
     fn token(&mut self, alloc: Global) -> Result<Token, FirstRefusal>
         ensures { Reads (spec.token self.old) result self.new }
     {
@@ -195,6 +212,25 @@ impl<'a> Bytes<'a> {
         match self.left {
             [byte, ..] if goes_on(&token, *byte) => Err(FirstRefusal::NotBuilt),
             _ => Ok(token),
+        }
+    }
+
+    /// Whether the line ends here.
+    fn at_end(&self) -> bool
+        ensures { result ≡ spec.at_end self.now }
+    {
+        match self.left {
+            [] => true,
+            [byte, ..] => *byte == b'\n',
+        }
+    }
+
+    fn sees_space(&self) -> bool
+        ensures { result ≡ sees spec.is_space self.now }
+    {
+        match self.left {
+            [] => false,
+            [byte, ..] => *byte == b' ',
         }
     }
 
@@ -211,12 +247,12 @@ impl<'a> Bytes<'a> {
         ensures { Reads (spec.line self.old) result self.new }
     {
         let mut tokens = Items::new(alloc);
-        while let [byte, ..] = self.left {
-            match *byte {
-                b'\n' => break,
-                b' ' => self.skip_byte(),
-                _ => tokens.push(self.token(alloc)?)?,
+        while !self.at_end() {
+            if self.sees_space() {
+                self.skip_byte();
+                continue;
             }
+            tokens.push(self.token(alloc)?)?;
         }
         Ok(tokens)
     }
