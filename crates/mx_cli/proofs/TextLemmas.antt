@@ -51,6 +51,11 @@ module _ {X : Type 0} (f : X → Text) where
   address_more out xs i x some lt is =
       address_by out (take i xs) x (omega (arith, length-take i xs)) ∙ ap (λ (ts : List Text). out ++ address_of ts) (sym (map_next xs i x lt is))
 
+  pub address_step : (first : Bool) (out : Text) (xs : List X) (i : ℕ) (x : X) → (first ≡ true → i ≡ 0) → (first ≡ false → 0 < i) → i < length xs → x ≡ get_or xs i x
+      → (out ++ address_of (map f (take i xs))) ++ (if first then after_dot (f x) else f x) ≡ out ++ address_of (map f (take (i + 1) xs))
+  address_step true out xs i x none some lt is = address_first out xs i x (none refl) lt is
+  address_step false out xs i x none some lt is = address_more out xs i x (some refl) lt is
+
 -- one byte more of a text in quotes
 pub escaped_more : (out : Text) (bs : Text) (i : ℕ) → i < length bs → (out ++ concat (map escaped (take i bs))) ++ escaped (get_or bs i 0) ≡ out ++ concat (map escaped (take (i + 1) bs))
 escaped_more out bs i lt =

@@ -54,17 +54,16 @@ impl Interpreter {
         ensures failed { IsErrOf result WriteFailure.Failed → Rose (K.faults out.old) (K.faults out.new) }
     {
         self.block.clear();
-        let stepped = step(
+        let Ok(()) = step(
             self.alloc,
             &mut self.engine,
             &mut self.block,
             number,
             text,
             steps,
-        );
-        if stepped.is_err() {
+        ) else {
             return Err(WriteFailure::NoMemory);
-        }
+        };
         if let Err(failure) = write_whole(out, &self.block) {
             return Err(failure);
         }
@@ -85,10 +84,18 @@ fn step<L: Ledger>(
     ensures { OnOk result (Step engine.old (record { number = number; text = text.now }) block.new.items engine.new) }
 {
     match read_first(alloc, text) {
-        Ok(FirstCommand::Cells(name, formula)) => return define(
-            alloc, engine, block, name, formula,
-        ),
-        Ok(FirstCommand::Eval(node)) => return evaluate(engine, block, &node, steps),
+        Ok(FirstCommand::Cells(name, formula)) => {
+            if let Err(failure) = define(alloc, engine, block, name, formula) {
+                return Err(failure);
+            }
+            return Ok(());
+        }
+        Ok(FirstCommand::Eval(node)) => {
+            if let Err(failure) = evaluate(engine, block, &node, steps) {
+                return Err(failure);
+            }
+            return Ok(());
+        }
         Err(FirstRefusal::NotBuilt) => return push_not_built(block, number),
         Err(FirstRefusal::NoMemory) => return Err(AllocError),
     }

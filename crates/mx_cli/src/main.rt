@@ -16,10 +16,10 @@ mod text;
 mod top;
 
 use host::{HostSink, HostSource};
+pub use laws::{complete_commands_stay, lines_give_the_script};
 use std::alloc::AllocError;
 use std::process::ExitCode;
 use std::{env, io};
-pub use laws::{complete_commands_stay, lines_give_the_script};
 pub use top::mx_top;
 
 /// The words after the program's name. Where they can't be told there are none.

@@ -35,7 +35,10 @@ fn push_padded(out: &mut Vec<u8>, digits: u8, number: u64) -> Result<(), AllocEr
     if let Err(failure) = push_padded(out, digits - 1, number / 10) {
         return Err(failure);
     }
-    return push(out, &[b'0' + (number % 10) as u8]);
+    if let Err(failure) = push(out, &[b'0' + (number % 10) as u8]) {
+        return Err(failure);
+    }
+    return Ok(());
 }
 
 /// Adds so many decimals, without the zeros at their end but for the first decimal.
