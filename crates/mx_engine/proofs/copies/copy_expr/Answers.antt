@@ -1,0 +1,1 @@
+use Rattle.mx_engine.proofs.Tops.{begun_top}
