@@ -2,6 +2,7 @@
 #![tactic(auto)]
 
 pub mod copies;
+pub mod equality;
 pub mod fault;
 pub mod fixed;
 pub mod label;
@@ -9,8 +10,11 @@ pub mod name;
 pub mod namespace;
 pub mod nesting;
 pub mod node;
+pub mod normal;
 pub mod plain;
 pub mod read;
 pub mod refusal;
 pub mod size;
+#[cfg(test)]
+mod tests;
 pub mod value;
