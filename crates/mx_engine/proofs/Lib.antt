@@ -7,3 +7,5 @@ pub mod Deep
 pub mod Tops
 pub mod Places
 pub mod Evals
+pub mod Moves
+pub mod Begins

@@ -87,7 +87,7 @@ module _ (text : Text) (limit : ℕ) (start : List Entry) (asked : Node) where
     many = ap suc (length-map held (λ e. e.0));
     each = λ x h. elim h [
       | inl e ↦ subst (λ y. IsCounted text start asked y) e (inr (asked_reaches text limit start asked fs n t.since t.waits, record { reply = r; means = finished text n events (Gives r) tt t.stands.leads }))
-      | inr r ↦ held_counts text limit start asked fs n t.since held t.stands.news t.waits memo.right t.stands.grown (λ y q. reached_by text n (Ends (Gives r)) events y t.stands.leads (t.stands.reached y q)) x r
+      | inr h2 ↦ held_counts text limit start asked fs n t.since held t.stands.news t.waits memo.right t.stands.grown (λ y q. reached_by text n (Ends (Gives r)) events y t.stands.leads (t.stands.reached y q)) x h2
     ];
   }
 
