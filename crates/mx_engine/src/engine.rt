@@ -37,13 +37,14 @@ pub struct Engine {
 impl Model for Engine {
     ghost use Rattle.std.specs.Coded.{codes};
     ghost use Rattle.mx_value.specs.contracts.value.Value as value;
+    ghost use Rattle.mx_value.specs.contracts.value.Segment as segment;
     ghost use Rattle.mx_syntax.specs.contracts.expr.Expr as expr;
     ghost use Rattle.mx_syntax.specs.contracts.stmt.Stmt as stmt;
     ghost use Rattle.mx_meaning.specs.State.{State};
 
     ghost Value = { State };
 
-    ghost coded = { Prim.hlevel (codes, value.the_row.coded, expr.the_row.coded, stmt.the_row.coded) };
+    ghost coded = { Prim.hlevel (codes, value.the_row.coded, segment.the_row.coded, expr.the_row.coded, stmt.the_row.coded) };
 
     ghost use Rattle.mx_engine.specs.Edits.{IsSound};
 
@@ -66,6 +67,7 @@ impl Engine {
     }
 
     /// Changes the model text, and answers how many nodes were held: none is afterwards. A refused edit changes nothing.
+    #[tactic(none)]
     pub fn edit(&mut self, edit: &Edit) -> Result<u32, EditRefusal>
         ensures right { IsRightState self.new }
         ensures accepted { OnOk result (self.new ≡ record self.old { text = applied self.old.text edit.now; held = [] }) }
@@ -103,6 +105,7 @@ impl Engine {
     }
 
     /// The value of a node. It is held from then on, with the values of all nodes that it rests on.
+    #[tactic(none)]
     pub fn eval<L: Ledger>(
         &mut self,
         node: &Node,

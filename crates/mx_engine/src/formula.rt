@@ -1,12 +1,12 @@
 //! The run of a formula, step by step, up to its value or to a node that it asks.
 ghost use Rattle.std.specs.Prelude.{◌≡◌, ◌*ℤ◌, ℕ, List as Many, [], ◌∷◌, map, drop, length, nat_eq, Some, None, false, true, IfOk, MatchOption, IsTrue, option_copied};
 ghost use Rattle.mx_meaning.specs.Model.{Text};
-ghost use Rattle.mx_meaning.specs.Meaning.{reading, whole_of, cells_in, sum_from, product_from, choice_from, added, multiplied, compared, given_whole, sum_of, comparison_of, comparison_read, post_of, trailer_read, compared_whole, sum_read, product_read, arm_read, local_of, locals_of, sought, called, Env, Run};
+ghost use Rattle.mx_meaning.specs.Meaning.{reading, whole_of, cells_in, sum_from, product_from, choice_from, added, multiplied, compared, given_whole, sum_of, comparison_of, comparison_in, comparison_read, post_of, argument_in, trailer_read, args_read, compared_whole, sum_read, product_read, arm_read, local_of, locals_of, sought, called, Env, Run};
 ghost use Rattle.mx_engine.specs.Tasks.{address_of, continued, cont, run_at, stopped_at, env_of, arguments_of, GoesOnAlone, Fitting, computed};
 ghost use Rattle.mx_value.specs.declared.value.Value.{Value, out-Value};
 
 use crate::copies::copy_expr;
-use crate::frame::{Frame, Next, Scope, Stop, Task};
+use crate::frame::{Next, Scope, Stop, Task};
 use crate::text::ModelText;
 use mx_list::items::Items;
 use mx_list::list::List;
@@ -143,6 +143,7 @@ fn local(
 }
 
 /// The value of a name: a parameter, or cells of the space Main.
+#[tactic(none)]
 fn name_value(
     alloc: Global,
     text: &ModelText,
@@ -186,6 +187,7 @@ fn address(node: &Node) -> &Addr
 }
 
 /// A value is called with one argument.
+#[tactic(none)]
 fn call(
     alloc: Global,
     text: &ModelText,
@@ -209,6 +211,7 @@ fn call(
 }
 
 /// Cells are called with one argument.
+#[tactic(none)]
 fn call_cells(
     alloc: Global,
     text: &ModelText,
@@ -244,6 +247,7 @@ fn call_cells(
 }
 
 /// One step into an expression.
+#[tactic(none)]
 fn enter(
     alloc: Global,
     text: &ModelText,
@@ -278,44 +282,104 @@ fn enter(
     }
 }
 
+#[tactic(none)]
 fn enter_comparison(
     alloc: Global,
     first: &Shared<Expr>,
     rest: &List<Comparison>,
     tasks: &mut Vec<Task>,
 ) -> Result<Next, AllocError>
-    ensures { IfOk result (λ next. (env : Env) → comparison_of (reading first.now) (map comparison_read rest.now) env (cont tasks.old.items env) ≡ run_at next tasks.new.items env) }
+    ensures { IfOk result (λ next. (env : Env) → comparison_of (reading first.now) (comparison_in (map comparison_read rest.now)) env (cont tasks.old.items env) ≡ run_at next tasks.new.items env) }
 {
-    match rest.as_slice() {
-        [Comparison::Op(op, right)] => {
-            tasks.push(Task::CompareFirst {
-                op: *op,
-                right: copy_expr(alloc, right)?,
-            })?;
-            Ok(Next::Eval(copy_expr(alloc, first.get())?))
-        }
-        _ => Ok(Next::Fault(FaultKind::TypeMismatch)),
+    let Some((op, right)) = only_comparison(rest) else {
+        return Ok(Next::Fault(FaultKind::TypeMismatch));
+    };
+    tasks.push(Task::CompareFirst {
+        op,
+        right: copy_expr(alloc, right)?,
+    })?;
+    Ok(Next::Eval(copy_expr(alloc, first.get())?))
+}
+
+/// The comparison of a chain of one.
+fn only_comparison(rest: &List<Comparison>) -> Option<(CmpOp, &Expr)>
+    ensures { MatchOption result (comparison_in (map comparison_read rest.now) ≡ None) (λ c. comparison_in (map comparison_read rest.now) ≡ Some (c.0, reading c.1.now)) }
+{
+    if rest.len() != 1 {
+        return None;
+    }
+    match rest.get(0) {
+        None => None,
+        Some(comparison) => comparison_by(comparison),
     }
 }
 
+/// The operator and the right part of a comparison.
+fn comparison_by(comparison: &Comparison) -> Option<(CmpOp, &Expr)>
+    ensures { MatchOption result (comparison_read comparison.now ≡ None) (λ c. comparison_read comparison.now ≡ Some (c.0, reading c.1.now)) }
+{
+    match comparison {
+        Comparison::Op(op, right) => Some((*op, right)),
+        Comparison::IsNone => None,
+        Comparison::IsNotNone => None,
+    }
+}
+
+#[tactic(none)]
 fn enter_call(
     alloc: Global,
     first: &Shared<Expr>,
     trailers: &List<Trailer>,
     tasks: &mut Vec<Task>,
 ) -> Result<Next, AllocError>
-    ensures { IfOk result (λ next. (env : Env) → post_of (reading first.now) (map trailer_read trailers.now) env (cont tasks.old.items env) ≡ run_at next tasks.new.items env) }
+    ensures { IfOk result (λ next. (env : Env) → post_of (reading first.now) (argument_in (map trailer_read trailers.now)) env (cont tasks.old.items env) ≡ run_at next tasks.new.items env) }
 {
-    let [Trailer::Call(Args::List(arguments))] = trailers.as_slice() else {
-        return Ok(Next::Fault(FaultKind::TypeMismatch));
-    };
-    let [argument] = arguments.as_slice() else {
+    let Some(argument) = only_argument(trailers) else {
         return Ok(Next::Fault(FaultKind::TypeMismatch));
     };
     tasks.push(Task::CallPart {
         argument: copy_expr(alloc, argument)?,
     })?;
     Ok(Next::Eval(copy_expr(alloc, first.get())?))
+}
+
+/// The argument of a call with one, where nothing follows the call.
+fn only_argument(trailers: &List<Trailer>) -> Option<&Expr>
+    ensures { MatchOption result (argument_in (map trailer_read trailers.now) ≡ None) (λ e. argument_in (map trailer_read trailers.now) ≡ Some (reading e.now)) }
+{
+    if trailers.len() != 1 {
+        return None;
+    }
+    let Some(trailer) = trailers.get(0) else {
+        return None;
+    };
+    let Some(arguments) = call_arguments(trailer) else {
+        return None;
+    };
+    if arguments.len() != 1 {
+        return None;
+    }
+    arguments.get(0)
+}
+
+/// The arguments of a call.
+fn call_arguments(trailer: &Trailer) -> Option<&List<Expr>>
+    ensures { MatchOption result (trailer_read trailer.now ≡ None) (λ es. trailer_read trailer.now ≡ Some (map reading es.now)) }
+{
+    match trailer {
+        Trailer::Call(args) => listed(args),
+        Trailer::Index(_) => None,
+        Trailer::Attr(_) => None,
+    }
+}
+
+fn listed(args: &Args) -> Option<&List<Expr>>
+    ensures { MatchOption result (args_read args.now ≡ None) (λ es. args_read args.now ≡ Some (map reading es.now)) }
+{
+    match args {
+        Args::List(arguments) => Some(arguments),
+        Args::Gen { .. } => None,
+    }
 }
 
 /// The next part of a sum of which the parts before have this total.
@@ -331,13 +395,16 @@ fn sum_next(
     let Some(part) = rest.get(at) else {
         return Ok(Next::Give(total));
     };
+    let Some(next) = at.checked_add(1) else {
+        return Err(AllocError);
+    };
     let op = part.op;
     let of = copy_expr(alloc, &part.of)?;
     tasks.push(Task::SumRest {
         total,
         op,
         rest,
-        next: at + 1,
+        next,
     })?;
     Ok(Next::Eval(of))
 }
@@ -355,13 +422,16 @@ fn product_next(
     let Some(part) = rest.get(at) else {
         return Ok(Next::Give(total));
     };
+    let Some(next) = at.checked_add(1) else {
+        return Err(AllocError);
+    };
     let op = part.op;
     let of = copy_expr(alloc, &part.of)?;
     tasks.push(Task::ProductRest {
         total,
         op,
         rest,
-        next: at + 1,
+        next,
     })?;
     Ok(Next::Eval(of))
 }
@@ -379,18 +449,22 @@ fn choose(
     let Some(arm) = arms.get(at) else {
         return Ok(Next::Eval(copy_expr(alloc, last.get())?));
     };
+    let Some(next) = at.checked_add(1) else {
+        return Err(AllocError);
+    };
     let value = copy_expr(alloc, &arm.value)?;
     let test = copy_expr(alloc, &arm.test)?;
     tasks.push(Task::Test {
         value,
         arms,
-        next: at + 1,
+        next,
         last,
     })?;
     Ok(Next::Eval(test))
 }
 
 /// One step of a task that waited for this value.
+#[tactic(none)]
 fn go_on(
     alloc: Global,
     text: &ModelText,
@@ -449,40 +523,24 @@ fn go_on(
 }
 
 /// Goes on to the value of the run, or to where it asks a node or meets a fault.
+#[tactic(none)]
 pub fn run_on(
     alloc: Global,
     text: &ModelText,
     node: &Node,
-    frame: &mut Frame,
+    scope: &Scope,
     first: Next,
+    tasks: &mut Vec<Task>,
+    events: &mut Items<Event>,
 ) -> Result<Stop, AllocError>
-    ensures { IfOk result (λ stop. (frame.new.scope ≡ frame.old.scope) × GoesOnAlone text.now (run_at first frame.old.tasks.items (env_of node.now frame.old.scope)) frame.old.events frame.new.events (stopped_at stop frame.new.tasks.items (env_of node.now frame.old.scope))) }
+    ensures { IfOk result (λ stop. GoesOnAlone text.now (run_at first tasks.old.items (env_of node.now scope.now)) events.old events.new (stopped_at stop tasks.new.items (env_of node.now scope.now))) }
 {
     let mut next = first;
     for _ in 0..u64::MAX {
         match next {
-            Next::Eval(expr) => {
-                next = enter(
-                    alloc,
-                    text,
-                    node,
-                    &frame.scope,
-                    expr,
-                    &mut frame.tasks,
-                    &mut frame.events,
-                )?;
-            }
-            Next::Give(value) => match frame.tasks.pop() {
-                Some(task) => {
-                    next = go_on(
-                        alloc,
-                        text,
-                        task,
-                        value,
-                        &mut frame.tasks,
-                        &mut frame.events,
-                    )?;
-                }
+            Next::Eval(expr) => next = enter(alloc, text, node, scope, expr, tasks, events)?,
+            Next::Give(value) => match tasks.pop() {
+                Some(task) => next = go_on(alloc, text, task, value, tasks, events)?,
                 None => return Ok(Stop::Value(value)),
             },
             Next::Ask(to) => return Ok(Stop::Ask(to)),

@@ -1,14 +1,15 @@
 //! Evaluation on an explicit stack.
-ghost use Rattle.std.specs.Prelude.{◌≡◌, ℕ, List as Many, [], ◌∷◌, ◌++◌, ◌+◌, ◌-◌, suc, ◌<◌, ◌≤◌, length, map, drop, reverse, IfOk};
+ghost use Rattle.std.specs.Prelude.{◌≡◌, ℕ, List as Many, [], ◌∷◌, ◌++◌, ◌+◌, ◌-◌, suc, ◌<◌, ◌≤◌, length, map, drop, reverse, IfOk, false};
 ghost use Rattle.mx_value.specs.declared.node.Node.{Node};
+ghost use Rattle.mx_meaning.specs.declared.event.Reply.{Reply};
+ghost use Rattle.mx_meaning.specs.declared.kept.Kept.{Kept};
 ghost use Rattle.mx_meaning.specs.Model.{Text};
-ghost use Rattle.mx_meaning.specs.Held.{Entry, IsMemo, Grown};
+ghost use Rattle.mx_meaning.specs.Held.{Entry, IsMemo, Grown, nodes_of};
+ghost use Rattle.mx_meaning.specs.Lists.{Has};
 ghost use Rattle.mx_meaning.specs.Answers.{Answer};
-ghost use Rattle.mx_meaning.specs.Meaning.{Asks};
-ghost use Rattle.mx_engine.specs.Tasks.{cont, env_of, stopped_at};
-ghost use Rattle.mx_engine.specs.Frames.{IsRunning, IsTop, IsDone, IsGood, IsStep, Driven, IsFull, Begins, BeginsTick, depth_after};
-ghost use Rattle.mx_meaning.specs.Meaning.{ended};
-ghost use Rattle.std.specs.Prelude.{false};
+ghost use Rattle.mx_meaning.specs.Meaning.{Asks, Env, doing, line_of, ended, gives};
+ghost use Rattle.mx_engine.specs.Tasks.{run_at, env_of};
+ghost use Rattle.mx_engine.specs.Frames.{IsRunning, IsTop, IsDone, IsGood, IsStep, Driven, IsFull, Begins, StartsAt, going, runs_begun, depth_after, Waiter};
 
 use crate::copies::copy_expr;
 use crate::formula::run_on;
@@ -66,6 +67,7 @@ pub enum Begun {
 }
 
 /// The value of a node, which is held with those that it rests on.
+#[tactic(none)]
 pub fn eval<L: Ledger>(
     alloc: Global,
     text: &ModelText,
@@ -74,7 +76,13 @@ pub fn eval<L: Ledger>(
     node: &Node,
     held: &mut Held,
     steps: &mut Steps<L>,
-) -> Result<Value, EvalRefusal> {
+) -> Result<Value, EvalRefusal>
+    requires memo { IsMemo text.now held.old.entries }
+    requires room { length held.old.entries ≤ most }
+    ensures room { length held.new.entries ≤ most }
+    ensures memo { IsMemo text.now held.new.entries }
+    ensures answer { Answer text.now held.old.entries limit most node.now result held.new.entries (steps.new - steps.old) }
+{
     let asked = Shared::new(alloc, node.copy(alloc)?)?;
     if let Some(kept) = held.get(&asked) {
         return Ok(kept.reply.value.copy(alloc)?);
@@ -90,6 +98,7 @@ pub fn eval<L: Ledger>(
 }
 
 /// Drives the first run to its end. An evaluation that is broken off is rolled back.
+#[tactic(none)]
 fn settle<L: Ledger>(
     alloc: Global,
     text: &ModelText,
@@ -98,7 +107,14 @@ fn settle<L: Ledger>(
     first: Running,
     held: &mut Held,
     steps: &mut Steps<L>,
-) -> Result<Value, EvalRefusal> {
+) -> Result<Value, EvalRefusal>
+    requires memo { IsMemo text.now held.old.entries }
+    requires room { length held.old.entries ≤ most }
+    requires running { IsRunning text.now limit held.old.entries held.old.entries first.node [] first }
+    ensures room { length held.new.entries ≤ most }
+    ensures memo { IsMemo text.now held.new.entries }
+    ensures answer { Answer text.now held.old.entries limit most first.node result held.new.entries (steps.new + 1 - steps.old) }
+{
     let before = held.len();
     match drive(alloc, text, limit, most, first, held, steps) {
         Ok(Progress::Done(value)) => Ok(value),
@@ -141,6 +157,7 @@ fn settle<L: Ledger>(
     }
 }
 
+#[tactic(none)]
 fn drive<L: Ledger>(
     alloc: Global,
     text: &ModelText,
@@ -149,7 +166,15 @@ fn drive<L: Ledger>(
     first: Running,
     held: &mut Held,
     steps: &mut Steps<L>,
-) -> Result<Progress, AllocError> {
+) -> Result<Progress, AllocError>
+    requires memo { IsMemo text.now held.old.entries }
+    requires room { length held.old.entries ≤ most }
+    requires running { IsRunning text.now limit held.old.entries held.old.entries first.node [] first }
+    ensures room { length held.new.entries ≤ most }
+    ensures full { IfOk result (IsFull most held.new.entries) }
+    ensures grown { Grown held.old.entries held.new.entries }
+    ensures good { IfOk result (Driven text.now limit held.old.entries first.node held.new.entries steps.old steps.new) }
+{
     let mut waiting = IndexMap::new(alloc);
     let mut running = first;
     for _ in 0..u64::MAX {
@@ -162,6 +187,7 @@ fn drive<L: Ledger>(
 }
 
 /// The run on top goes on to its value, to a fault, or to a node that it asks.
+#[tactic(none)]
 fn step<L: Ledger>(
     alloc: Global,
     text: &ModelText,
@@ -171,21 +197,69 @@ fn step<L: Ledger>(
     running: Running,
     held: &mut Held,
     steps: &mut Steps<L>,
-) -> Result<Progress, AllocError> {
-    let Running {
-        node,
-        mut frame,
+) -> Result<Progress, AllocError>
+    requires memo { IsMemo text.now held.old.entries }
+    requires room { length held.old.entries ≤ most }
+    ensures room { length held.new.entries ≤ most }
+    ensures full { IfOk result (IsFull most held.new.entries) }
+    ensures grown { Grown held.old.entries held.new.entries }
+    ensures good { (start : Many Entry) (asked : Node) → IsRunning text.now limit start held.old.entries asked (reverse waiting.old.entries) running → IfOk result (IsStep text.now limit start asked held.new.entries (suc (length waiting.old.entries)) waiting.new.entries) }
+    ensures ticks { (start : Many Entry) (asked : Node) → IsRunning text.now limit start held.old.entries asked (reverse waiting.old.entries) running → IfOk result (λ p. steps.new + length held.old.entries + suc (length waiting.old.entries) ≡ steps.old + length held.new.entries + depth_after (suc (length waiting.old.entries)) (length waiting.new.entries) p) }
+{
+    let Running { node, frame, next } = running;
+    let Frame {
+        scope,
+        mut tasks,
+        mut events,
+    } = frame;
+    match run_on(
+        alloc,
+        text,
+        node.get(),
+        &scope,
         next,
-    } = running;
-    match run_on(alloc, text, node.get(), &mut frame, next)? {
-        Stop::Value(Value::Nothing) => Ok(Progress::Fault(FaultKind::NoneReturned, node)),
-        Stop::Value(value) => finish(alloc, most, waiting, node, frame.events, value, held),
+        &mut tasks,
+        &mut events,
+    )? {
+        Stop::Value(value) => give(alloc, most, waiting, node, events, value, held),
         Stop::Fault(kind) => Ok(Progress::Fault(kind, node)),
-        Stop::Ask(to) => ask(alloc, text, limit, waiting, node, frame, to, held, steps),
+        Stop::Ask(to) => {
+            let frame = Frame {
+                scope,
+                tasks,
+                events,
+            };
+            ask(alloc, text, limit, waiting, node, frame, to, held, steps)
+        }
+    }
+}
+
+/// The formula of the node gave a value. None is a fault.
+#[tactic(none)]
+fn give(
+    alloc: Global,
+    most: usize,
+    waiting: &mut Waiting,
+    node: Shared<Node>,
+    events: Items<Event>,
+    value: Value,
+    held: &mut Held,
+) -> Result<Progress, AllocError>
+    requires { length held.old.entries ≤ most }
+    ensures room { length held.new.entries ≤ most }
+    ensures full { IfOk result (IsFull most held.new.entries) }
+    ensures grown { Grown held.old.entries held.new.entries }
+    ensures good { (text : Text) (limit : ℕ) (start : Many Entry) (asked : Node) (env : Env) → env.node ≡ node → IsMemo text held.old.entries → IsTop text limit start held.old.entries asked (reverse waiting.old.entries) node events (ended false env value) → IfOk result (IsStep text limit start asked held.new.entries (suc (length waiting.old.entries)) waiting.new.entries) }
+    ensures ticks { (Has (nodes_of held.old.entries) node → ⊥) → IfOk result (λ p. length held.old.entries + suc (length waiting.old.entries) ≡ length held.new.entries + depth_after (suc (length waiting.old.entries)) (length waiting.new.entries) p) }
+{
+    match value {
+        Value::Nothing => Ok(Progress::Fault(FaultKind::NoneReturned, node)),
+        value => finish(alloc, most, waiting, node, events, value, held),
     }
 }
 
 /// The run of the node gave its value, which is held from now on.
+#[tactic(none)]
 fn finish(
     alloc: Global,
     most: usize,
@@ -194,53 +268,78 @@ fn finish(
     events: Items<Event>,
     value: Value,
     held: &mut Held,
-) -> Result<Progress, AllocError> {
+) -> Result<Progress, AllocError>
+    requires { length held.old.entries ≤ most }
+    ensures room { length held.new.entries ≤ most }
+    ensures full { IfOk result (IsFull most held.new.entries) }
+    ensures grown { Grown held.old.entries held.new.entries }
+    ensures good { (text : Text) (limit : ℕ) (start : Many Entry) (asked : Node) → IsMemo text held.old.entries → IsTop text limit start held.old.entries asked (reverse waiting.old.entries) node events (gives value) → IfOk result (IsStep text limit start asked held.new.entries (suc (length waiting.old.entries)) waiting.new.entries) }
+    ensures ticks { (Has (nodes_of held.old.entries) node → ⊥) → IfOk result (λ p. length held.old.entries + suc (length waiting.old.entries) ≡ length held.new.entries + depth_after (suc (length waiting.old.entries)) (length waiting.new.entries) p) }
+{
     if held.len() >= most {
         return Ok(Progress::Full);
     }
     let reply = Reply {
-        value: value.copy(alloc)?,
+        value,
         namespace: None,
     };
-    held.insert(node.copy()?, Kept { reply, events })?;
-    hand_down(alloc, waiting, node, value)
+    let kept = Kept {
+        reply: reply.copy(alloc)?,
+        events,
+    };
+    held.insert(node.copy()?, kept)?;
+    hand_down(alloc, waiting, node, reply)
 }
 
-/// The value of the node goes to the run that asked it.
+/// The reply of the node goes to the run that asked it.
+#[tactic(none)]
 fn hand_down(
     alloc: Global,
     waiting: &mut Waiting,
     node: Shared<Node>,
-    value: Value,
-) -> Result<Progress, AllocError> {
+    reply: Reply,
+) -> Result<Progress, AllocError>
+    ensures good { (text : Text) (limit : ℕ) (start held : Many Entry) (asked : Node) → IsMemo text held → IsDone text limit start held asked (reverse waiting.old.entries) node reply → IfOk result (IsGood text limit start asked held (suc (length waiting.old.entries)) waiting.new.entries) }
+    ensures ticks { IfOk result (λ p. length waiting.old.entries ≡ depth_after (suc (length waiting.old.entries)) (length waiting.new.entries) p) }
+    ensures room { (most : ℕ) (held : Many Entry) → IfOk result (IsFull most held) }
+{
     match waiting.pop() {
-        None => Ok(Progress::Done(value)),
-        Some((asker, frame)) => Ok(Progress::Going(given(alloc, asker, frame, node, value)?)),
+        None => Ok(Progress::Done(reply.value)),
+        Some((asker, frame)) => Ok(Progress::Going(given(alloc, asker, frame, node, reply)?)),
     }
 }
 
-/// The run of a node goes on with the value of a node that it asked.
+/// The run of a node goes on with the reply of a node that it asked.
+#[tactic(none)]
 fn given(
     alloc: Global,
     node: Shared<Node>,
     frame: Frame,
     asked: Shared<Node>,
-    value: Value,
-) -> Result<Running, AllocError> {
-    let mut frame = frame;
-    let reply = Reply {
-        value: value.copy(alloc)?,
-        namespace: None,
-    };
-    frame.events.push(Event::Asked(asked, reply))?;
+    reply: Reply,
+) -> Result<Running, AllocError>
+    ensures { IfOk result (λ r. (r.node ≡ node) × (r.frame.events ≡ frame.events ++ Event.Asked asked reply ∷ []) × (run_at r.next r.frame.tasks.items (env_of r.node r.frame.scope) ≡ going (node, frame) reply)) }
+{
+    let Frame {
+        scope,
+        tasks,
+        mut events,
+    } = frame;
+    let value = reply.value.copy(alloc)?;
+    events.push(Event::Asked(asked, reply))?;
     Ok(Running {
         node,
-        frame,
+        frame: Frame {
+            scope,
+            tasks,
+            events,
+        },
         next: Next::Give(value),
     })
 }
 
 /// The run of a node asks another.
+#[tactic(none)]
 fn ask<L: Ledger>(
     alloc: Global,
     text: &ModelText,
@@ -251,10 +350,15 @@ fn ask<L: Ledger>(
     to: Shared<Node>,
     held: &Held,
     steps: &mut Steps<L>,
-) -> Result<Progress, AllocError> {
+) -> Result<Progress, AllocError>
+    requires { IsMemo text.now held.now.entries }
+    ensures good { (start : Many Entry) (asked : Node) → IsTop text.now limit start held.now.entries asked (reverse waiting.old.entries) node frame.events (Asks to (going (node, frame))) → IfOk result (IsGood text.now limit start asked held.now.entries (suc (length waiting.old.entries)) waiting.new.entries) }
+    ensures ticks { (start : Many Entry) (asked : Node) → IsTop text.now limit start held.now.entries asked (reverse waiting.old.entries) node frame.events (Asks to (going (node, frame))) → IfOk result (λ p. steps.new + suc (length waiting.old.entries) ≡ steps.old + depth_after (suc (length waiting.old.entries)) (length waiting.new.entries) p) }
+    ensures room { (most : ℕ) → IfOk result (IsFull most held.now.entries) }
+{
     if let Some(kept) = held.get(&to) {
-        let value = kept.reply.value.copy(alloc)?;
-        return Ok(Progress::Going(given(alloc, node, frame, to, value)?));
+        let reply = kept.reply.copy(alloc)?;
+        return Ok(Progress::Going(given(alloc, node, frame, to, reply)?));
     }
     waiting.insert(node, frame)?;
     if let Some(at) = waiting.get_index_of(&to) {
@@ -271,23 +375,32 @@ fn ask<L: Ledger>(
 }
 
 /// The nodes that wait from this one on.
-fn nodes_from(alloc: Global, waiting: &Waiting, at: usize) -> Result<Items<Node>, AllocError> {
+#[tactic(none)]
+fn nodes_from(alloc: Global, waiting: &Waiting, at: usize) -> Result<Items<Node>, AllocError>
+    requires { at < length waiting.now.entries }
+    ensures { IfOk result (λ ring. ring ≡ map (λ w. w.0) (drop at waiting.now.entries)) }
+{
     let mut ring = Items::new(alloc);
     for i in at..waiting.len() {
-        if let Some((node, _)) = waiting.get_index(i) {
-            ring.push(node.get().copy(alloc)?)?;
-        }
+        let Some((node, _)) = waiting.get_index(i) else {
+            return Err(AllocError);
+        };
+        ring.push(node.get().copy(alloc)?)?;
     }
     Ok(ring)
 }
 
 /// The run of a node begins, where its cells are there and its arguments bind.
+#[tactic(none)]
 fn begin<L: Ledger>(
     alloc: Global,
     text: &ModelText,
     node: Shared<Node>,
     steps: &mut Steps<L>,
-) -> Result<Begun, AllocError> {
+) -> Result<Begun, AllocError>
+    ensures begins { IfOk result (Begins text.now node) }
+    ensures tick { IfOk result (λ b. steps.new ≡ steps.old + runs_begun b) }
+{
     let Node::Cell(at, name, arguments) = node.get() else {
         return Ok(Begun::NoSuch);
     };
@@ -309,11 +422,13 @@ fn begin<L: Ledger>(
         params: formula.params.copy()?,
     };
     let next = first_step(alloc, &formula.body)?;
+    let node = node.copy()?;
+    let tasks = Vec::new(alloc);
     Ok(Begun::Running(Running {
-        node: node.copy()?,
+        node,
         frame: Frame {
             scope,
-            tasks: Vec::new(alloc),
+            tasks,
             events,
         },
         next,

@@ -177,7 +177,155 @@ fn fib_rows<L: Ledger>(rt: &impl Abort, alloc: Global, blank: Blank) -> Result<(
     Ok(())
 }
 
+fn is_node(alloc: Global, given: &Node, name: &str, argument: i64) -> Result<bool, AllocError> {
+    Ok(*given == node(alloc, name, argument)?)
+}
+
+fn ring_rows<L: Ledger>(rt: &impl Abort, alloc: Global, blank: Blank) -> Result<(), Fail>
+    requires name { blank.name ≡ L.name }
+    requires parts { blank.parts ≡ L.parts }
+    requires some { 0 < blank.parts }
+{
+    let mut steps = Steps::<L>::new(blank);
+    let mut engine = Engine::new(alloc)?;
+    let f = cells(alloc, "f", call(alloc, "g", name(alloc, "n")?)?)?;
+    let g = cells(alloc, "g", call(alloc, "f", name(alloc, "n")?)?)?;
+    assert_eq!(rt; engine.edit(&f).ok(), Some(0));
+    assert_eq!(rt; engine.edit(&g).ok(), Some(0));
+    match engine.eval(&node(alloc, "f", 1)?, &mut steps) {
+        Err(EvalRefusal::Ring(ring)) => match ring.as_slice() {
+            [first, second] => {
+                assert!(rt; is_node(alloc, first, "f", 1)?);
+                assert!(rt; is_node(alloc, second, "g", 1)?);
+            }
+            _ => assert!(rt; false),
+        },
+        _ => assert!(rt; false),
+    }
+    assert_eq!(rt; engine.held_count(), 0);
+    assert_eq!(rt; engine.edit(&cells(alloc, "g", number(7))?).ok(), Some(0));
+    assert!(rt; value_is(&engine.eval(&node(alloc, "f", 1)?, &mut steps), 7));
+    assert_eq!(rt; engine.held_count(), 2);
+    Ok(())
+}
+
+fn deep_rows<L: Ledger>(rt: &impl Abort, alloc: Global, blank: Blank) -> Result<(), Fail>
+    requires name { blank.name ≡ L.name }
+    requires parts { blank.parts ≡ L.parts }
+    requires some { 0 < blank.parts }
+{
+    let mut steps = Steps::<L>::new(blank);
+    let mut engine = Engine::new(alloc)?;
+    let before = sum(alloc, name(alloc, "n")?, SumOp::Minus, number(1))?;
+    let body = choice(
+        alloc,
+        number(0),
+        name(alloc, "n")?,
+        CmpOp::Eq,
+        number(0),
+        call(alloc, "f", before)?,
+    )?;
+    assert!(rt; engine.edit(&cells(alloc, "f", body)?).is_ok());
+    match engine.eval(&node(alloc, "f", 200)?, &mut steps) {
+        Err(EvalRefusal::TooDeep(at)) => assert!(rt; is_node(alloc, &at, "f", 0)?),
+        _ => assert!(rt; false),
+    }
+    assert_eq!(rt; engine.held_count(), 0);
+    assert!(rt; value_is(&engine.eval(&node(alloc, "f", 199)?, &mut steps), 0));
+    assert_eq!(rt; engine.held_count(), 200);
+    assert!(rt; value_is(&engine.eval(&node(alloc, "f", 200)?, &mut steps), 0));
+    assert_eq!(rt; engine.held_count(), 201);
+    let before = sum(alloc, name(alloc, "n")?, SumOp::Minus, number(1))?;
+    let endless = cells(alloc, "f", call(alloc, "f", before)?)?;
+    assert_eq!(rt; engine.edit(&endless).ok(), Some(201));
+    match engine.eval(&node(alloc, "f", 0)?, &mut steps) {
+        Err(EvalRefusal::TooDeep(at)) => assert!(rt; is_node(alloc, &at, "f", -200)?),
+        _ => assert!(rt; false),
+    }
+    Ok(())
+}
+
+fn overflow_rows<L: Ledger>(rt: &impl Abort, alloc: Global, blank: Blank) -> Result<(), Fail>
+    requires name { blank.name ≡ L.name }
+    requires parts { blank.parts ≡ L.parts }
+    requires some { 0 < blank.parts }
+{
+    let mut steps = Steps::<L>::new(blank);
+    let mut engine = Engine::new(alloc)?;
+    let body = product(alloc, name(alloc, "n")?, number(9223372036854775807))?;
+    assert!(rt; engine.edit(&cells(alloc, "h", body)?).is_ok());
+    match engine.eval(&node(alloc, "h", 2)?, &mut steps) {
+        Err(EvalRefusal::Fault { kind, node, line }) => {
+            assert_eq!(rt; kind, FaultKind::Overflow);
+            assert!(rt; is_node(alloc, &node, "h", 2)?);
+            assert_eq!(rt; line, 1);
+        }
+        _ => assert!(rt; false),
+    }
+    assert!(rt;
+        value_is(
+            &engine.eval(&node(alloc, "h", 1)?, &mut steps),
+            9223372036854775807
+        )
+    );
+    assert_eq!(rt; engine.held_count(), 1);
+    match engine.eval(&node(alloc, "k", 1)?, &mut steps) {
+        Err(EvalRefusal::NoSuch) => {}
+        _ => assert!(rt; false),
+    }
+    assert!(rt;
+        engine
+            .edit(&cells(alloc, "k", call(alloc, "m", number(1))?)?)
+            .is_ok()
+    );
+    match engine.eval(&node(alloc, "k", 1)?, &mut steps) {
+        Err(EvalRefusal::Fault { kind, node, line }) => {
+            assert_eq!(rt; kind, FaultKind::NoName);
+            assert!(rt; is_node(alloc, &node, "k", 1)?);
+            assert_eq!(rt; line, 1);
+        }
+        _ => assert!(rt; false),
+    }
+    Ok(())
+}
+
+fn refused_rows(rt: &impl Abort, alloc: Global) -> Result<(), Fail> {
+    let mut engine = Engine::new(alloc)?;
+    assert_eq!(rt;
+        engine.edit(&cells(alloc, "not", number(1))?),
+        Err(EditRefusal::BadName)
+    );
+    let Edit::SetCells { formula, .. } = cells(alloc, "f", number(1))?;
+    let elsewhere = Edit::SetCells {
+        path: path(alloc, "Other")?,
+        name: label(alloc, "f")?,
+        formula,
+    };
+    assert_eq!(rt; engine.edit(&elsewhere), Err(EditRefusal::NoSuchSpace));
+    Ok(())
+}
+
 #[test]
 fn values_are_kept_until_an_edit(rt: HostRuntime) -> Result<(), Fail> {
     fib_rows::<Brand>(&rt, rt.alloc(), Blank::new(1))
+}
+
+#[test]
+fn cells_that_ask_each_other_are_a_ring(rt: HostRuntime) -> Result<(), Fail> {
+    ring_rows::<Brand>(&rt, rt.alloc(), Blank::new(1))
+}
+
+#[test]
+fn a_chain_past_200_calls_is_too_deep_but_held_nodes_break_it(rt: HostRuntime) -> Result<(), Fail> {
+    deep_rows::<Brand>(&rt, rt.alloc(), Blank::new(1))
+}
+
+#[test]
+fn an_overflow_and_a_missing_name_are_faults(rt: HostRuntime) -> Result<(), Fail> {
+    overflow_rows::<Brand>(&rt, rt.alloc(), Blank::new(1))
+}
+
+#[test]
+fn edits_of_bad_names_and_other_spaces_are_refused(rt: HostRuntime) -> Result<(), Fail> {
+    refused_rows(&rt, rt.alloc())
 }

@@ -6,5 +6,4 @@ ghost use Rattle.mx_list.specs.Equality.{TellsApart};
 /// their items. `==` of shared values is that of the values. Does nothing when it runs.
 pub fn equality_laws<T: PartialEq>()
     ensures { TellsApart T.eq → TellsApart (pointwise T.eq) }
-{
-}
+{}

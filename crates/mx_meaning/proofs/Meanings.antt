@@ -52,7 +52,7 @@ IsFailure NoSuch = Unit {0}
 IsFailure WrongCount = Unit {0}
 IsFailure NoLevel = ⊥
 
-failure_reached : (o : Outcome) → IsFailure o → IsReached o
+pub failure_reached : (o : Outcome) → IsFailure o → IsReached o
 failure_reached (Gives v) f = absurd f
 failure_reached (Faults k n line) f = tt
 failure_reached NoSuch f = tt

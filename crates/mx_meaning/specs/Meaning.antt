@@ -13,6 +13,7 @@ use Rattle.mx_value.specs.declared.fault.FaultKind.{FaultKind}
 use Rattle.mx_value.specs.declared.fault.FaultKind.TheVariants.{Overflow, TypeMismatch, NoName, NotCallable, WrongCountInside, NoneReturned}
 use Rattle.mx_syntax.specs.declared.expr.Expr.{Expr, fold-Expr}
 use Rattle.mx_syntax.specs.declared.expr.Args.TheOpen.{Args-F, Comparison-F, Expr-F, Trailer-F, Arm-F, PowerPart-F, ProductPart-F, SumPart-F}
+use Rattle.mx_syntax.specs.declared.expr.Args.{Args, fold-Args}
 use Rattle.mx_syntax.specs.declared.expr.Comparison.{Comparison, fold-Comparison}
 use Rattle.mx_syntax.specs.declared.expr.Trailer.{Trailer, fold-Trailer}
 use Rattle.mx_syntax.specs.declared.expr.Arm.{Arm, fold-Arm}
@@ -127,12 +128,15 @@ compared_whole cmp.NotIn a b = not_built
 abbrev pub compared : CmpOp → Value → Value → Reading
 compared op a b = both_whole (compared_whole op) (whole_of a) (whole_of b)
 
--- a chain of more comparisons than one, and `is None`, are not built
-abbrev pub comparison_of : Reading → List (Option (CmpOp × Reading)) → Reading
-comparison_of first (Some c ∷ []) env go = first env (λ a. c.1 env (λ b. compared c.0 a b env go))
-comparison_of first [] env go = not_built env go
-comparison_of first (None ∷ []) env go = not_built env go
-comparison_of first (c ∷ d ∷ rest) env go = not_built env go
+-- the one comparison of a chain; longer chains, and `is None`, are not built
+abbrev pub comparison_in : List (Option (CmpOp × Reading)) → Option (CmpOp × Reading)
+comparison_in [] = None
+comparison_in (c ∷ []) = c
+comparison_in (c ∷ d ∷ rest) = None
+
+abbrev pub comparison_of : Reading → Option (CmpOp × Reading) → Reading
+comparison_of first (Some c) env go = first env (λ a. c.1 env (λ b. compared c.0 a b env go))
+comparison_of first None env go = not_built env go
 
 -- what a test decides; the truth of values other than flags is not built
 abbrev pub tested : Value → Run → Run → Env → Run
@@ -198,14 +202,22 @@ abbrev pub called : Option CellsAt → List Value → Reading
 called (Some c) args env go = call_at (path_of (out-CellsAt c).space) c args env go
 called None args env go = fault NotCallable env
 
--- the called part, then its argument, then the call; other numbers of arguments, further calls, subscripts and attributes are not built
-abbrev pub post_of : Reading → List (Option (List Reading)) → Reading
-post_of first (Some (a ∷ []) ∷ []) env go = first env (λ f. a env (λ v. called (cells_in (out-Value f)) (v ∷ []) env go))
-post_of first [] env go = not_built env go
-post_of first (None ∷ ts) env go = not_built env go
-post_of first (Some [] ∷ ts) env go = not_built env go
-post_of first (Some (a ∷ b ∷ rest) ∷ ts) env go = not_built env go
-post_of first (Some (a ∷ []) ∷ t ∷ ts) env go = not_built env go
+abbrev pub only_of : Option (List Reading) → Option Reading
+only_of None = None
+only_of (Some []) = None
+only_of (Some (a ∷ [])) = Some a
+only_of (Some (a ∷ b ∷ rest)) = None
+
+-- the argument of a call with one; other numbers of arguments, further calls, subscripts and attributes are not built
+abbrev pub argument_in : List (Option (List Reading)) → Option Reading
+argument_in [] = None
+argument_in (args ∷ []) = only_of args
+argument_in (t ∷ u ∷ rest) = None
+
+-- the called part, then its argument, then the call
+abbrev pub post_of : Reading → Option Reading → Reading
+post_of first (Some a) env go = first env (λ f. a env (λ v. called (cells_in (out-Value f)) (v ∷ []) env go))
+post_of first None env go = not_built env go
 
 -- the parts of an expression as they are read
 abbrev pub Arguments : Type 0
@@ -245,10 +257,10 @@ abbrev pub expr_step : Expr-F Arguments Comparing Reading Arguments (Reading × 
 expr_step (Expr-F.Lit v) env go = go v
 expr_step (Expr-F.Name name) env go = sought (local_of env.locals name) name env go
 expr_step (Expr-F.Cond arms last) env go = choice_from arms last env go
-expr_step (Expr-F.Compare first rest) env go = comparison_of first rest env go
+expr_step (Expr-F.Compare first rest) env go = comparison_of first (comparison_in rest) env go
 expr_step (Expr-F.Sum first rest) env go = first env (λ v. sum_from rest v env go)
 expr_step (Expr-F.Product first rest) env go = first env (λ v. product_from rest v env go)
-expr_step (Expr-F.Post first trailers) env go = post_of first trailers env go
+expr_step (Expr-F.Post first trailers) env go = post_of first (argument_in trailers) env go
 expr_step (Expr-F.Tuple items) env go = not_built env go
 expr_step (Expr-F.Or items) env go = not_built env go
 expr_step (Expr-F.And items) env go = not_built env go
@@ -258,6 +270,9 @@ expr_step (Expr-F.Power first rest) env go = not_built env go
 
 abbrev pub reading : Expr → Reading
 reading = fold-Expr Arguments Comparing Reading Arguments (Reading × Reading) (Unit {0}) (ProductOp × Reading) (SumOp × Reading) args_step comparison_step expr_step trailer_step arm_step power_step product_step sum_step
+
+abbrev pub args_read : Args → Arguments
+args_read = fold-Args Arguments Comparing Reading Arguments (Reading × Reading) (Unit {0}) (ProductOp × Reading) (SumOp × Reading) args_step comparison_step expr_step trailer_step arm_step power_step product_step sum_step
 
 abbrev pub comparison_read : Comparison → Comparing
 comparison_read = fold-Comparison Arguments Comparing Reading Arguments (Reading × Reading) (Unit {0}) (ProductOp × Reading) (SumOp × Reading) args_step comparison_step expr_step trailer_step arm_step power_step product_step sum_step

@@ -15,4 +15,6 @@ pub mod plain;
 pub mod read;
 pub mod refusal;
 pub mod size;
+#[cfg(test)]
+mod tests;
 pub mod value;

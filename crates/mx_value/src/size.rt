@@ -1,11 +1,12 @@
+//! How large values are.
 ghost use Rattle.std.specs.Prelude.{◌≡◌, min, ◌-◌, ◌^◌, map, sum};
 ghost use Rattle.mx_value.specs.Size.{size_of, size_of_segment};
 
-use crate::value::{Segment, Value};
+use crate::value::{Addr, Segment, Value};
 use mx_list::items::Items;
-use mx_list::list::List;
 
-/// The size, or the greatest number of the type where that is passed.
+/// The size of a value: 1, and the bytes of a text, the sizes of a tuple's items, or those of the
+/// arguments in the address of a space or cells. The greatest u64 where that is passed.
 #[cycle(size)]
 pub fn size_of_value(value: &Value) -> u64
     ensures { result ≡ min (size_of value.now) (2 ^ 64 - 1) }
@@ -19,8 +20,9 @@ pub fn size_of_value(value: &Value) -> u64
     }
 }
 
+/// The sizes of the items together, or the greatest u64.
 #[cycle(size)]
-fn size_of_items(items: &Items<Value>) -> u64
+pub fn size_of_items(items: &Items<Value>) -> u64
     ensures { result ≡ min (sum (map size_of items.now)) (2 ^ 64 - 1) }
 {
     let mut size = 0u64;
@@ -30,8 +32,9 @@ fn size_of_items(items: &Items<Value>) -> u64
     size
 }
 
+/// The sizes of the arguments in an address together, or the greatest u64.
 #[cycle(size)]
-fn size_of_segments(at: &List<Segment>) -> u64
+pub fn size_of_segments(at: &Addr) -> u64
     ensures { result ≡ min (sum (map size_of_segment at.now)) (2 ^ 64 - 1) }
 {
     let mut size = 0u64;
