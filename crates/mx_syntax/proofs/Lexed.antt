@@ -533,8 +533,8 @@ integer_not ds rest h = ap (λ (c : Bool). cond (c && nat_le (number ds) (2 ^ 63
 
 pub digit_step : (value i : ℕ) (ds : Bytes) (total : ℕ) → i < length ds → number_from_digits_after 10 value (map (λ d. d - 48) (drop i ds)) ≡ total → value * 10 + (get_or ds i 0 - 48) ≤ total
 digit_step value i ds total lt e =
-    let next : drop i ds ≡ get_or ds i 0 ∷ drop (i + 1) ds = drop-cons ds i 0 lt in
-    let ge = grows (value * 10 + (get_or ds i 0 - 48)) (map (λ d. d - 48) (drop (i + 1) ds)) in
+    let next : drop i ds ≡ get_or ds i 0 ∷ drop (suc i) ds = drop-cons ds i 0 lt in
+    let ge = grows (value * 10 + (get_or ds i 0 - 48)) (map (λ d. d - 48) (drop (suc i) ds)) in
     let same = ap (λ (x : Bytes). number_from_digits_after 10 value (map (λ d. d - 48) x)) (sym next) ∙ e in
     subst (λ (n : ℕ). value * 10 + (get_or ds i 0 - 48) ≤ n) same ge
 

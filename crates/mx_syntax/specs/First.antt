@@ -8,7 +8,11 @@
 --     PRODUCT  atoms joined by *
 --     ATOM     an integer, the parameter's name, NAME(EXPR) or (EXPR)
 --
--- The tokens are those of `Tokens`. There a name is a name and not that of a builtin, and a comment or another byte is no token.
+-- The command `cells` may have further lines, each blank or a comment. So these are of none of the forms, each by the words named here:
+-- a name that is no name or is that of a builtin, a # behind the first byte, and a byte outside 32 to 126: `Lexeme` has no such token;
+-- a called name that is the parameter, and a name that is neither called nor the parameter: `Atom`;
+-- an integer out of 64 bits: `Atom` and `Spells`, by FitsSigned; more than 64 open brackets: `Expression`;
+-- a further line that is neither blank nor a comment: `Trail`.
 use Rattle.std.specs.Prelude.{◌≡◌, ◌≢◌, ◌<◌, ◌≤◌, ◌+◌, ℕ, zero, suc, Bool, true, false, ◌&&◌, List, [], ◌∷◌, ◌++◌, Option, Some, None, codes, IsTrue, ℤ, pos, neg_ℤ, FitsSigned}
 use Rattle.std.specs.List.{list_all}
 use Rattle.std.specs.Int.{w64}

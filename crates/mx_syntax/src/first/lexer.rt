@@ -56,6 +56,7 @@ fn digits_len(bytes: &[u8]) -> usize
 }
 
 /// Whether these digits are a decimal number: 0, or no leading zero.
+#[tactic(auto, using(crate::proofs::Lexed::no_digit, crate::proofs::Lexed::one_digit, crate::proofs::Lexed::more_digits))]
 fn is_decimal(digits: &[u8]) -> bool
     requires { IsTrue (list_all is_ascii_digit digits.now) }
     ensures { result ≡ tokens.is_decimal digits.now }
@@ -174,6 +175,7 @@ impl<'a> Bytes<'a> {
         Ok(Token::Name(name))
     }
 
+    #[tactic(auto, using(crate::proofs::Lexed::integer_some, crate::proofs::Lexed::integer_large, crate::proofs::Lexed::integer_not), unfolding(crate::specs::Lexing::integer))]
     fn number(&mut self) -> Result<Token, FirstRefusal>
         ensures { Reads (spec.integer self.old) result self.new }
     {
@@ -247,7 +249,7 @@ impl<'a> Bytes<'a> {
         ensures { Reads (spec.line self.old) result self.new }
     {
         let mut tokens = Items::new(alloc);
-        while !self.at_end() {
+        'line: while !self.at_end() {
             if self.sees_space() {
                 self.skip_byte();
                 continue;

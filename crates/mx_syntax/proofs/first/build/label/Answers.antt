@@ -1,3 +1,4 @@
+use Rattle.std.proofs.Common.{refl}
 use Rattle.mx_syntax.proofs.Lexed.{no_unprintable, printable_label}
 use Rattle.mx_syntax.proofs.first.build.label.Goals as goal
 

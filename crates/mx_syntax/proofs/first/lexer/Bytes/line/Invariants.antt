@@ -3,8 +3,8 @@ use Rattle.mx_syntax.specs.Lexing.{line}
 use Rattle.mx_syntax.proofs.Turns.{after}
 use Rattle.mx_syntax.proofs.first.lexer.Bytes.line.Given as goal
 
-abbrev pub invariant-loop-self : goal.invariant-loop-self
-invariant-loop-self l = after l.tokens (line l.self) ≡ line l.fn.self
+abbrev pub invariant-line : goal.invariant-line
+invariant-line l = after l.tokens (line l.self) ≡ line l.fn.self
 
-abbrev pub decreases-loop-self : goal.decreases-loop-self
-decreases-loop-self l = length l.self
+abbrev pub decreases-line : goal.decreases-line
+decreases-line l = length l.self
