@@ -29,6 +29,7 @@ pub struct Interpreter {
 }
 
 impl Interpreter {
+    /// An interpreter before the first command: the new model, and nothing held.
     pub fn new(alloc: Global) -> Result<Interpreter, AllocError>
         ensures { IfOk result (λ i. i.engine ≡ first_state) }
     {

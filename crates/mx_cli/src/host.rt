@@ -15,6 +15,7 @@ pub struct HostSource<R: Read + Drop> {
 }
 
 impl<R: Read + Drop> HostSource<R> {
+    /// A source over this reader, with no fault counted.
     pub fn new(inner: R) -> HostSource<R> {
         HostSource { inner, faults: 0 }
     }
@@ -44,6 +45,7 @@ pub struct HostSink<W: Write + Drop> {
 }
 
 impl<W: Write + Drop> HostSink<W> {
+    /// A sink over this writer, with no fault counted.
     pub fn new(inner: W) -> HostSink<W> {
         HostSink { inner, faults: 0 }
     }

@@ -17,6 +17,7 @@ pub fn line_end(bytes: &[u8]) -> Option<usize>
     None
 }
 
+/// The line without the one CR at its end, where there is one.
 pub fn strip_cr(line: &[u8]) -> &[u8]
     ensures { result.now ≡ without_cr line.now }
 {
@@ -26,6 +27,7 @@ pub fn strip_cr(line: &[u8]) -> &[u8]
     }
 }
 
+/// The line behind its leading spaces.
 pub fn strip_spaces(line: &[u8]) -> &[u8]
     ensures { result.now ≡ skip_spaces line.now }
 {
@@ -36,6 +38,7 @@ pub fn strip_spaces(line: &[u8]) -> &[u8]
     rest
 }
 
+/// Whether a line, behind its leading spaces, gives no command: it is empty or a comment.
 pub fn blank(text: &[u8]) -> bool
     ensures { result ≡ is_blank text.now }
 {

@@ -9,6 +9,7 @@ mod script;
 mod session;
 mod status;
 mod stop;
+mod sure;
 mod take;
 #[cfg(test)]
 mod tests;
@@ -20,6 +21,7 @@ pub use laws::{complete_commands_stay, lines_give_the_script};
 use std::alloc::AllocError;
 use std::process::ExitCode;
 use std::{env, io};
+pub use sure::answer_script;
 pub use top::mx_top;
 
 /// The words after the program's name. Where they can't be told there are none.

@@ -35,6 +35,7 @@ pub struct Session {
 impl Session {
     ghost use Rattle.mx_cli.specs.At.{At, GoesOn, Finishes};
 
+    /// A session that has read nothing.
     pub fn new(alloc: Global) -> Result<Session, AllocError>
         ensures { IfOk result (λ s. At s [] []) }
     {

@@ -99,24 +99,27 @@ fn the_last_line_needs_no_line_end(rt: HostRuntime) -> Result<(), Fail> {
     )?)
 }
 
+/// These words get the usage line and status 2.
+fn are_refused(rt: &impl Abort, alloc: Global, words: &Vec<String>) -> Result<(), AllocError> {
+    let mut script = SureSource::new(FIB.to_vec(alloc)?);
+    let mut out = SureSink::new(alloc);
+    let status = mx_top(alloc, words, &mut script, &mut out);
+    assert_eq!(rt; out.bytes(), b"usage: mx MODE ARGUMENTS\n".as_slice());
+    assert_eq!(rt; status, 2);
+    Ok(())
+}
+
 #[test]
 fn other_words_get_the_usage_line(rt: HostRuntime) -> Result<(), Fail> {
     let alloc = rt.alloc();
-    for words in [
-        [].as_slice(),
-        ["run", "now"].as_slice(),
-        ["--help"].as_slice(),
-    ] {
-        let mut given = Vec::new(alloc);
-        for word in words {
-            given.push(String::from_str(alloc, *word)?)?;
-        }
-        let mut script = SureSource::new(FIB.to_vec(alloc)?);
-        let mut out = SureSink::new(alloc);
-        assert_eq!(rt; mx_top(alloc, &given, &mut script, &mut out), 2);
-        assert_eq!(rt; out.bytes(), b"usage: mx MODE ARGUMENTS\n".as_slice());
-    }
-    Ok(())
+    let mut words = Vec::new(alloc);
+    are_refused(&rt, alloc, &words)?;
+    words.push(String::from_str(alloc, "run")?)?;
+    words.push(String::from_str(alloc, "now")?)?;
+    are_refused(&rt, alloc, &words)?;
+    let mut words = Vec::new(alloc);
+    words.push(String::from_str(alloc, "--help")?)?;
+    Ok(are_refused(&rt, alloc, &words)?)
 }
 
 #[test]

@@ -13,12 +13,14 @@ use mx_value::refusal::EvalRefusal;
 use mx_value::value::{CellsAt, Segment, Value};
 use std::alloc::AllocError;
 
+/// Adds bytes as they stand.
 fn push(out: &mut Vec<u8>, bytes: &[u8]) -> Result<(), AllocError>
     ensures { OnOk result (out.new.items ≡ out.old.items ++ bytes.now) }
 {
     out.extend_from_slice(bytes)
 }
 
+/// Adds a number in decimal.
 pub fn push_number(out: &mut Vec<u8>, number: u64) -> Result<(), AllocError>
     ensures { OnOk result (out.new.items ≡ out.old.items ++ decimal number) }
 {
@@ -54,6 +56,7 @@ fn push_decimals(out: &mut Vec<u8>, digits: u8, number: u64) -> Result<(), Alloc
     return push_decimals(out, digits - 1, number / 10);
 }
 
+/// Adds a decimal number: a point with 1 to 9 decimals, and no zero at the end but the first decimal.
 fn push_fixed(out: &mut Vec<u8>, number: Fixed) -> Result<(), AllocError>
     ensures { OnOk result (out.new.items ≡ out.old.items ++ spec.fixed_text number) }
 {
@@ -76,6 +79,7 @@ fn push_quoted(out: &mut Vec<u8>, text: &[u8]) -> Result<(), AllocError>
     push(out, b"\"")
 }
 
+/// Adds a text with a backslash in front of each quote and backslash.
 fn push_escaped(out: &mut Vec<u8>, text: &[u8]) -> Result<(), AllocError>
     ensures { OnOk result (out.new.items ≡ out.old.items ++ concat (map spec.escaped text.now)) }
 {
@@ -97,6 +101,7 @@ fn push_escaped_byte(out: &mut Vec<u8>, byte: u8) -> Result<(), AllocError>
     return push(out, &[byte]);
 }
 
+/// Adds a value: None, True, a number, a text in quotes, a tuple, or what a space, cells or a table is called.
 #[cycle(text)]
 pub fn push_value(out: &mut Vec<u8>, value: &Value) -> Result<(), AllocError>
     ensures { OnOk result (out.new.items ≡ out.old.items ++ value_text value.now) }
@@ -132,6 +137,7 @@ pub fn push_value(out: &mut Vec<u8>, value: &Value) -> Result<(), AllocError>
     }
 }
 
+/// Adds the address of cells and, behind a dot, their name.
 #[cycle(text)]
 fn push_cells(out: &mut Vec<u8>, at: &CellsAt) -> Result<(), AllocError>
     ensures { OnOk result (out.new.items ≡ out.old.items ++ spec.cells_text at.now) }
@@ -155,6 +161,7 @@ fn push_commas(out: &mut Vec<u8>, items: &[Value]) -> Result<(), AllocError>
     Ok(())
 }
 
+/// Adds a tuple. One of a single item has a comma behind it.
 #[cycle(text)]
 fn push_tuple(out: &mut Vec<u8>, items: &[Value]) -> Result<(), AllocError>
     ensures { OnOk result (out.new.items ≡ out.old.items ++ spec.tuple_text (map value_text items.now)) }
@@ -167,6 +174,7 @@ fn push_tuple(out: &mut Vec<u8>, items: &[Value]) -> Result<(), AllocError>
     push(out, b")")
 }
 
+/// Adds an address: names with dots between them, and the arguments of an item in brackets.
 #[cycle(text)]
 fn push_address(out: &mut Vec<u8>, at: &[Segment]) -> Result<(), AllocError>
     ensures { OnOk result (out.new.items ≡ out.old.items ++ spec.address_text at.now) }
@@ -197,6 +205,7 @@ fn push_segment(out: &mut Vec<u8>, segment: &Segment, first: bool) -> Result<(),
     }
 }
 
+/// Adds a node: its address, its name behind a dot, and its arguments; an item node has them in brackets.
 pub fn push_node(out: &mut Vec<u8>, node: &Node) -> Result<(), AllocError>
     ensures { OnOk result (out.new.items ≡ out.old.items ++ node_text node.now) }
 {
@@ -252,6 +261,7 @@ fn push_ring(out: &mut Vec<u8>, nodes: &[Node]) -> Result<(), AllocError>
     }
 }
 
+/// Adds nodes with arrows between them.
 fn push_arrows(out: &mut Vec<u8>, nodes: &[Node]) -> Result<(), AllocError>
     ensures { OnOk result (out.new.items ≡ out.old.items ++ spec.separated (codes " -> ") (map node_text nodes.now)) }
 {
@@ -264,6 +274,7 @@ fn push_arrows(out: &mut Vec<u8>, nodes: &[Node]) -> Result<(), AllocError>
     Ok(())
 }
 
+/// Adds a fault: its kind, the node whose run met it and the line of its formula, from 1.
 fn push_fault(out: &mut Vec<u8>, kind: FaultKind, node: &Node, line: u32) -> Result<(), AllocError>
     ensures { OnOk result (out.new.items ≡ out.old.items ++ spec.refusal_text (EvalRefusal.Fault kind node.now line)) }
 {
