@@ -1,5 +1,7 @@
 -- Runs that go on with no ask, one after the other.
-use Rattle.std.proofs.Common.{◌≡◌, List, [], ◌∷◌, ◌++◌, refl, sym, ◌∙◌, ap, subst}
+use Rattle.std.proofs.Common.{◌≡◌, List, [], ◌∷◌, ◌++◌, Result, Ok, Err, IfOk, refl, sym, ◌∙◌, ap, subst}
+use Rattle.std.specs.declared.alloc.AllocError.{AllocError}
+use Rattle.mx_engine.specs.declared.frame.Next.{Next}
 use Rattle.std.proofs.lemmas.List.{append-nil, append_assoc}
 use Rattle.mx_value.specs.declared.node.Node.{Node}
 use Rattle.mx_meaning.specs.declared.key.Key.{Key}
@@ -28,3 +30,8 @@ alone_then text run mid rest a b c g h = record {
 
 pub alone_from : (text : Text) (run other rest : Run) (a b : List Event) → run ≡ other → GoesOnAlone text other a b rest → GoesOnAlone text run a b rest
 alone_from text run other rest a b e g = subst (λ r. GoesOnAlone text r a b rest) (sym e) g
+
+-- an equation of runs that holds of a result makes a run that goes on with no event
+pub results_alone : (text : Text) (run : Run) (olds : List Event) (R : Next → Run) (r : Result Next AllocError) → IfOk r (λ next. run ≡ R next) → IfOk r (λ next. GoesOnAlone text run olds olds (R next))
+results_alone text run olds R (Ok next) h = alone_by text run (R next) olds h
+results_alone text run olds R (Err e) h = h

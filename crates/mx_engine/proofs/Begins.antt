@@ -16,7 +16,6 @@ use Rattle.mx_engine.specs.declared.frame.Scope.{Scope}
 use Rattle.mx_engine.specs.Tasks.{run_at, env_of}
 use Rattle.mx_engine.specs.Frames.{EndsUnasked, StartsAt}
 
-
 item_by : (text : Text) (n : Node) (o : Option (List Label)) → body n ≡ item_run o → EndsUnasked text n NoSuch
 item_by text n (Some source) e = record { events = Looked (key.Params source) ∷ []; alone = refl; leads = subst (λ r. Leads text r (Looked (key.Params source) ∷ []) (Ends NoSuch)) (sym e) (refl, refl) }
 item_by text n None e = record { events = []; alone = refl; leads = e }

@@ -1,17 +1,21 @@
 -- How each form of expression is read, and what a pushed task does.
 use Rattle.std.proofs.lemmas.List.{drop_more, drop_all}
 use Rattle.std.proofs.lemmas.Option.{slice_get_within, get_or_from_slice_get}
-use Rattle.std.proofs.Common.{arith, zero, suc, slice_get, ◌+◌, Option, Some, None, ◌≡◌, ℕ, List, [], ◌∷◌, ◌++◌, length, refl, sym, ap, ◌∙◌, map, rules, drop, false}
+use Rattle.std.proofs.Common.{◌≤◌, MatchOption, Bor, arith, zero, suc, slice_get, ◌+◌, Option, Some, None, ◌≡◌, ℕ, List, [], ◌∷◌, ◌++◌, length, refl, sym, ap, ◌∙◌, map, rules, drop, false}
 use Rattle.mx_value.specs.declared.label.Label.{Label}
 use Rattle.mx_value.specs.declared.value.Value.{Value}
 use Rattle.mx_syntax.specs.declared.expr.Expr.{Expr, the_lemmas}
-use Rattle.mx_syntax.specs.declared.expr.Expr.TheVariants.{Name, Cond, Compare, Sum, Product, Post}
+use Rattle.mx_syntax.specs.declared.expr.Expr.TheVariants.{Lit, Name, Tuple, Cond, Or, And, Not, Compare, Sum, Product, Signed, Power, Post}
 use Rattle.mx_syntax.specs.declared.expr.SumPart.{SumPart, out-SumPart}
 use Rattle.mx_syntax.specs.declared.expr.ProductPart.{ProductPart, out-ProductPart}
 use Rattle.mx_syntax.specs.declared.expr.Arm.{Arm, out-Arm}
 use Rattle.mx_syntax.specs.declared.expr.Comparison.{Comparison}
+use Rattle.mx_syntax.specs.declared.expr.PowerPart.{PowerPart}
+use Rattle.mx_syntax.specs.declared.expr.Sign.{Sign}
+use Rattle.mx_syntax.specs.declared.stmt.Param.{Param}
+use Rattle.mx_value.specs.declared.fault.FaultKind.TheVariants.{TypeMismatch}
 use Rattle.mx_syntax.specs.declared.expr.Trailer.{Trailer}
-use Rattle.mx_meaning.specs.Meaning.{Run, Env, reading, sum_read, product_read, arm_read, comparison_read, trailer_read, sum_from, product_from, choice_from, comparison_of, comparison_in, post_of, argument_in, sought, local_of, added, multiplied, tested, ended}
+use Rattle.mx_meaning.specs.Meaning.{fault, only_of, locals_of, Run, Env, reading, sum_read, product_read, arm_read, comparison_read, trailer_read, sum_from, product_from, choice_from, comparison_of, comparison_in, post_of, argument_in, sought, local_of, added, multiplied, tested, ended}
 use Rattle.mx_engine.specs.declared.frame.Task.{Task}
 use Rattle.mx_engine.specs.Tasks.{cont, cont_from, continued}
 
@@ -96,3 +100,43 @@ many_trailers (c ∷ d ∷ rest) h = refl
 -- a task takes the value that it waited for
 pub taken : (env : Env) (ts news : List Task) (t : Task) (v : Value) → ts ≡ news ++ t ∷ [] → cont ts env v ≡ continued t env (cont news env) v
 taken env ts news t v e = ap (λ (xs : List Task). cont xs env v) e ∙ ap (λ (k : Value → Run). k v) (cont-push news t env)
+
+pub reading-lit : (v : Value) (env : Env) (go : Value → Run) → reading (Lit v) env go ≡ go v
+reading-lit v env go = search (the_lemmas, rules)
+
+pub reading-tuple : (items : List Expr) (env : Env) (go : Value → Run) → reading (Tuple items) env go ≡ fault TypeMismatch env
+reading-tuple items env go = search (the_lemmas, rules)
+
+pub reading-or : (items : List Expr) (env : Env) (go : Value → Run) → reading (Or items) env go ≡ fault TypeMismatch env
+reading-or items env go = search (the_lemmas, rules)
+
+pub reading-and : (items : List Expr) (env : Env) (go : Value → Run) → reading (And items) env go ≡ fault TypeMismatch env
+reading-and items env go = search (the_lemmas, rules)
+
+pub reading-not : (count : ℕ) (of_ : Expr) (env : Env) (go : Value → Run) → reading (Not count of_) env go ≡ fault TypeMismatch env
+reading-not count of_ env go = search (the_lemmas, rules)
+
+pub reading-signed : (signs : List Sign) (of_ : Expr) (env : Env) (go : Value → Run) → reading (Signed signs of_) env go ≡ fault TypeMismatch env
+reading-signed signs of_ env go = search (the_lemmas, rules)
+
+pub reading-power : (first : Expr) (rest : List PowerPart) (env : Env) (go : Value → Run) → reading (Power first rest) env go ≡ fault TypeMismatch env
+reading-power first rest env go = search (the_lemmas, rules)
+
+pub many_arguments : (es : List Expr) → (length es ≡ 1 → ⊥) → only_of (Some (map reading es)) ≡ None
+many_arguments [] h = refl
+many_arguments (e ∷ []) h = absurd (h refl)
+many_arguments (e ∷ d ∷ es) h = refl
+
+pub first_argument : (es : List Expr) (r : Option (Bor Expr)) → length es ≡ 1 → MatchOption r (slice_get es 0 ≡ None) (λ x. slice_get es 0 ≡ Some x.now) → MatchOption r (only_of (Some (map reading es)) ≡ None) (λ x. only_of (Some (map reading es)) ≡ Some (reading x.now))
+first_argument [] r l h = absurd (omega arith)
+first_argument (e ∷ []) None l h = absurd (cc)
+first_argument (e ∷ []) (Some x) l h = let i : e ≡ x.now = cc in ap (λ y. Some (reading y)) i
+first_argument (e ∷ d ∷ es) r l h = absurd (omega arith)
+
+no_locals : (ps : List Param) (name : Label) → local_of (locals_of ps []) name ≡ None
+no_locals [] name = refl
+no_locals (p ∷ ps) name = refl
+
+-- a parameter past the arguments has none
+pub none_left : (ps : List Param) (vs : List Value) (name : Label) (i : ℕ) → local_of (locals_of ps vs) name ≡ local_of (locals_of (drop i ps) (drop i vs)) name → length vs ≤ i → local_of (locals_of ps vs) name ≡ None
+none_left ps vs name i h l = h ∙ ap (λ ws. local_of (locals_of (drop i ps) ws) name) (drop_all i vs l) ∙ no_locals (drop i ps) name

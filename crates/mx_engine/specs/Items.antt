@@ -2,6 +2,7 @@
 use Rattle.std.specs.Prelude.{Bool, true, false, List, [], ◌∷◌, Option, None, Some, ◌||◌, map}
 use Rattle.std.specs.List.{list_any}
 use Rattle.mx_syntax.specs.declared.stmt.Stmt.{Stmt, fold-Stmt}
+use Rattle.mx_syntax.specs.declared.stmt.IfArm.{IfArm, fold-IfArm}
 use Rattle.mx_syntax.specs.declared.stmt.Stmt.TheOpen.{Stmt-F, IfArm-F}
 
 -- one of these is true
@@ -27,6 +28,9 @@ if_arm_step arm = some_true arm.body
 -- the statement, or one within it, returns an item display
 abbrev pub holds_item : Stmt → Bool
 holds_item = fold-Stmt Bool Bool stmt_step if_arm_step
+
+abbrev pub arm_holds : IfArm → Bool
+arm_holds = fold-IfArm Bool Bool stmt_step if_arm_step
 
 abbrev pub hold_item : List Stmt → Bool
 hold_item body = some_true (map holds_item body)

@@ -4,6 +4,7 @@ use Rattle.mx_value.specs.declared.label.Label.{Label}
 use Rattle.mx_value.specs.declared.value.Value.{Value, out-Value}
 use Rattle.mx_value.specs.declared.value.Segment.{Segment}
 use Rattle.mx_value.specs.declared.fault.FaultKind.{FaultKind}
+use Rattle.mx_value.specs.declared.fault.FaultKind.TheVariants.{TypeMismatch}
 use Rattle.mx_value.specs.declared.node.Node.{Node}
 use Rattle.mx_value.specs.declared.node.Node.TheVariants.{Cell, Item}
 use Rattle.mx_meaning.specs.declared.event.Event.{Event}
@@ -12,7 +13,11 @@ use Rattle.mx_meaning.specs.Meaning.{Run, Ends, Asks, Leads, Env, fits_whole, fa
 use Rattle.mx_meaning.specs.Chains.{asks_of}
 use Rattle.mx_engine.specs.declared.frame.Scope.{Scope}
 use Rattle.mx_engine.specs.declared.frame.Task.{Task}
-use Rattle.mx_engine.specs.declared.frame.Task.TheVariants.{SumFirst, SumRest, ProductFirst, ProductRest, CompareFirst, CompareRest, Test, CallPart, Argument}
+use Rattle.mx_engine.specs.declared.frame.Task.TheVariants.{Sum, Product, Left, Right, Test, Called, Argument}
+use Rattle.mx_syntax.specs.declared.expr.SumOp.{SumOp}
+use Rattle.mx_syntax.specs.declared.expr.SumPart.{SumPart}
+use Rattle.mx_syntax.specs.declared.expr.ProductOp.{ProductOp}
+use Rattle.mx_syntax.specs.declared.expr.ProductPart.{ProductPart}
 use Rattle.mx_engine.specs.declared.frame.Next.{Next}
 use Rattle.mx_engine.specs.declared.frame.Next.TheVariants.{Eval, Give, Ask, Fault}
 use Rattle.mx_engine.specs.declared.frame.Stop.{Stop}
@@ -30,16 +35,23 @@ arguments_of (Item at args) = args
 abbrev pub env_of : Node → Scope → Env
 env_of n scope = record { node = n; at = address_of n; source = scope.source; locals = locals_of scope.params (arguments_of n) }
 
+-- the rest of a sum, after a part of this value
+abbrev pub summed : Option Value → SumOp → List SumPart → Value → Env → (Value → Run) → Run
+summed None op rest v env go = sum_from (map sum_read rest) v env go
+summed (Some total) op rest v env go = added op total v env (λ s. sum_from (map sum_read rest) s env go)
+
+abbrev pub factored : Option Value → ProductOp → List ProductPart → Value → Env → (Value → Run) → Run
+factored None op rest v env go = product_from (map product_read rest) v env go
+factored (Some total) op rest v env go = multiplied op total v env (λ s. product_from (map product_read rest) s env go)
+
 -- what a task does with a value, before the tasks that wait for its own
 abbrev pub continued : Task → Env → (Value → Run) → Value → Run
-continued (SumFirst rest) env go v = sum_from (map sum_read rest) v env go
-continued (SumRest total op rest next) env go v = added op total v env (λ s. sum_from (map sum_read (drop next rest)) s env go)
-continued (ProductFirst rest) env go v = product_from (map product_read rest) v env go
-continued (ProductRest total op rest next) env go v = multiplied op total v env (λ s. product_from (map product_read (drop next rest)) s env go)
-continued (CompareFirst op right) env go v = reading right env (λ b. compared op v b env go)
-continued (CompareRest left op) env go v = compared op left v env go
-continued (Test value arms next last) env go v = tested v (reading value env go) (choice_from (map arm_read (drop next arms)) (reading last) env go) env
-continued (CallPart argument) env go v = reading argument env (λ a. called (cells_in (out-Value v)) (a ∷ []) env go)
+continued (Sum t) env go v = summed t.total t.op (drop t.next t.rest) v env go
+continued (Product t) env go v = factored t.total t.op (drop t.next t.rest) v env go
+continued (Left t) env go v = reading t.right env (λ b. compared t.op v b env go)
+continued (Right t) env go v = compared t.op t.left v env go
+continued (Test t) env go v = tested v (reading t.value env go) (choice_from (map arm_read (drop t.next t.arms)) (reading t.last) env go) env
+continued (Called argument) env go v = reading argument env (λ a. called (cells_in (out-Value v)) (a ∷ []) env go)
 continued (Argument f) env go v = called (cells_in (out-Value f)) (v ∷ []) env go
 
 -- the tasks from the one that waits longest
@@ -78,3 +90,9 @@ Fitting z (Some n) = (fits_whole z ≡ true) × (n ≡ z)
 abbrev pub computed : Result Value FaultKind → Env → (Value → Run) → Run
 computed (Ok v) env go = go v
 computed (Err k) env go = fault k env
+
+-- what a flag decides; no flag is a fault
+abbrev pub tested_by : Option Bool → Run → Run → Env → Run
+tested_by (Some true) given other env = given
+tested_by (Some false) given other env = other
+tested_by None given other env = fault TypeMismatch env

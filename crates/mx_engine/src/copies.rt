@@ -1,6 +1,7 @@
 //! Copies of expressions, which share their parts.
 ghost use Rattle.std.specs.Prelude.{◌≡◌, IfOk};
 
+use mx_list::shared::Shared;
 use mx_syntax::expr::Expr;
 use std::alloc::{AllocError, Global};
 
@@ -47,4 +48,11 @@ pub fn copy_expr(alloc: Global, expr: &Expr) -> Result<Expr, AllocError>
             trailers: trailers.copy()?,
         }),
     }
+}
+
+/// An equal expression, as `copy_expr` gives it.
+pub fn copy_shared(alloc: Global, expr: &Shared<Expr>) -> Result<Expr, AllocError>
+    ensures { IfOk result (λ c. c ≡ expr.now) }
+{
+    copy_expr(alloc, expr.get())
 }

@@ -1,9 +1,9 @@
 //! Edits of the model text.
-ghost use Rattle.std.specs.Prelude.{◌≡◌};
-ghost use Rattle.mx_engine.specs.Items.{hold_item, holds_item};
+ghost use Rattle.std.specs.Prelude.{◌≡◌, map};
+ghost use Rattle.mx_engine.specs.Items.{hold_item, holds_item, some_true, arm_holds};
 
 use mx_list::list::List;
-use mx_syntax::stmt::{Formula, Stmt};
+use mx_syntax::stmt::{Formula, IfArm, Stmt};
 use mx_value::label::Label;
 use mx_value::node::Path;
 use std::alloc::AllocError;
@@ -41,7 +41,7 @@ pub enum EditRefusal {
 }
 
 impl From<AllocError> for EditRefusal {
-    ghost use Rattle.std.specs.Prelude.{◌≡◌};
+    ghost use Rattle.std.specs.Prelude.{◌≡◌, map};
     ghost use Rattle.mx_engine.specs.declared.edit.EditRefusal.TheVariants.{NoMemory};
 
     ghost from_gives = { λ _ refusal. refusal ≡ NoMemory };
@@ -71,10 +71,8 @@ fn is_item(stmt: &Stmt) -> bool
     match stmt {
         Stmt::ReturnItem(_) => true,
         Stmt::If { arms, other } => {
-            for arm in arms.as_slice() {
-                if holds_item(&arm.body) {
-                    return true;
-                }
+            if hold_items(arms) {
+                return true;
             }
             match other {
                 Some(body) => holds_item(body),
@@ -87,4 +85,16 @@ fn is_item(stmt: &Stmt) -> bool
         Stmt::Assign(_, _) => false,
         Stmt::Change(_, _, _) => false,
     }
+}
+
+#[cycle(items)]
+fn hold_items(arms: &List<IfArm>) -> bool
+    ensures { result ≡ some_true (map arm_holds arms.now) }
+{
+    for arm in arms.as_slice() {
+        if holds_item(&arm.body) {
+            return true;
+        }
+    }
+    false
 }

@@ -67,7 +67,6 @@ impl Engine {
     }
 
     /// Changes the model text, and answers how many nodes were held: none is afterwards. A refused edit changes nothing.
-    #[tactic(none)]
     pub fn edit(&mut self, edit: &Edit) -> Result<u32, EditRefusal>
         ensures right { IsRightState self.new }
         ensures accepted { OnOk result (self.new ≡ record self.old { text = applied self.old.text edit.now; held = [] }) }
@@ -105,7 +104,6 @@ impl Engine {
     }
 
     /// The value of a node. It is held from then on, with the values of all nodes that it rests on.
-    #[tactic(none)]
     pub fn eval<L: Ledger>(
         &mut self,
         node: &Node,

@@ -1,12 +1,12 @@
 //! The run of a formula, step by step, up to its value or to a node that it asks.
 ghost use Rattle.std.specs.Prelude.{◌≡◌, ◌*ℤ◌, ℕ, List as Many, [], ◌∷◌, map, drop, length, nat_eq, Some, None, false, true, IfOk, MatchOption, IsTrue, option_copied};
 ghost use Rattle.mx_meaning.specs.Model.{Text};
-ghost use Rattle.mx_meaning.specs.Meaning.{reading, whole_of, cells_in, sum_from, product_from, choice_from, added, multiplied, compared, given_whole, sum_of, comparison_of, comparison_in, comparison_read, post_of, argument_in, trailer_read, args_read, compared_whole, sum_read, product_read, arm_read, local_of, locals_of, sought, called, Env, Run};
-ghost use Rattle.mx_engine.specs.Tasks.{address_of, continued, cont, run_at, stopped_at, env_of, arguments_of, GoesOnAlone, Fitting, computed};
+ghost use Rattle.mx_meaning.specs.Meaning.{reading, whole_of, cells_in, sum_from, product_from, choice_from, added, multiplied, compared, given_whole, sum_of, comparison_of, comparison_in, comparison_read, post_of, argument_in, trailer_read, args_read, compared_whole, tested, sum_read, product_read, arm_read, local_of, locals_of, sought, called, Env, Run};
+ghost use Rattle.mx_engine.specs.Tasks.{address_of, continued, cont, run_at, stopped_at, env_of, arguments_of, GoesOnAlone, Fitting, computed, tested_by};
 ghost use Rattle.mx_value.specs.declared.value.Value.{Value, out-Value};
 
-use crate::copies::copy_expr;
-use crate::frame::{Next, Scope, Stop, Task};
+use crate::copies::{copy_expr, copy_shared};
+use crate::frame::{LeftTask, Next, ProductTask, RightTask, Scope, Stop, SumTask, Task, TestTask};
 use crate::text::ModelText;
 use mx_list::items::Items;
 use mx_list::list::List;
@@ -143,7 +143,6 @@ fn local(
 }
 
 /// The value of a name: a parameter, or cells of the space Main.
-#[tactic(none)]
 fn name_value(
     alloc: Global,
     text: &ModelText,
@@ -187,7 +186,6 @@ fn address(node: &Node) -> &Addr
 }
 
 /// A value is called with one argument.
-#[tactic(none)]
 fn call(
     alloc: Global,
     text: &ModelText,
@@ -211,7 +209,6 @@ fn call(
 }
 
 /// Cells are called with one argument.
-#[tactic(none)]
 fn call_cells(
     alloc: Global,
     text: &ModelText,
@@ -247,7 +244,6 @@ fn call_cells(
 }
 
 /// One step into an expression.
-#[tactic(none)]
 fn enter(
     alloc: Global,
     text: &ModelText,
@@ -263,12 +259,22 @@ fn enter(
         Expr::Lit(value) => Ok(Next::Give(value)),
         Expr::Name(name) => name_value(alloc, text, node, scope, name, events),
         Expr::Sum { first, rest } => {
-            tasks.push(Task::SumFirst { rest })?;
-            Ok(Next::Eval(copy_expr(alloc, first.get())?))
+            tasks.push(Task::Sum(SumTask {
+                total: None,
+                op: SumOp::Plus,
+                rest,
+                next: 0,
+            }))?;
+            Ok(Next::Eval(copy_shared(alloc, &first)?))
         }
         Expr::Product { first, rest } => {
-            tasks.push(Task::ProductFirst { rest })?;
-            Ok(Next::Eval(copy_expr(alloc, first.get())?))
+            tasks.push(Task::Product(ProductTask {
+                total: None,
+                op: ProductOp::Times,
+                rest,
+                next: 0,
+            }))?;
+            Ok(Next::Eval(copy_shared(alloc, &first)?))
         }
         Expr::Cond { arms, last } => choose(alloc, arms, 0, last, tasks),
         Expr::Compare { first, rest } => enter_comparison(alloc, &first, &rest, tasks),
@@ -282,7 +288,6 @@ fn enter(
     }
 }
 
-#[tactic(none)]
 fn enter_comparison(
     alloc: Global,
     first: &Shared<Expr>,
@@ -294,11 +299,9 @@ fn enter_comparison(
     let Some((op, right)) = only_comparison(rest) else {
         return Ok(Next::Fault(FaultKind::TypeMismatch));
     };
-    tasks.push(Task::CompareFirst {
-        op,
-        right: copy_expr(alloc, right)?,
-    })?;
-    Ok(Next::Eval(copy_expr(alloc, first.get())?))
+    let right = copy_expr(alloc, right)?;
+    tasks.push(Task::Left(LeftTask { op, right }))?;
+    Ok(Next::Eval(copy_shared(alloc, first)?))
 }
 
 /// The comparison of a chain of one.
@@ -325,7 +328,6 @@ fn comparison_by(comparison: &Comparison) -> Option<(CmpOp, &Expr)>
     }
 }
 
-#[tactic(none)]
 fn enter_call(
     alloc: Global,
     first: &Shared<Expr>,
@@ -337,10 +339,8 @@ fn enter_call(
     let Some(argument) = only_argument(trailers) else {
         return Ok(Next::Fault(FaultKind::TypeMismatch));
     };
-    tasks.push(Task::CallPart {
-        argument: copy_expr(alloc, argument)?,
-    })?;
-    Ok(Next::Eval(copy_expr(alloc, first.get())?))
+    tasks.push(Task::Called(copy_expr(alloc, argument)?))?;
+    Ok(Next::Eval(copy_shared(alloc, first)?))
 }
 
 /// The argument of a call with one, where nothing follows the call.
@@ -400,12 +400,12 @@ fn sum_next(
     };
     let op = part.op;
     let of = copy_expr(alloc, &part.of)?;
-    tasks.push(Task::SumRest {
-        total,
+    tasks.push(Task::Sum(SumTask {
+        total: Some(total),
         op,
         rest,
         next,
-    })?;
+    }))?;
     Ok(Next::Eval(of))
 }
 
@@ -427,12 +427,12 @@ fn product_next(
     };
     let op = part.op;
     let of = copy_expr(alloc, &part.of)?;
-    tasks.push(Task::ProductRest {
-        total,
+    tasks.push(Task::Product(ProductTask {
+        total: Some(total),
         op,
         rest,
         next,
-    })?;
+    }))?;
     Ok(Next::Eval(of))
 }
 
@@ -447,24 +447,129 @@ fn choose(
     ensures { IfOk result (λ next. (env : Env) → choice_from (map arm_read (drop at arms)) (reading last) env (cont tasks.old.items env) ≡ run_at next tasks.new.items env) }
 {
     let Some(arm) = arms.get(at) else {
-        return Ok(Next::Eval(copy_expr(alloc, last.get())?));
+        return Ok(Next::Eval(copy_shared(alloc, &last)?));
     };
     let Some(next) = at.checked_add(1) else {
         return Err(AllocError);
     };
     let value = copy_expr(alloc, &arm.value)?;
     let test = copy_expr(alloc, &arm.test)?;
-    tasks.push(Task::Test {
+    tasks.push(Task::Test(TestTask {
         value,
         arms,
         next,
         last,
-    })?;
+    }))?;
     Ok(Next::Eval(test))
 }
 
+/// A part of a sum has this value.
+fn sum_on(
+    alloc: Global,
+    task: SumTask,
+    value: Value,
+    tasks: &mut Vec<Task>,
+) -> Result<Next, AllocError>
+    ensures { IfOk result (λ next. (env : Env) → continued (Task.Sum task) env (cont tasks.old.items env) value ≡ run_at next tasks.new.items env) }
+{
+    let SumTask {
+        total,
+        op,
+        rest,
+        next,
+    } = task;
+    let Some(total) = total else {
+        return sum_next(alloc, value, rest, next, tasks);
+    };
+    match add(op, &total, &value) {
+        Ok(total) => sum_next(alloc, total, rest, next, tasks),
+        Err(kind) => Ok(Next::Fault(kind)),
+    }
+}
+
+/// A factor of a product has this value.
+fn product_on(
+    alloc: Global,
+    task: ProductTask,
+    value: Value,
+    tasks: &mut Vec<Task>,
+) -> Result<Next, AllocError>
+    ensures { IfOk result (λ next. (env : Env) → continued (Task.Product task) env (cont tasks.old.items env) value ≡ run_at next tasks.new.items env) }
+{
+    let ProductTask {
+        total,
+        op,
+        rest,
+        next,
+    } = task;
+    let Some(total) = total else {
+        return product_next(alloc, value, rest, next, tasks);
+    };
+    match multiply(op, &total, &value) {
+        Ok(total) => product_next(alloc, total, rest, next, tasks),
+        Err(kind) => Ok(Next::Fault(kind)),
+    }
+}
+
+/// The left part of a comparison has this value.
+fn left_on(task: LeftTask, value: Value, tasks: &mut Vec<Task>) -> Result<Next, AllocError>
+    ensures { IfOk result (λ next. (env : Env) → continued (Task.Left task) env (cont tasks.old.items env) value ≡ run_at next tasks.new.items env) }
+{
+    let LeftTask { op, right } = task;
+    tasks.push(Task::Right(RightTask { left: value, op }))?;
+    Ok(Next::Eval(right))
+}
+
+/// The right part of a comparison has this value.
+fn right_on(task: &RightTask, value: &Value) -> Next
+    ensures { (env : Env) (ts : Many Task) → continued (Task.Right task.now) env (cont ts env) value.now ≡ run_at result ts env }
+{
+    match compare(task.op, &task.left, value) {
+        Ok(flag) => Next::Give(flag),
+        Err(kind) => Next::Fault(kind),
+    }
+}
+
+/// The flag that a value is.
+fn flag(value: &Value) -> Option<bool>
+    ensures { (given other : Run) (env : Env) → tested value.now given other env ≡ tested_by result given other env }
+{
+    match value {
+        Value::Flag(flag) => Some(*flag),
+        Value::Nothing => None,
+        Value::Int(_) => None,
+        Value::Fix(_) => None,
+        Value::Text(_) => None,
+        Value::Tup(_) => None,
+        Value::Space(_) => None,
+        Value::Cells(_) => None,
+        Value::Table(_) => None,
+    }
+}
+
+/// The test of a conditional's arm has this value.
+fn test_on(
+    alloc: Global,
+    task: TestTask,
+    value: &Value,
+    tasks: &mut Vec<Task>,
+) -> Result<Next, AllocError>
+    ensures { IfOk result (λ next. (env : Env) → continued (Task.Test task) env (cont tasks.old.items env) value.now ≡ run_at next tasks.new.items env) }
+{
+    let TestTask {
+        value: given,
+        arms,
+        next,
+        last,
+    } = task;
+    match flag(value) {
+        Some(true) => Ok(Next::Eval(given)),
+        Some(false) => choose(alloc, arms, next, last, tasks),
+        None => Ok(Next::Fault(FaultKind::TypeMismatch)),
+    }
+}
+
 /// One step of a task that waited for this value.
-#[tactic(none)]
 fn go_on(
     alloc: Global,
     text: &ModelText,
@@ -476,54 +581,20 @@ fn go_on(
     ensures { IfOk result (λ next. (env : Env) → GoesOnAlone text.now (continued task env (cont tasks.old.items env) value) events.old events.new (run_at next tasks.new.items env)) }
 {
     match task {
-        Task::SumFirst { rest } => sum_next(alloc, value, rest, 0, tasks),
-        Task::SumRest {
-            total,
-            op,
-            rest,
-            next,
-        } => match add(op, &total, &value) {
-            Ok(total) => sum_next(alloc, total, rest, next, tasks),
-            Err(kind) => Ok(Next::Fault(kind)),
-        },
-        Task::ProductFirst { rest } => product_next(alloc, value, rest, 0, tasks),
-        Task::ProductRest {
-            total,
-            op,
-            rest,
-            next,
-        } => match multiply(op, &total, &value) {
-            Ok(total) => product_next(alloc, total, rest, next, tasks),
-            Err(kind) => Ok(Next::Fault(kind)),
-        },
-        Task::CompareFirst { op, right } => {
-            tasks.push(Task::CompareRest { left: value, op })?;
-            Ok(Next::Eval(right))
-        }
-        Task::CompareRest { left, op } => match compare(op, &left, &value) {
-            Ok(flag) => Ok(Next::Give(flag)),
-            Err(kind) => Ok(Next::Fault(kind)),
-        },
-        Task::Test {
-            value: given,
-            arms,
-            next,
-            last,
-        } => match value {
-            Value::Flag(true) => Ok(Next::Eval(given)),
-            Value::Flag(false) => choose(alloc, arms, next, last, tasks),
-            _ => Ok(Next::Fault(FaultKind::TypeMismatch)),
-        },
-        Task::CallPart { argument } => {
-            tasks.push(Task::Argument { called: value })?;
+        Task::Sum(task) => sum_on(alloc, task, value, tasks),
+        Task::Product(task) => product_on(alloc, task, value, tasks),
+        Task::Left(task) => left_on(task, value, tasks),
+        Task::Right(task) => Ok(right_on(&task, &value)),
+        Task::Test(task) => test_on(alloc, task, &value, tasks),
+        Task::Called(argument) => {
+            tasks.push(Task::Argument(value))?;
             Ok(Next::Eval(argument))
         }
-        Task::Argument { called } => call(alloc, text, &called, value, events),
+        Task::Argument(called) => call(alloc, text, &called, value, events),
     }
 }
 
 /// Goes on to the value of the run, or to where it asks a node or meets a fault.
-#[tactic(none)]
 pub fn run_on(
     alloc: Global,
     text: &ModelText,

@@ -9,48 +9,59 @@ use mx_value::fault::FaultKind;
 use mx_value::node::{Node, Path};
 use mx_value::value::Value;
 
+/// A sum of which parts wait: the total of those before, none at the first part.
+#[derive(Drop)]
+pub struct SumTask {
+    pub total: Option<Value>,
+    pub op: SumOp,
+    pub rest: List<SumPart>,
+    pub next: usize,
+}
+
+/// A product of which factors wait: that of those before, none at the first one.
+#[derive(Drop)]
+pub struct ProductTask {
+    pub total: Option<Value>,
+    pub op: ProductOp,
+    pub rest: List<ProductPart>,
+    pub next: usize,
+}
+
+/// A comparison whose left part is being computed.
+#[derive(Drop)]
+pub struct LeftTask {
+    pub op: CmpOp,
+    pub right: Expr,
+}
+
+/// A comparison whose right part is being computed.
+#[derive(Drop)]
+pub struct RightTask {
+    pub left: Value,
+    pub op: CmpOp,
+}
+
+/// The test of a conditional's arm, with the arm's value and the arms behind it.
+#[derive(Drop)]
+pub struct TestTask {
+    pub value: Expr,
+    pub arms: List<Arm>,
+    pub next: usize,
+    pub last: Shared<Expr>,
+}
+
 /// What waits for the value of an expression, with the values that are already computed.
 #[derive(Drop)]
 pub enum Task {
-    SumFirst {
-        rest: List<SumPart>,
-    },
-    SumRest {
-        total: Value,
-        op: SumOp,
-        rest: List<SumPart>,
-        next: usize,
-    },
-    ProductFirst {
-        rest: List<ProductPart>,
-    },
-    ProductRest {
-        total: Value,
-        op: ProductOp,
-        rest: List<ProductPart>,
-        next: usize,
-    },
-    CompareFirst {
-        op: CmpOp,
-        right: Expr,
-    },
-    CompareRest {
-        left: Value,
-        op: CmpOp,
-    },
-    /// The test of a conditional's arm, with the arm's value and the arms behind it.
-    Test {
-        value: Expr,
-        arms: List<Arm>,
-        next: usize,
-        last: Shared<Expr>,
-    },
-    CallPart {
-        argument: Expr,
-    },
-    Argument {
-        called: Value,
-    },
+    Sum(SumTask),
+    Product(ProductTask),
+    Left(LeftTask),
+    Right(RightTask),
+    Test(TestTask),
+    /// The called part, before this argument.
+    Called(Expr),
+    /// The argument of this called value.
+    Argument(Value),
 }
 
 /// Where the run of a frame stands.

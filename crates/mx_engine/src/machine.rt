@@ -67,7 +67,6 @@ pub enum Begun {
 }
 
 /// The value of a node, which is held with those that it rests on.
-#[tactic(none)]
 pub fn eval<L: Ledger>(
     alloc: Global,
     text: &ModelText,
@@ -98,7 +97,6 @@ pub fn eval<L: Ledger>(
 }
 
 /// Drives the first run to its end. An evaluation that is broken off is rolled back.
-#[tactic(none)]
 fn settle<L: Ledger>(
     alloc: Global,
     text: &ModelText,
@@ -157,7 +155,6 @@ fn settle<L: Ledger>(
     }
 }
 
-#[tactic(none)]
 fn drive<L: Ledger>(
     alloc: Global,
     text: &ModelText,
@@ -187,7 +184,6 @@ fn drive<L: Ledger>(
 }
 
 /// The run on top goes on to its value, to a fault, or to a node that it asks.
-#[tactic(none)]
 fn step<L: Ledger>(
     alloc: Global,
     text: &ModelText,
@@ -235,7 +231,6 @@ fn step<L: Ledger>(
 }
 
 /// The formula of the node gave a value. None is a fault.
-#[tactic(none)]
 fn give(
     alloc: Global,
     most: usize,
@@ -259,7 +254,6 @@ fn give(
 }
 
 /// The run of the node gave its value, which is held from now on.
-#[tactic(none)]
 fn finish(
     alloc: Global,
     most: usize,
@@ -292,7 +286,6 @@ fn finish(
 }
 
 /// The reply of the node goes to the run that asked it.
-#[tactic(none)]
 fn hand_down(
     alloc: Global,
     waiting: &mut Waiting,
@@ -310,7 +303,6 @@ fn hand_down(
 }
 
 /// The run of a node goes on with the reply of a node that it asked.
-#[tactic(none)]
 fn given(
     alloc: Global,
     node: Shared<Node>,
@@ -339,7 +331,6 @@ fn given(
 }
 
 /// The run of a node asks another.
-#[tactic(none)]
 fn ask<L: Ledger>(
     alloc: Global,
     text: &ModelText,
@@ -375,7 +366,6 @@ fn ask<L: Ledger>(
 }
 
 /// The nodes that wait from this one on.
-#[tactic(none)]
 fn nodes_from(alloc: Global, waiting: &Waiting, at: usize) -> Result<Items<Node>, AllocError>
     requires { at < length waiting.now.entries }
     ensures { IfOk result (λ ring. ring ≡ map (λ w. w.0) (drop at waiting.now.entries)) }
@@ -391,7 +381,6 @@ fn nodes_from(alloc: Global, waiting: &Waiting, at: usize) -> Result<Items<Node>
 }
 
 /// The run of a node begins, where its cells are there and its arguments bind.
-#[tactic(none)]
 fn begin<L: Ledger>(
     alloc: Global,
     text: &ModelText,

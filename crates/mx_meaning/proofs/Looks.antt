@@ -1,10 +1,7 @@
 -- What a run looks up.
-use Rattle.std.proofs.Common.{◌≡◌, ℕ, List, [], ◌∷◌, ◌++◌, ◌⊎◌, inl, inr, refl, sym, ◌∙◌, ap, subst}
+use Rattle.std.proofs.Common.{◌≡◌, List, [], ◌∷◌, ◌++◌, ◌⊎◌, inl, inr, refl, sym, ◌∙◌, ap, subst}
 use Rattle.mx_value.specs.declared.node.Node.{Node}
-use Rattle.mx_value.specs.declared.fault.FaultKind.{FaultKind}
-use Rattle.mx_value.specs.declared.read.Read.{Read}
 use Rattle.mx_meaning.specs.declared.key.Key.{Key}
-use Rattle.mx_meaning.specs.declared.event.Reply.{Reply}
 use Rattle.mx_meaning.specs.declared.event.Event.{Event}
 use Rattle.mx_meaning.specs.declared.event.Event.TheVariants.{Looked, Asked, Noted}
 use Rattle.mx_meaning.specs.Model.{Text, KeyResult, key_result}

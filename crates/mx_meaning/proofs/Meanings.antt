@@ -1,13 +1,10 @@
 -- What the end of a run means, and how the end of an asked node reaches those that wait for it.
 use Rattle.std.proofs.Common.{◌≡◌, ℕ, zero, suc, ◌+◌, List, [], ◌∷◌, refl, sym, ◌∙◌, ap, subst, arith}
 use Rattle.mx_value.specs.declared.node.Node.{Node}
-use Rattle.mx_value.specs.declared.fault.FaultKind.{FaultKind}
-use Rattle.mx_value.specs.declared.read.Read.{Read}
-use Rattle.mx_meaning.specs.declared.key.Key.{Key}
 use Rattle.mx_meaning.specs.declared.event.Reply.{Reply}
 use Rattle.mx_meaning.specs.declared.event.Event.{Event}
 use Rattle.mx_meaning.specs.declared.event.Event.TheVariants.{Looked, Asked, Noted}
-use Rattle.mx_meaning.specs.Model.{Text, KeyResult, key_result}
+use Rattle.mx_meaning.specs.Model.{Text, key_result}
 use Rattle.mx_meaning.specs.Lists.{Has}
 use Rattle.mx_meaning.specs.Meaning.{Outcome, Gives, Faults, NoSuch, WrongCount, NoLevel, Run, Ends, Looks, Asks, Notes, ending, answered, level, body, IsReached, Means, Leads}
 use Rattle.mx_meaning.proofs.Levels.{level_more, ending_more, one_meaning}

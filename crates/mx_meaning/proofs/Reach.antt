@@ -1,15 +1,12 @@
 -- How asks and chains of asks lead on.
-use Rattle.std.proofs.Common.{ℕ, List, [], ◌∷◌, inl, inr, refl, sym, ◌∙◌, ap}
+use Rattle.std.proofs.Common.{List, [], ◌∷◌, inl, inr, refl, sym, ◌∙◌, ap}
 use Rattle.mx_value.specs.declared.node.Node.{Node}
-use Rattle.mx_value.specs.declared.fault.FaultKind.{FaultKind}
-use Rattle.mx_value.specs.declared.read.Read.{Read}
-use Rattle.mx_meaning.specs.declared.key.Key.{Key}
 use Rattle.mx_meaning.specs.declared.event.Reply.{Reply}
 use Rattle.mx_meaning.specs.declared.event.Event.{Event}
 use Rattle.mx_meaning.specs.declared.event.Event.TheVariants.{Looked, Asked, Noted}
-use Rattle.mx_meaning.specs.Model.{Text, KeyResult, key_result}
+use Rattle.mx_meaning.specs.Model.{Text, key_result}
 use Rattle.mx_meaning.specs.Lists.{Has}
-use Rattle.mx_meaning.specs.Meaning.{Run, Ends, Looks, Asks, Notes, body, Leads}
+use Rattle.mx_meaning.specs.Meaning.{Run, Looks, Asks, Notes, body, Leads}
 use Rattle.mx_meaning.specs.Chains.{asks_of, DoesAsk, Reaches, Itself, Through, ReachedFrom}
 
 -- what is closed under asks has all that its nodes reach

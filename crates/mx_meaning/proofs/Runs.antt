@@ -1,13 +1,10 @@
 -- Two ways into one run: one of them goes on to the other.
-use Rattle.std.proofs.Common.{◌≡◌, ℕ, List, [], ◌∷◌, ◌++◌, ◌⊎◌, inl, inr, refl, sym, ◌∙◌, ap, subst}
+use Rattle.std.proofs.Common.{◌≡◌, List, [], ◌∷◌, ◌++◌, ◌⊎◌, inl, inr, refl, sym, ◌∙◌, ap, subst}
 use Rattle.mx_value.specs.declared.node.Node.{Node}
-use Rattle.mx_value.specs.declared.fault.FaultKind.{FaultKind}
-use Rattle.mx_value.specs.declared.read.Read.{Read}
-use Rattle.mx_meaning.specs.declared.key.Key.{Key}
 use Rattle.mx_meaning.specs.declared.event.Reply.{Reply}
 use Rattle.mx_meaning.specs.declared.event.Event.{Event}
 use Rattle.mx_meaning.specs.declared.event.Event.TheVariants.{Looked, Asked, Noted}
-use Rattle.mx_meaning.specs.Model.{Text, KeyResult, key_result}
+use Rattle.mx_meaning.specs.Model.{Text, key_result}
 use Rattle.mx_meaning.specs.Lists.{Has}
 use Rattle.mx_meaning.specs.Meaning.{Outcome, Gives, Run, Ends, Looks, Asks, Notes, Means, Leads}
 use Rattle.std.proofs.lemmas.List.{append-nil}

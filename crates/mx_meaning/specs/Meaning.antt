@@ -1,6 +1,6 @@
 -- What a node means. A run is a conversation: it looks keys up in the model text, asks nodes, notes reads, and ends.
 -- Forms that are not built yet end in the fault TypeMismatch, and each such case says so.
-use Rattle.std.specs.Prelude.{◌≡◌, ℕ, zero, suc, ◌+◌, ◌^◌, ◌+ℤ◌, ◌-ℤ◌, ◌*ℤ◌, List, [], ◌∷◌, Option, Some, None, Bool, true, false, not, ◌&&◌, ℤ, pos, negsuc, nat_lt, nat_eq, int_lt, int_le, if◌then◌else◌, length, map}
+use Rattle.std.specs.Prelude.{◌≡◌, ℕ, zero, suc, ◌^◌, ◌+ℤ◌, ◌-ℤ◌, ◌*ℤ◌, List, [], ◌∷◌, Option, Some, None, Bool, true, false, not, ◌&&◌, ℤ, pos, negsuc, nat_lt, nat_eq, int_lt, int_le, if◌then◌else◌, length}
 use Rattle.mx_value.specs.declared.label.Label.{Label}
 use Rattle.mx_value.specs.declared.value.Value.{Value, out-Value}
 use Rattle.mx_value.specs.declared.value.Value.TheVariants.{Nothing, Flag, Int, Cells as CellsValue}
@@ -35,7 +35,7 @@ use Rattle.mx_meaning.specs.declared.event.Reply.{Reply}
 use Rattle.mx_value.specs.declared.read.Read.{Read}
 use Rattle.mx_meaning.specs.declared.event.Event.{Event}
 use Rattle.mx_meaning.specs.declared.event.Event.TheVariants.{Looked, Asked, Noted}
-use Rattle.mx_meaning.specs.Model.{Text, KeyResult, Missing, CellsHere, FormulaHere, InputHere, key_result, same_name}
+use Rattle.mx_meaning.specs.Model.{Text, KeyResult, CellsHere, FormulaHere, InputHere, key_result, same_name}
 
 -- how a node's run ends
 pub data Outcome : Type 0 where

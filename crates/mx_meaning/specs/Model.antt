@@ -1,5 +1,5 @@
 -- The model text, and what a run learns of it by a key.
-use Rattle.std.specs.Prelude.{◌≡◌, ℕ, List, [], ◌∷◌, Option, None, Some, Bool, true, false, nat_eq, if◌then◌else◌, codes}
+use Rattle.std.specs.Prelude.{List, [], ◌∷◌, Option, None, Some, Bool, false, nat_eq, if◌then◌else◌, codes}
 use Rattle.std.specs.Cmp.Lexicographic.{pointwise}
 use Rattle.std.specs.Map.{lookup}
 use Rattle.mx_value.specs.declared.label.Label.{Label}

@@ -1,5 +1,5 @@
 -- The state of an engine.
-use Rattle.std.specs.Prelude.{ℕ, ◌≤◌, List, [], length}
+use Rattle.std.specs.Prelude.{ℕ, ◌≤◌, List, length}
 use Rattle.mx_meaning.specs.Model.{Text}
 use Rattle.mx_meaning.specs.Held.{Entry, IsRight}
 
