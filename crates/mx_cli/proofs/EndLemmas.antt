@@ -1,11 +1,11 @@
 -- A piece that is fed line by line, and a script's end.
-use Rattle.std.proofs.Common.{◌≡◌, ◌≢◌, ℕ, zero, suc, ◌+◌, ◌<◌, ◌≤◌, List, [], ◌∷◌, ◌++◌, Option, None, Some, Result, Ok, Err, MatchResult, length, take, drop, get_or, refl, sym, ap, ◌∙◌, subst, append_assoc, append-nil, arith, take-append-drop}
+use Rattle.std.proofs.Common.{◌≡◌, ◌≢◌, ℕ, zero, suc, ◌+◌, ◌<◌, List, [], ◌∷◌, ◌++◌, Option, None, Result, Ok, Err, MatchResult, length, take, drop, get_or, refl, sym, ap, ◌∙◌, subst, append_assoc, append-nil, arith, take-append-drop}
 use Rattle.std.proofs.lemmas.List.{take_more}
 use Rattle.std.specs.Option.{option_to_list}
 use Rattle.std.specs.Io.KnownBytes.{append_known}
 use Rattle.mx_outside.specs.declared.sink.WriteFailure.{WriteFailure}
 use Rattle.mx_outside.proofs.Bytes.{append_known-append}
-use Rattle.mx_cli.specs.Script.{Lines, split_lines, last_line, Command, Taken, taken, complete, pending_after, complete_commands, commands, HasNoLf}
+use Rattle.mx_cli.specs.Script.{split_lines, last_line, Command, Taken, taken, complete, pending_after, complete_commands, commands, HasNoLf}
 use Rattle.mx_cli.specs.Answer.{State, first_state}
 use Rattle.mx_cli.specs.Transcript.{Runs, Begins, Wrote, IsOutput}
 use Rattle.mx_cli.specs.Session.{TakesLine, pending_of}
@@ -13,7 +13,7 @@ use Rattle.mx_cli.specs.At.{IsAfter, At, Halts, GoesOn, Finishes}
 use Rattle.mx_cli.specs.declared.take.Pending.{Pending}
 use Rattle.mx_cli.specs.declared.stop.Stop.{Stop}
 use Rattle.mx_cli.specs.declared.session.Session.{Session}
-use Rattle.mx_cli.proofs.RunLemmas.{run_more, begins_more, begins_less, begins_whole}
+use Rattle.mx_cli.proofs.RunLemmas.{run_more, begins_more, begins_less}
 use Rattle.mx_cli.proofs.ScriptLemmas.{complete-append, pending_after-append}
 use Rattle.mx_cli.proofs.AtLemmas.{halts_grow, given}
 

@@ -1,13 +1,13 @@
 -- What a run has read and written, call after call.
-use Rattle.std.proofs.Common.{◌≡◌, ℕ, ◌+◌, ◌-◌, ◌<◌, ◌≤◌, List, [], ◌∷◌, ◌++◌, Option, None, Some, Result, Ok, Err, length, refl, sym, ap, ◌∙◌, subst, append-nil, arith, length-append}
+use Rattle.std.proofs.Common.{◌≡◌, ℕ, List, [], ◌++◌, Option, None, Some, Ok, Err, refl, sym, ap, ◌∙◌, subst, append-nil}
 use Rattle.std.specs.Io.KnownBytes.{append_known, prepend_known}
 use Rattle.mx_outside.specs.declared.sink.WriteFailure.{WriteFailure}
 use Rattle.mx_outside.specs.declared.sink.WriteFailure.TheVariants as write
 use Rattle.mx_outside.proofs.Bytes.{append_known-append, append_known-nil, prepend_known-append}
-use Rattle.mx_cli.specs.Script.{complete_commands, commands}
+use Rattle.mx_cli.specs.Script.{commands}
 use Rattle.mx_cli.specs.Answer.{first_state}
-use Rattle.mx_cli.specs.Transcript.{Begins, Wrote, Traded}
-use Rattle.mx_cli.specs.At.{At, Halts, GoesOn, Finishes, Ends}
+use Rattle.mx_cli.specs.Transcript.{Wrote, Traded}
+use Rattle.mx_cli.specs.At.{At, Halts, Finishes, Ends}
 use Rattle.mx_cli.specs.Stop.{stop_for}
 use Rattle.mx_cli.specs.declared.stop.Stop.{Stop}
 use Rattle.mx_cli.specs.declared.stop.Stop.TheVariants.{ReadFault, WriteFault, NoMemory, OverLimit}

@@ -1,8 +1,8 @@
 -- Runs of commands, one after another, and their beginnings.
-use Rattle.std.proofs.Common.{◌≡◌, ℕ, zero, suc, ◌+◌, ◌-◌, ◌≤◌, List, [], ◌∷◌, ◌++◌, Option, None, Some, Result, Ok, Err, length, take, drop, refl, sym, ap, ◌∙◌, subst, append_assoc, append-nil, take-append-drop, arith}
-use Rattle.std.specs.Io.KnownBytes.{append_known, prepend_known}
+use Rattle.std.proofs.Common.{ℕ, List, [], ◌∷◌, ◌++◌, Option, Result, Ok, Err, take, drop, refl, sym, ap, ◌∙◌, subst, append_assoc, append-nil, take-append-drop}
+use Rattle.std.specs.Io.KnownBytes.{append_known}
 use Rattle.mx_outside.specs.Outside.{TakesFront}
-use Rattle.mx_outside.proofs.Bytes.{append_known-append, append_known-nil}
+use Rattle.mx_outside.proofs.Bytes.{append_known-append}
 use Rattle.mx_outside.specs.declared.sink.WriteFailure.{WriteFailure}
 use Rattle.mx_cli.specs.Script.{Command, Taken}
 use Rattle.mx_cli.specs.Session.{TakesLine}

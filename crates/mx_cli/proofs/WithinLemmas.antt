@@ -1,10 +1,10 @@
 -- The front of a script within the limits is within them.
-use Rattle.std.proofs.Common.{◌≡◌, ℕ, ◌+◌, ◌≤◌, List, [], ◌∷◌, ◌++◌, Option, None, Some, length, refl, sym, ap, ◌∙◌, subst, append_assoc, arith, length-append}
+use Rattle.std.proofs.Common.{◌≡◌, ℕ, ◌≤◌, List, [], ◌∷◌, ◌++◌, Option, None, Some, length, sym, ap, ◌∙◌, subst, append_assoc, arith, length-append}
 use Rattle.std.specs.List.{AllByRecursion}
 use Rattle.std.specs.Io.KnownBytes.{prepend_known}
 use Rattle.mx_cli.specs.Script.{Lines, split_lines}
 use Rattle.mx_cli.specs.Transcript.{IsWithin, IsCut}
-use Rattle.mx_cli.proofs.ScriptLemmas.{glued, glued_rest, joined, split_lines-append}
+use Rattle.mx_cli.proofs.ScriptLemmas.{glued, glued_rest, split_lines-append}
 
 all_front : (P : List ℕ → Type 0) (xs ys : List (List ℕ)) → AllByRecursion P (xs ++ ys) → AllByRecursion P xs
 all_front P [] ys all = tt

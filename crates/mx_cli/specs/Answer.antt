@@ -1,5 +1,5 @@
 -- What each command answers.
-use Rattle.std.specs.Prelude.{◌≡◌, ◌≢◌, ℕ, ◌-◌, List, [], ◌∷◌, Result, Ok, Err, length, codes}
+use Rattle.std.specs.Prelude.{◌≡◌, ◌≢◌, ℕ, ◌-◌, List, [], Result, Ok, Err, length}
 use Rattle.mx_value.specs.declared.value.Value.{Value}
 use Rattle.mx_value.specs.declared.node.Node.{Node}
 use Rattle.mx_value.specs.declared.refusal.EvalRefusal.{EvalRefusal}
@@ -9,7 +9,6 @@ use Rattle.mx_syntax.specs.declared.first.FirstCommand.{FirstCommand}
 use Rattle.mx_syntax.specs.declared.first.FirstCommand.TheVariants as first
 use Rattle.mx_syntax.specs.First.{Spells}
 use Rattle.mx_meaning.specs.Model.{main_path}
-use Rattle.mx_meaning.specs.Held.{Entry}
 use Rattle.mx_meaning.specs.Answers.{Answer}
 use Rattle.mx_meaning.specs.State.{State as EngineState, most_held}
 use Rattle.mx_engine.specs.declared.edit.Edit.{Edit}

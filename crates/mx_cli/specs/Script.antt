@@ -1,5 +1,5 @@
 -- The lines and commands of a script.
-use Rattle.std.specs.Prelude.{◌≡◌, ◌≢◌, ℕ, ◌+◌, ◌-◌, ◌==◌, ◌||◌, nat_eq, length, take, slice_index, map, Bool, true, false, List, [], ◌∷◌, ◌++◌, Option, None, Some, if◌then◌else◌, option_to_list, codes}
+use Rattle.std.specs.Prelude.{◌≡◌, ◌≢◌, ℕ, ◌+◌, ◌-◌, ◌==◌, ◌||◌, nat_eq, length, take, slice_index, map, Bool, true, List, [], ◌∷◌, ◌++◌, Option, None, Some, if◌then◌else◌, option_to_list, codes}
 use Rattle.std.specs.List.{starts_with, concat, AllByRecursion}
 use Rattle.std.specs.Cmp.Lexicographic.{pointwise}
 

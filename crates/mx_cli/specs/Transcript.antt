@@ -1,5 +1,5 @@
 -- Runs of the commands of a script.
-use Rattle.std.specs.Prelude.{◌≡◌, ◌≤◌, ℕ, ◌+◌, List, [], ◌∷◌, ◌++◌, Option, length, take}
+use Rattle.std.specs.Prelude.{◌≡◌, ◌≤◌, ℕ, List, [], ◌∷◌, ◌++◌, Option, length}
 use Rattle.std.specs.List.{AllByRecursion}
 use Rattle.std.specs.Io.KnownBytes.{prepend_known, append_known}
 use Rattle.mx_cli.specs.Script.{Command, split_lines, complete_commands, commands}

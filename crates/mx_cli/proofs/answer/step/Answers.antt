@@ -1,4 +1,4 @@
-use Rattle.mx_cli.specs.Answer.{Step, cells, eval}
+use Rattle.mx_cli.specs.Answer.{cells, eval}
 use Rattle.mx_cli.proofs.answer.step.Goals as goal
 
 pub returns-in-Ok-Cells : goal.returns-in-Ok-Cells

@@ -1,4 +1,4 @@
-use Rattle.std.proofs.Common.{◌≡◌, ◌≢◌, ◌+◌, ◌-◌, ◌/◌, ◌%◌, ◌∷◌, ◌++◌, [], ◌∙◌, sym, ap, append-nil, append_assoc, List, ℕ}
+use Rattle.std.proofs.Common.{◌≢◌, ◌+◌, ◌-◌, ◌/◌, ◌%◌, ◌∷◌, ◌++◌, [], ◌∙◌, sym, ap, append-nil, append_assoc, List, ℕ}
 use Rattle.mx_cli.specs.Text.{padded}
 use Rattle.mx_cli.proofs.TextLemmas.{padded_none, padded_more}
 use Rattle.mx_cli.proofs.text.+push_padded.Goals as goal

@@ -1,4 +1,4 @@
-use Rattle.std.proofs.Common.{◌≡◌, ℕ, arith}
+use Rattle.std.proofs.Common.{◌≡◌, arith}
 use Rattle.std.specs.Prelude.{codes}
 use Rattle.mx_cli.specs.Text.{node_text}
 use Rattle.mx_cli.proofs.TextLemmas.{separated_first, separated_more}

@@ -2,7 +2,7 @@ use Rattle.std.proofs.Common.{ap, arith}
 use Rattle.mx_cli.specs.Session.{pending_of}
 use Rattle.mx_cli.specs.declared.take.Pending.{Pending}
 use Rattle.std.proofs.Common.{Option}
-use Rattle.mx_cli.proofs.AtLemmas.{wrote_nothing, cut_end, fed_err, fed_ok}
+use Rattle.mx_cli.proofs.AtLemmas.{fed_err, fed_ok}
 use Rattle.mx_cli.proofs.session.Session.end_line.Goals as goal
 
 pub returns-in-Ok-clause-output : goal.returns-in-Ok-clause-output

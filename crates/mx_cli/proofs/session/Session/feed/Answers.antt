@@ -1,4 +1,4 @@
-use Rattle.std.proofs.Common.{◌≡◌, ◌+◌, ◌∷◌, ◌++◌, [], List, ℕ, take, drop, length, append_assoc, append-nil, refl, sym, ap, ◌∙◌, arith}
+use Rattle.std.proofs.Common.{◌≡◌, ◌+◌, ◌∷◌, ◌++◌, [], List, ℕ, take, drop, append_assoc, append-nil, refl, sym, ap, ◌∙◌, arith}
 use Rattle.std.proofs.lemmas.List.{take_rest}
 use Rattle.mx_cli.proofs.EndLemmas.{no_lf_front, no_lf_whole, around_lf, stop_inside, stop_at_end, goes_next, goes_last}
 use Rattle.mx_cli.proofs.session.Session.feed.Goals as goal
