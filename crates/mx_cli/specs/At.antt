@@ -1,0 +1,47 @@
+-- Where a session stands in a script, and how it ends.
+use Rattle.std.specs.Prelude.{◌≡◌, ℕ, List, Option, None, Result, Ok, Err, length}
+use Rattle.mx_outside.specs.declared.sink.WriteFailure.{WriteFailure}
+use Rattle.mx_cli.specs.Script.{Command, split_lines, pending_after, complete_commands, commands}
+use Rattle.mx_cli.specs.Answer.{State, first_state}
+use Rattle.mx_cli.specs.Transcript.{Runs, Begins, IsWithin, IsCut, IsOutput, Transcript}
+use Rattle.mx_cli.specs.Session.{pending_of}
+use Rattle.mx_cli.specs.declared.session.Session.{Session}
+use Rattle.mx_cli.specs.declared.stop.Stop.{Stop}
+use Rattle.mx_cli.specs.declared.stop.Stop.TheVariants.{ReadFault, WriteFault, NoMemory, OverLimit}
+
+-- after these bytes are read and those written: the open line, the number of lines before it, what may go on and the state
+pub record IsAfter (line : List ℕ) (lines size : ℕ) (pending : Option Command) (state : State) (read written : List ℕ) : Type 0 where
+  pub open_line : line ≡ (split_lines read).rest
+  pub lines_before : lines ≡ length (split_lines read).whole
+  pub bytes : size ≡ length read
+  pub may_go_on : pending ≡ pending_after 1 None (split_lines read).whole
+  pub blocks : Runs first_state (complete_commands read) written state
+  pub within : IsWithin read
+
+abbrev pub At : Session → List ℕ → List ℕ → Type 0
+At s read written = IsAfter s.line.items s.lines s.size (pending_of s.pending) s.interpreter.engine read written
+
+-- while it reads, a session stops so
+abbrev pub Halts : Stop → List ℕ → List ℕ → Type 0
+Halts ReadFault read written = ⊥
+Halts WriteFault read written = Begins first_state (complete_commands read) written
+Halts NoMemory read written = Begins first_state (complete_commands read) written
+Halts OverLimit read written = IsCut read written
+
+-- a session goes on, or stops
+abbrev pub GoesOn : Session → Result (Unit {0}) Stop → List ℕ → List ℕ → Type 0
+GoesOn s (Ok u) read written = At s read written
+GoesOn s (Err stop) read written = Halts stop read written
+
+-- a script's end is answered
+abbrev pub Finishes : Result (Unit {0}) WriteFailure → List ℕ → List ℕ → Type 0
+Finishes (Ok u) read written = Transcript read written
+Finishes (Err e) read written = Begins first_state (commands read) written
+
+-- A run ends so. A read fault comes after all that was complete is answered, and a limit after all that was complete before it.
+abbrev pub Ends : Result (Unit {0}) Stop → List ℕ → List ℕ → Type 0
+Ends (Ok u) read written = IsWithin read × Transcript read written
+Ends (Err ReadFault) read written = IsWithin read × IsOutput (complete_commands read) written
+Ends (Err WriteFault) read written = Begins first_state (commands read) written
+Ends (Err NoMemory) read written = Begins first_state (commands read) written
+Ends (Err OverLimit) read written = IsCut read written

@@ -1,0 +1,157 @@
+//! The answer to one command.
+ghost use Rattle.std.specs.Prelude.{◌≡◌, ◌≤◌, ◌∷◌, [], MatchResult, IfOk, OnOk, IsErrOf};
+ghost use Rattle.mx_outside.specs.Outside.{Rose};
+ghost use Rattle.mx_cli.specs.Answer.{Step, Edits, Evaluates, first_state};
+ghost use Rattle.mx_meaning.specs.Model.{main_path};
+ghost use Rattle.mx_cli.specs.Transcript.{Runs, Begins, Wrote};
+
+use crate::text::{
+    push_accepted, push_not_built, push_refusal_block, push_refused, push_value_block,
+};
+use mx_engine::edit::Edit;
+use mx_engine::engine::Engine;
+use mx_engine::steps::Steps;
+use mx_list::list::List;
+use mx_outside::{Sink, WriteFailure, write_whole};
+use mx_syntax::first::{FirstCommand, FirstRefusal, read_first};
+use mx_syntax::stmt::Formula;
+use mx_value::label::Label;
+use mx_value::node::{Node, Path};
+use std::alloc::{AllocError, Global};
+use std::sync::ledger::Ledger;
+
+/// The engine, and the block that is written for the command at hand.
+#[derive(Drop)]
+pub struct Interpreter {
+    alloc: Global,
+    pub engine: Engine,
+    block: Vec<u8>,
+}
+
+impl Interpreter {
+    /// An interpreter before the first command: the new model, and nothing held.
+    pub fn new(alloc: Global) -> Result<Interpreter, AllocError>
+        ensures { IfOk result (λ i. i.engine ≡ first_state) }
+    {
+        Ok(Interpreter {
+            alloc,
+            engine: Engine::new(alloc)?,
+            block: Vec::new(alloc),
+        })
+    }
+
+    /// Answers a command: its block is one piece.
+    pub fn answer<K: Sink, L: Ledger>(
+        &mut self,
+        number: u64,
+        text: &[u8],
+        steps: &mut Steps<L>,
+        out: &mut K,
+    ) -> Result<(), WriteFailure>
+        ensures output { Wrote (K.taken out.old) (K.taken out.new) (λ block.
+            MatchResult result (λ _. Runs self.old.engine (record { number = number; text = text.now } ∷ []) block self.new.engine)
+            (λ _. Begins self.old.engine (record { number = number; text = text.now } ∷ []) block)) }
+        ensures later { K.faults out.old ≤ K.faults out.new }
+        ensures failed { IsErrOf result WriteFailure.Failed → Rose (K.faults out.old) (K.faults out.new) }
+    {
+        self.block.clear();
+        let Ok(()) = step(
+            self.alloc,
+            &mut self.engine,
+            &mut self.block,
+            number,
+            text,
+            steps,
+        ) else {
+            return Err(WriteFailure::NoMemory);
+        };
+        if let Err(failure) = write_whole(out, &self.block) {
+            return Err(failure);
+        }
+        return Ok(());
+    }
+}
+
+/// Carries a command out, and puts its block into the empty buffer.
+fn step<L: Ledger>(
+    alloc: Global,
+    engine: &mut Engine,
+    block: &mut Vec<u8>,
+    number: u64,
+    text: &[u8],
+    steps: &mut Steps<L>,
+) -> Result<(), AllocError>
+    requires { block.old.items ≡ [] }
+    ensures { OnOk result (Step engine.old (record { number = number; text = text.now }) block.new.items engine.new) }
+{
+    match read_first(alloc, text) {
+        Ok(FirstCommand::Cells(name, formula)) => {
+            if let Err(failure) = define(alloc, engine, block, name, formula) {
+                return Err(failure);
+            }
+            return Ok(());
+        }
+        Ok(FirstCommand::Eval(node)) => {
+            if let Err(failure) = evaluate(engine, block, &node, steps) {
+                return Err(failure);
+            }
+            return Ok(());
+        }
+        Err(FirstRefusal::NotBuilt) => return push_not_built(block, number),
+        Err(FirstRefusal::NoMemory) => return Err(AllocError),
+    }
+}
+
+/// Defines cells in the space Main.
+fn define(
+    alloc: Global,
+    engine: &mut Engine,
+    block: &mut Vec<u8>,
+    name: Label,
+    formula: Formula,
+) -> Result<(), AllocError>
+    requires { block.old.items ≡ [] }
+    ensures { OnOk result (Edits engine.old (Edit.SetCells main_path name formula) block.new.items engine.new) }
+{
+    let edit = Edit::SetCells {
+        path: main_path(alloc)?,
+        name,
+        formula,
+    };
+    match engine.edit(&edit) {
+        Ok(_) => return push_accepted(block),
+        Err(refusal) => return push_refused(block, refusal),
+    }
+}
+
+/// The path of the space Main.
+fn main_path(alloc: Global) -> Result<Path, AllocError>
+    ensures { IfOk result (λ path. path ≡ main_path) }
+{
+    let Ok(main) = Label::new(alloc, b"Main") else {
+        return Err(AllocError);
+    };
+    let mut names = Vec::new(alloc);
+    names.push(main)?;
+    List::from_vec(alloc, names)
+}
+
+/// Evaluates a node.
+fn evaluate<L: Ledger>(
+    engine: &mut Engine,
+    block: &mut Vec<u8>,
+    node: &Node,
+    steps: &mut Steps<L>,
+) -> Result<(), AllocError>
+    requires { block.old.items ≡ [] }
+    ensures { OnOk result (Evaluates engine.old node.now block.new.items engine.new) }
+{
+    let before = engine.held_count();
+    match engine.eval(node, steps) {
+        Ok(value) => {
+            let runs = engine.held_count().saturating_sub(before);
+            return push_value_block(block, &value, runs);
+        }
+        Err(refusal) => return push_refusal_block(block, &refusal),
+    }
+}

@@ -1,0 +1,366 @@
+//! The texts that the program writes, each added behind the bytes of a buffer.
+ghost use Rattle.std.specs.Prelude.{◌≡◌, ◌≢◌, ◌++◌, map, codes, if◌then◌else◌, OnOk};
+ghost use Rattle.std.specs.List.{concat};
+ghost use Rattle.std.specs.Fmt.{decimal};
+ghost use Rattle.mx_cli.specs.Text as spec;
+ghost use Rattle.mx_cli.specs.Text.{value_text, segment_text, node_text};
+
+use mx_engine::edit::{EditRefusal, Limit};
+use mx_value::fault::FaultKind;
+use mx_value::fixed::Fixed;
+use mx_value::node::Node;
+use mx_value::refusal::EvalRefusal;
+use mx_value::value::{CellsAt, Segment, Value};
+use std::alloc::AllocError;
+
+/// Adds bytes as they stand.
+fn push(out: &mut Vec<u8>, bytes: &[u8]) -> Result<(), AllocError>
+    ensures { OnOk result (out.new.items ≡ out.old.items ++ bytes.now) }
+{
+    out.extend_from_slice(bytes)
+}
+
+/// Adds a number in decimal.
+pub fn push_number(out: &mut Vec<u8>, number: u64) -> Result<(), AllocError>
+    ensures { OnOk result (out.new.items ≡ out.old.items ++ decimal number) }
+{
+    push(out, itoa::Buffer::new().format(number).as_bytes())
+}
+
+/// Adds so many digits of a number, with zeros in front.
+fn push_padded(out: &mut Vec<u8>, digits: u8, number: u64) -> Result<(), AllocError>
+    ensures { OnOk result (out.new.items ≡ out.old.items ++ spec.padded digits number) }
+{
+    if digits == 0 {
+        return Ok(());
+    }
+    if let Err(failure) = push_padded(out, digits - 1, number / 10) {
+        return Err(failure);
+    }
+    if let Err(failure) = push(out, &[b'0' + (number % 10) as u8]) {
+        return Err(failure);
+    }
+    return Ok(());
+}
+
+/// Adds so many decimals, without the zeros at their end but for the first decimal.
+fn push_decimals(out: &mut Vec<u8>, digits: u8, number: u64) -> Result<(), AllocError>
+    ensures { OnOk result (out.new.items ≡ out.old.items ++ spec.decimals digits number) }
+{
+    if digits <= 1 {
+        return push_padded(out, digits, number);
+    }
+    if number % 10 != 0 {
+        return push_padded(out, digits, number);
+    }
+    return push_decimals(out, digits - 1, number / 10);
+}
+
+/// Adds a decimal number: a point with 1 to 9 decimals, and no zero at the end but the first decimal.
+fn push_fixed(out: &mut Vec<u8>, number: Fixed) -> Result<(), AllocError>
+    ensures { OnOk result (out.new.items ≡ out.old.items ++ spec.fixed_text number) }
+{
+    let raw = number.raw();
+    let size = raw.unsigned_abs();
+    if raw < 0 {
+        push(out, b"-")?;
+    }
+    push_number(out, (size / 1_000_000_000) as u64)?;
+    push(out, b".")?;
+    push_decimals(out, 9, (size % 1_000_000_000) as u64)
+}
+
+/// Adds a text in quotes.
+fn push_quoted(out: &mut Vec<u8>, text: &[u8]) -> Result<(), AllocError>
+    ensures { OnOk result (out.new.items ≡ out.old.items ++ spec.quoted text.now) }
+{
+    push(out, b"\"")?;
+    push_escaped(out, text)?;
+    push(out, b"\"")
+}
+
+/// Adds a text with a backslash in front of each quote and backslash.
+fn push_escaped(out: &mut Vec<u8>, text: &[u8]) -> Result<(), AllocError>
+    ensures { OnOk result (out.new.items ≡ out.old.items ++ concat (map spec.escaped text.now)) }
+{
+    for byte in text {
+        push_escaped_byte(out, *byte)?;
+    }
+    Ok(())
+}
+
+fn push_escaped_byte(out: &mut Vec<u8>, byte: u8) -> Result<(), AllocError>
+    ensures { OnOk result (out.new.items ≡ out.old.items ++ spec.escaped byte) }
+{
+    if byte == b'"' {
+        return push(out, b"\\\"");
+    }
+    if byte == b'\\' {
+        return push(out, b"\\\\");
+    }
+    return push(out, &[byte]);
+}
+
+/// Adds a value: None, True, a number, a text in quotes, a tuple, or what a space, cells or a table is called.
+#[cycle(text)]
+pub fn push_value(out: &mut Vec<u8>, value: &Value) -> Result<(), AllocError>
+    ensures { OnOk result (out.new.items ≡ out.old.items ++ value_text value.now) }
+{
+    match value {
+        Value::Nothing => push(out, b"None"),
+        Value::Flag(flag) => {
+            if *flag {
+                push(out, b"True")
+            } else {
+                push(out, b"False")
+            }
+        }
+        Value::Int(n) => push(out, itoa::Buffer::new().format(*n).as_bytes()),
+        Value::Fix(number) => push_fixed(out, *number),
+        Value::Text(text) => push_quoted(out, text.as_slice()),
+        Value::Tup(items) => push_tuple(out, items.as_slice()),
+        Value::Space(at) => {
+            push(out, b"<space ")?;
+            push_address(out, at.as_slice())?;
+            push(out, b">")
+        }
+        Value::Cells(at) => {
+            push(out, b"<cells ")?;
+            push_cells(out, at)?;
+            push(out, b">")
+        }
+        Value::Table(name) => {
+            push(out, b"<table ")?;
+            push(out, name.as_slice())?;
+            push(out, b">")
+        }
+    }
+}
+
+/// Adds the address of cells and, behind a dot, their name.
+#[cycle(text)]
+fn push_cells(out: &mut Vec<u8>, at: &CellsAt) -> Result<(), AllocError>
+    ensures { OnOk result (out.new.items ≡ out.old.items ++ spec.cells_text at.now) }
+{
+    push_address(out, at.space.as_slice())?;
+    push(out, b".")?;
+    push(out, at.name.as_slice())
+}
+
+/// Adds values with commas between them.
+#[cycle(text)]
+fn push_commas(out: &mut Vec<u8>, items: &[Value]) -> Result<(), AllocError>
+    ensures { OnOk result (out.new.items ≡ out.old.items ++ spec.commas (map value_text items.now)) }
+{
+    for (i, item) in items.iter().enumerate() {
+        if i > 0 {
+            push(out, b", ")?;
+        }
+        push_value(out, item)?;
+    }
+    Ok(())
+}
+
+/// Adds a tuple. One of a single item has a comma behind it.
+#[cycle(text)]
+fn push_tuple(out: &mut Vec<u8>, items: &[Value]) -> Result<(), AllocError>
+    ensures { OnOk result (out.new.items ≡ out.old.items ++ spec.tuple_text (map value_text items.now)) }
+{
+    push(out, b"(")?;
+    push_commas(out, items)?;
+    if items.len() == 1 {
+        push(out, b",")?;
+    }
+    push(out, b")")
+}
+
+/// Adds an address: names with dots between them, and the arguments of an item in brackets.
+#[cycle(text)]
+fn push_address(out: &mut Vec<u8>, at: &[Segment]) -> Result<(), AllocError>
+    ensures { OnOk result (out.new.items ≡ out.old.items ++ spec.address_text at.now) }
+{
+    for (i, segment) in at.iter().enumerate() {
+        push_segment(out, segment, i == 0)?;
+    }
+    Ok(())
+}
+
+/// Adds a segment, which the first of an address has no dot in front of.
+#[cycle(text)]
+fn push_segment(out: &mut Vec<u8>, segment: &Segment, first: bool) -> Result<(), AllocError>
+    ensures { OnOk result (out.new.items ≡ out.old.items ++ (if first then spec.after_dot (segment_text segment.now) else segment_text segment.now)) }
+{
+    match segment {
+        Segment::Name(name) => {
+            if !first {
+                push(out, b".")?;
+            }
+            push(out, name.as_slice())
+        }
+        Segment::Item(items) => {
+            push(out, b"[")?;
+            push_commas(out, items.as_slice())?;
+            push(out, b"]")
+        }
+    }
+}
+
+/// Adds a node: its address, its name behind a dot, and its arguments; an item node has them in brackets.
+pub fn push_node(out: &mut Vec<u8>, node: &Node) -> Result<(), AllocError>
+    ensures { OnOk result (out.new.items ≡ out.old.items ++ node_text node.now) }
+{
+    match node {
+        Node::Cell(at, name, arguments) => {
+            push_address(out, at.as_slice())?;
+            push(out, b".")?;
+            push(out, name.as_slice())?;
+            push(out, b"(")?;
+            push_commas(out, arguments.as_slice())?;
+            push(out, b")")
+        }
+        Node::Item(at, arguments) => {
+            push_address(out, at.as_slice())?;
+            push(out, b"[")?;
+            push_commas(out, arguments.as_slice())?;
+            push(out, b"]")
+        }
+    }
+}
+
+fn fault_text(kind: FaultKind) -> &'static [u8]
+    ensures { result.now ≡ spec.fault_text kind }
+{
+    match kind {
+        FaultKind::ZeroDivision => b"ZeroDivision",
+        FaultKind::Overflow => b"Overflow",
+        FaultKind::TypeMismatch => b"TypeMismatch",
+        FaultKind::NoIndex => b"NoIndex",
+        FaultKind::Domain => b"Domain",
+        FaultKind::TooLarge => b"TooLarge",
+        FaultKind::NoName => b"NoName",
+        FaultKind::NotCallable => b"NotCallable",
+        FaultKind::WrongCountInside => b"WrongCountInside",
+        FaultKind::NoneReturned => b"NoneReturned",
+        FaultKind::UnsetLocal => b"UnsetLocal",
+        FaultKind::BadItem => b"BadItem",
+    }
+}
+
+/// Adds the nodes of a ring, the first one again at the end.
+fn push_ring(out: &mut Vec<u8>, nodes: &[Node]) -> Result<(), AllocError>
+    ensures { OnOk result (out.new.items ≡ out.old.items ++ spec.ring_text nodes.now) }
+{
+    push(out, b"ring ")?;
+    push_arrows(out, nodes)?;
+    match nodes {
+        [] => Ok(()),
+        [first, ..] => {
+            push(out, b" -> ")?;
+            push_node(out, first)
+        }
+    }
+}
+
+/// Adds nodes with arrows between them.
+fn push_arrows(out: &mut Vec<u8>, nodes: &[Node]) -> Result<(), AllocError>
+    ensures { OnOk result (out.new.items ≡ out.old.items ++ spec.separated (codes " -> ") (map node_text nodes.now)) }
+{
+    for (i, node) in nodes.iter().enumerate() {
+        if i > 0 {
+            push(out, b" -> ")?;
+        }
+        push_node(out, node)?;
+    }
+    Ok(())
+}
+
+/// Adds a fault: its kind, the node whose run met it and the line of its formula, from 1.
+fn push_fault(out: &mut Vec<u8>, kind: FaultKind, node: &Node, line: u32) -> Result<(), AllocError>
+    ensures { OnOk result (out.new.items ≡ out.old.items ++ spec.refusal_text (EvalRefusal.Fault kind node.now line)) }
+{
+    push(out, b"fault ")?;
+    push(out, fault_text(kind))?;
+    push(out, b" at ")?;
+    push_node(out, node)?;
+    push(out, b" line ")?;
+    push_number(out, line as u64)
+}
+
+/// Adds why an evaluation gave no value. Want of memory is handed on: it has no text.
+pub fn push_refusal(out: &mut Vec<u8>, refusal: &EvalRefusal) -> Result<(), AllocError>
+    ensures text { OnOk result (out.new.items ≡ out.old.items ++ spec.refusal_text refusal.now) }
+    ensures memory { OnOk result (refusal.now ≢ EvalRefusal.NoMemory) }
+{
+    match refusal {
+        EvalRefusal::NoSuch => push(out, b"no such node"),
+        EvalRefusal::WrongCount => push(out, b"wrong count"),
+        EvalRefusal::Fault { kind, node, line } => push_fault(out, *kind, node, *line),
+        EvalRefusal::Ring(nodes) => push_ring(out, nodes.as_slice()),
+        EvalRefusal::TooDeep(node) => {
+            push(out, b"too deep at ")?;
+            push_node(out, node)
+        }
+        EvalRefusal::Full => push(out, b"full"),
+        EvalRefusal::NoMemory => Err(AllocError),
+    }
+}
+
+/// Adds why an edit was refused. Want of memory is handed on: it has no text.
+pub fn push_edit_refusal(out: &mut Vec<u8>, refusal: EditRefusal) -> Result<(), AllocError>
+    ensures text { OnOk result (out.new.items ≡ out.old.items ++ spec.edit_refusal_text refusal) }
+    ensures memory { OnOk result (refusal ≢ EditRefusal.NoMemory) }
+{
+    match refusal {
+        EditRefusal::BadName => push(out, b"BadName"),
+        EditRefusal::NoSuchSpace => push(out, b"NoSuchSpace"),
+        EditRefusal::BadValue => push(out, b"BadValue"),
+        EditRefusal::TooMany(Limit::Cells) => push(out, b"TooMany Cells"),
+        EditRefusal::NoMemory => Err(AllocError),
+    }
+}
+
+/// Adds the block of an evaluation that gave a value and began so many runs.
+pub fn push_value_block(out: &mut Vec<u8>, value: &Value, runs: u32) -> Result<(), AllocError>
+    ensures { OnOk result (out.new.items ≡ out.old.items ++ spec.eval_block (Ok value.now) runs) }
+{
+    push(out, b"= ")?;
+    push_value(out, value)?;
+    push(out, b" runs ")?;
+    push_number(out, runs as u64)?;
+    push(out, b"\n")
+}
+
+/// Adds the block of an evaluation that gave no value.
+pub fn push_refusal_block(out: &mut Vec<u8>, refusal: &EvalRefusal) -> Result<(), AllocError>
+    ensures text { OnOk result (out.new.items ≡ out.old.items ++ spec.eval_block (Err refusal.now) 0) }
+    ensures memory { OnOk result (refusal.now ≢ EvalRefusal.NoMemory) }
+{
+    push_refusal(out, refusal)?;
+    push(out, b"\n")
+}
+
+/// Adds the block of an accepted edit.
+pub fn push_accepted(out: &mut Vec<u8>) -> Result<(), AllocError>
+    ensures { OnOk result (out.new.items ≡ out.old.items ++ spec.edit_block (Ok 0)) }
+{
+    push(out, b"ok\n")
+}
+
+/// Adds the block of a refused edit.
+pub fn push_refused(out: &mut Vec<u8>, refusal: EditRefusal) -> Result<(), AllocError>
+    ensures text { OnOk result (out.new.items ≡ out.old.items ++ spec.edit_block (Err refusal)) }
+    ensures memory { OnOk result (refusal ≢ EditRefusal.NoMemory) }
+{
+    push(out, b"refused: ")?;
+    push_edit_refusal(out, refusal)?;
+    push(out, b"\n")
+}
+
+/// Adds the block of a command of no form that is built, which begins in this line.
+pub fn push_not_built(out: &mut Vec<u8>, number: u64) -> Result<(), AllocError>
+    ensures { OnOk result (out.new.items ≡ out.old.items ++ spec.not_built_block number) }
+{
+    push(out, b"line ")?;
+    push_number(out, number)?;
+    push(out, b": not built\n")
+}

@@ -1,0 +1,6 @@
+use Rattle.std.proofs.Common.{refl}
+use Rattle.mx_engine.proofs.Readings.{cont-push}
+use Rattle.mx_engine.proofs.formula.enter_comparison.Goals as goal
+
+pub returns-in_default : goal.returns-in_default
+returns-in_default c = λ env. rw c.in_default.ensures refl

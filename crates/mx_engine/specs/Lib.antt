@@ -1,0 +1,4 @@
+pub mod Tasks
+pub mod Items
+pub mod Edits
+pub mod Frames

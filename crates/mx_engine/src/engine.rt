@@ -1,0 +1,133 @@
+//! The engine: a model text, and what is held for it.
+ghost use Rattle.std.specs.Prelude.{◌≡◌, ◌-◌, ◌+◌, [], Some, None, length, IfOk, IfErr, OnOk, OnErr};
+ghost use Rattle.mx_meaning.specs.Answers.{Answer};
+ghost use Rattle.mx_meaning.specs.State.{State, IsRightState, most_held};
+ghost use Rattle.mx_engine.specs.Edits.{applied, refusal_of, IsRefusedBy, first_limit};
+
+use crate::edit::{Edit, EditRefusal, Limit, holds_item};
+use crate::machine::{Held, eval};
+use crate::steps::Steps;
+use crate::text::ModelText;
+use indexmap::IndexMap;
+use mx_syntax::stmt::Formula;
+use mx_value::name::is_name;
+use mx_value::node::Node;
+use mx_value::refusal::EvalRefusal;
+use mx_value::value::Value;
+use std::alloc::{AllocError, Global};
+use std::marker::Model;
+use std::sync::ledger::Ledger;
+
+/// The most calls of a chain.
+const LIMIT: usize = 200;
+/// The most nodes that are held.
+const MOST_HELD: usize = 4_000_000;
+/// The most cells of a model.
+const MOST_CELLS: usize = 10_000;
+
+/// A model text with the values that are kept for it. Contracts see its `State`: every kept value is what its node means in the present text.
+#[derive(Drop)]
+pub struct Engine {
+    alloc: Global,
+    text: ModelText,
+    held: Held,
+    limit: usize,
+}
+
+impl Model for Engine {
+    ghost use Rattle.std.specs.Coded.{codes};
+    ghost use Rattle.mx_value.specs.contracts.value.Value as value;
+    ghost use Rattle.mx_value.specs.contracts.value.Segment as segment;
+    ghost use Rattle.mx_syntax.specs.contracts.expr.Expr as expr;
+    ghost use Rattle.mx_syntax.specs.contracts.stmt.Stmt as stmt;
+    ghost use Rattle.mx_meaning.specs.State.{State};
+
+    ghost Value = { State };
+
+    ghost coded = { Prim.hlevel (codes, value.the_row.coded, segment.the_row.coded, expr.the_row.coded, stmt.the_row.coded) };
+
+    ghost use Rattle.mx_engine.specs.Edits.{IsSound};
+
+    ghost view = { λ e. record { text = e.text; held = e.held.entries; limit = e.limit } };
+
+    ghost invariant = { λ e. IsSound e.text e.held.entries };
+}
+
+impl Engine {
+    /// The model of the one empty space Main, with nothing held and chains of at most 200 calls.
+    pub fn new(alloc: Global) -> Result<Engine, AllocError>
+        ensures { IfOk result (λ e. e ≡ record { text = []; held = []; limit = first_limit }) }
+    {
+        Ok(Engine {
+            alloc,
+            text: ModelText::new(alloc)?,
+            held: IndexMap::new(alloc),
+            limit: LIMIT,
+        })
+    }
+
+    /// Changes the model text, and answers how many nodes were held: none is afterwards. A refused edit changes nothing.
+    pub fn edit(&mut self, edit: &Edit) -> Result<u32, EditRefusal>
+        ensures right { IsRightState self.new }
+        ensures accepted { OnOk result (self.new ≡ record self.old { text = applied self.old.text edit.now; held = [] }) }
+        ensures dropped { IfOk result (λ n. n ≡ length self.old.held) }
+        ensures refused { OnErr result (self.new ≡ self.old) }
+        ensures exact { IsRefusedBy result (refusal_of self.old.text edit.now) }
+    {
+        let Edit::SetCells {
+            path,
+            name,
+            formula,
+        } = edit;
+        if !is_name(name) {
+            return Err(EditRefusal::BadName);
+        }
+        if !self.text.has_path(path) {
+            return Err(EditRefusal::NoSuchSpace);
+        }
+        if holds_item(&formula.body) {
+            return Err(EditRefusal::BadValue);
+        }
+        if self.text.count() >= MOST_CELLS && !self.text.has_cells(name) {
+            return Err(EditRefusal::TooMany(Limit::Cells));
+        }
+        let dropped = self.held.len() as u32;
+        self.text.define(
+            name.copy()?,
+            Formula {
+                params: formula.params.copy()?,
+                body: formula.body.copy()?,
+            },
+        )?;
+        self.held.clear();
+        Ok(dropped)
+    }
+
+    /// The value of a node. It is held from then on, with the values of all nodes that it rests on.
+    pub fn eval<L: Ledger>(
+        &mut self,
+        node: &Node,
+        steps: &mut Steps<L>,
+    ) -> Result<Value, EvalRefusal>
+        ensures right { IsRightState self.new }
+        ensures answer { Answer self.old.text self.old.held self.old.limit most_held node.now result self.new.held (steps.new - steps.old) }
+        ensures same { self.new ≡ record self.old { held = self.new.held } }
+    {
+        eval(
+            self.alloc,
+            &self.text,
+            self.limit,
+            MOST_HELD,
+            node,
+            &mut self.held,
+            steps,
+        )
+    }
+
+    /// How many nodes are held.
+    pub fn held_count(&self) -> u32
+        ensures { result ≡ length self.now.held }
+    {
+        self.held.len() as u32
+    }
+}

@@ -1,0 +1,622 @@
+//! The run of a formula, step by step, up to its value or to a node that it asks.
+ghost use Rattle.std.specs.Prelude.{◌≡◌, ◌*ℤ◌, ℕ, List as Many, [], ◌∷◌, map, drop, length, nat_eq, Some, None, false, true, IfOk, MatchOption, IsTrue, option_copied};
+ghost use Rattle.mx_meaning.specs.Model.{Text};
+ghost use Rattle.mx_meaning.specs.Meaning.{reading, whole_of, cells_in, sum_from, product_from, choice_from, added, multiplied, compared, given_whole, sum_of, comparison_of, comparison_in, comparison_read, post_of, argument_in, trailer_read, args_read, compared_whole, tested, sum_read, product_read, arm_read, local_of, locals_of, sought, called, Env, Run};
+ghost use Rattle.mx_engine.specs.Tasks.{address_of, continued, cont, run_at, stopped_at, env_of, arguments_of, GoesOnAlone, Fitting, computed, tested_by};
+ghost use Rattle.mx_value.specs.declared.value.Value.{Value, out-Value};
+
+use crate::copies::{copy_expr, copy_shared};
+use crate::frame::{LeftTask, Next, ProductTask, RightTask, Scope, Stop, SumTask, Task, TestTask};
+use crate::text::ModelText;
+use mx_list::items::Items;
+use mx_list::list::List;
+use mx_list::shared::Shared;
+use mx_meaning::event::Event;
+use mx_meaning::key::Key;
+use mx_syntax::expr::{
+    Args, Arm, CmpOp, Comparison, Expr, ProductOp, ProductPart, SumOp, SumPart, Trailer,
+};
+use mx_syntax::stmt::Param;
+use mx_value::fault::FaultKind;
+use mx_value::label::Label;
+use mx_value::node::Node;
+use mx_value::value::{Addr, CellsAt, Value};
+use std::alloc::{AllocError, Global};
+
+/// The whole number that a value is.
+fn whole(value: &Value) -> Option<i64>
+    ensures { result ≡ whole_of value.now }
+{
+    match value {
+        Value::Int(n) => Some(*n),
+        Value::Nothing => None,
+        Value::Flag(_) => None,
+        Value::Fix(_) => None,
+        Value::Text(_) => None,
+        Value::Tup(_) => None,
+        Value::Space(_) => None,
+        Value::Cells(_) => None,
+        Value::Table(_) => None,
+    }
+}
+
+/// The sum or the difference, where it has 64 bits.
+fn sum_whole(op: SumOp, a: i64, b: i64) -> Option<i64>
+    ensures { Fitting (sum_of op a b) result }
+{
+    match op {
+        SumOp::Plus => a.checked_add(b),
+        SumOp::Minus => a.checked_sub(b),
+    }
+}
+
+/// The product, where it has 64 bits.
+fn product_whole(a: i64, b: i64) -> Option<i64>
+    ensures { Fitting (a *ℤ b) result }
+{
+    a.checked_mul(b)
+}
+
+fn add(op: SumOp, total: &Value, value: &Value) -> Result<Value, FaultKind>
+    ensures { (env : Env) (go : Value → Run) → added op total.now value.now env go ≡ computed result env go }
+{
+    let Some(a) = whole(total) else {
+        return Err(FaultKind::TypeMismatch);
+    };
+    let Some(b) = whole(value) else {
+        return Err(FaultKind::TypeMismatch);
+    };
+    match sum_whole(op, a, b) {
+        Some(sum) => Ok(Value::Int(sum)),
+        None => Err(FaultKind::Overflow),
+    }
+}
+
+fn multiply(op: ProductOp, total: &Value, value: &Value) -> Result<Value, FaultKind>
+    ensures { (env : Env) (go : Value → Run) → multiplied op total.now value.now env go ≡ computed result env go }
+{
+    match op {
+        ProductOp::Times => {}
+        ProductOp::Over => return Err(FaultKind::TypeMismatch),
+        ProductOp::Floor => return Err(FaultKind::TypeMismatch),
+        ProductOp::Rem => return Err(FaultKind::TypeMismatch),
+    }
+    let Some(a) = whole(total) else {
+        return Err(FaultKind::TypeMismatch);
+    };
+    let Some(b) = whole(value) else {
+        return Err(FaultKind::TypeMismatch);
+    };
+    match product_whole(a, b) {
+        Some(product) => Ok(Value::Int(product)),
+        None => Err(FaultKind::Overflow),
+    }
+}
+
+fn compare(op: CmpOp, left: &Value, right: &Value) -> Result<Value, FaultKind>
+    ensures { (env : Env) (go : Value → Run) → compared op left.now right.now env go ≡ computed result env go }
+{
+    let Some(a) = whole(left) else {
+        return Err(FaultKind::TypeMismatch);
+    };
+    let Some(b) = whole(right) else {
+        return Err(FaultKind::TypeMismatch);
+    };
+    compare_whole(op, a, b)
+}
+
+fn compare_whole(op: CmpOp, a: i64, b: i64) -> Result<Value, FaultKind>
+    ensures { (env : Env) (go : Value → Run) → compared_whole op a b env go ≡ computed result env go }
+{
+    match op {
+        CmpOp::Lt => Ok(Value::Flag(a < b)),
+        CmpOp::Le => Ok(Value::Flag(a <= b)),
+        CmpOp::Gt => Ok(Value::Flag(b < a)),
+        CmpOp::Ge => Ok(Value::Flag(b <= a)),
+        CmpOp::Eq => Ok(Value::Flag(a <= b && b <= a)),
+        CmpOp::Ne => Ok(Value::Flag(!(a <= b && b <= a))),
+        CmpOp::In => Err(FaultKind::TypeMismatch),
+        CmpOp::NotIn => Err(FaultKind::TypeMismatch),
+    }
+}
+
+/// The argument of a parameter.
+fn local(
+    alloc: Global,
+    node: &Node,
+    scope: &Scope,
+    name: &Label,
+) -> Result<Option<Value>, AllocError>
+    ensures { IfOk result (λ v. v ≡ local_of (locals_of scope.now.params (arguments_of node.now)) name.now) }
+{
+    let arguments = arguments(node).as_slice();
+    let params = scope.params.as_slice();
+    for (i, argument) in arguments.iter().enumerate() {
+        if i >= params.len() {
+            return Ok(None);
+        }
+        if params[i].name == *name {
+            return Ok(Some(argument.copy(alloc)?));
+        }
+    }
+    Ok(None)
+}
+
+/// The value of a name: a parameter, or cells of the space Main.
+fn name_value(
+    alloc: Global,
+    text: &ModelText,
+    node: &Node,
+    scope: &Scope,
+    name: Label,
+    events: &mut Items<Event>,
+) -> Result<Next, AllocError>
+    ensures { IfOk result (λ next. (ts : Many Task) → GoesOnAlone text.now (sought (local_of (locals_of scope.now.params (arguments_of node.now)) name) name (env_of node.now scope.now) (cont ts (env_of node.now scope.now))) events.old events.new (run_at next ts (env_of node.now scope.now))) }
+{
+    if let Some(value) = local(alloc, node, scope, &name)? {
+        return Ok(Next::Give(value));
+    }
+    events.push(Event::Looked(Key::Name(scope.source.copy()?, name.copy()?)))?;
+    if let Some(_) = text.formula_at(&scope.source, &name) {
+        return Ok(Next::Give(Value::Cells(CellsAt {
+            space: address(node).copy()?,
+            name,
+        })));
+    }
+    events.push(Event::Looked(Key::Global(name)))?;
+    Ok(Next::Fault(FaultKind::NoName))
+}
+
+fn arguments(node: &Node) -> &Items<Value>
+    ensures { result.now ≡ arguments_of node.now }
+{
+    match node {
+        Node::Cell(_, _, arguments) => arguments,
+        Node::Item(_, arguments) => arguments,
+    }
+}
+
+fn address(node: &Node) -> &Addr
+    ensures { result.now ≡ address_of node.now }
+{
+    match node {
+        Node::Cell(at, _, _) => at,
+        Node::Item(at, _) => at,
+    }
+}
+
+/// A value is called with one argument.
+fn call(
+    alloc: Global,
+    text: &ModelText,
+    value: &Value,
+    argument: Value,
+    events: &mut Items<Event>,
+) -> Result<Next, AllocError>
+    ensures { IfOk result (λ next. (env : Env) (ts : Many Task) → GoesOnAlone text.now (called (cells_in (out-Value value.now)) (argument ∷ []) env (cont ts env)) events.old events.new (run_at next ts env)) }
+{
+    match value {
+        Value::Cells(at) => call_cells(alloc, text, at, argument, events),
+        Value::Nothing => Ok(Next::Fault(FaultKind::NotCallable)),
+        Value::Flag(_) => Ok(Next::Fault(FaultKind::NotCallable)),
+        Value::Int(_) => Ok(Next::Fault(FaultKind::NotCallable)),
+        Value::Fix(_) => Ok(Next::Fault(FaultKind::NotCallable)),
+        Value::Text(_) => Ok(Next::Fault(FaultKind::NotCallable)),
+        Value::Tup(_) => Ok(Next::Fault(FaultKind::NotCallable)),
+        Value::Space(_) => Ok(Next::Fault(FaultKind::NotCallable)),
+        Value::Table(_) => Ok(Next::Fault(FaultKind::NotCallable)),
+    }
+}
+
+/// Cells are called with one argument.
+fn call_cells(
+    alloc: Global,
+    text: &ModelText,
+    at: &CellsAt,
+    argument: Value,
+    events: &mut Items<Event>,
+) -> Result<Next, AllocError>
+    ensures { IfOk result (λ next. (env : Env) (ts : Many Task) → GoesOnAlone text.now (called (Some at.now) (argument ∷ []) env (cont ts env)) events.old events.new (run_at next ts env)) }
+{
+    let Some(source) = text.source_of(alloc, &at.space)? else {
+        return Ok(Next::Fault(FaultKind::TypeMismatch));
+    };
+    events.push(Event::Looked(Key::Cells(source.copy()?, at.name.copy()?)))?;
+    let Some(formula) = text.formula_at(&source, &at.name) else {
+        return Ok(Next::Fault(FaultKind::NotCallable));
+    };
+    if let None = whole(&argument) {
+        return Ok(Next::Fault(FaultKind::TypeMismatch));
+    }
+    if formula.params.len() != 1 {
+        return Ok(Next::Fault(FaultKind::WrongCountInside));
+    }
+    let mut arguments = Vec::new(alloc);
+    arguments.push(argument)?;
+    Ok(Next::Ask(Shared::new(
+        alloc,
+        Node::Cell(
+            at.space.copy()?,
+            at.name.copy()?,
+            Items::from_vec(arguments),
+        ),
+    )?))
+}
+
+/// One step into an expression.
+fn enter(
+    alloc: Global,
+    text: &ModelText,
+    node: &Node,
+    scope: &Scope,
+    expr: Expr,
+    tasks: &mut Vec<Task>,
+    events: &mut Items<Event>,
+) -> Result<Next, AllocError>
+    ensures { IfOk result (λ next. GoesOnAlone text.now (reading expr (env_of node.now scope.now) (cont tasks.old.items (env_of node.now scope.now))) events.old events.new (run_at next tasks.new.items (env_of node.now scope.now))) }
+{
+    match expr {
+        Expr::Lit(value) => Ok(Next::Give(value)),
+        Expr::Name(name) => name_value(alloc, text, node, scope, name, events),
+        Expr::Sum { first, rest } => {
+            tasks.push(Task::Sum(SumTask {
+                total: None,
+                op: SumOp::Plus,
+                rest,
+                next: 0,
+            }))?;
+            Ok(Next::Eval(copy_shared(alloc, &first)?))
+        }
+        Expr::Product { first, rest } => {
+            tasks.push(Task::Product(ProductTask {
+                total: None,
+                op: ProductOp::Times,
+                rest,
+                next: 0,
+            }))?;
+            Ok(Next::Eval(copy_shared(alloc, &first)?))
+        }
+        Expr::Cond { arms, last } => choose(alloc, arms, 0, last, tasks),
+        Expr::Compare { first, rest } => enter_comparison(alloc, &first, &rest, tasks),
+        Expr::Post { of, trailers } => enter_call(alloc, &of, &trailers, tasks),
+        Expr::Tuple(_) => Ok(Next::Fault(FaultKind::TypeMismatch)),
+        Expr::Or(_) => Ok(Next::Fault(FaultKind::TypeMismatch)),
+        Expr::And(_) => Ok(Next::Fault(FaultKind::TypeMismatch)),
+        Expr::Not { .. } => Ok(Next::Fault(FaultKind::TypeMismatch)),
+        Expr::Signed { .. } => Ok(Next::Fault(FaultKind::TypeMismatch)),
+        Expr::Power { .. } => Ok(Next::Fault(FaultKind::TypeMismatch)),
+    }
+}
+
+fn enter_comparison(
+    alloc: Global,
+    first: &Shared<Expr>,
+    rest: &List<Comparison>,
+    tasks: &mut Vec<Task>,
+) -> Result<Next, AllocError>
+    ensures { IfOk result (λ next. (env : Env) → comparison_of (reading first.now) (comparison_in (map comparison_read rest.now)) env (cont tasks.old.items env) ≡ run_at next tasks.new.items env) }
+{
+    let Some((op, right)) = only_comparison(rest) else {
+        return Ok(Next::Fault(FaultKind::TypeMismatch));
+    };
+    let right = copy_expr(alloc, right)?;
+    tasks.push(Task::Left(LeftTask { op, right }))?;
+    Ok(Next::Eval(copy_shared(alloc, first)?))
+}
+
+/// The comparison of a chain of one.
+fn only_comparison(rest: &List<Comparison>) -> Option<(CmpOp, &Expr)>
+    ensures { MatchOption result (comparison_in (map comparison_read rest.now) ≡ None) (λ c. comparison_in (map comparison_read rest.now) ≡ Some (c.0, reading c.1.now)) }
+{
+    if rest.len() != 1 {
+        return None;
+    }
+    match rest.get(0) {
+        None => None,
+        Some(comparison) => comparison_by(comparison),
+    }
+}
+
+/// The operator and the right part of a comparison.
+fn comparison_by(comparison: &Comparison) -> Option<(CmpOp, &Expr)>
+    ensures { MatchOption result (comparison_read comparison.now ≡ None) (λ c. comparison_read comparison.now ≡ Some (c.0, reading c.1.now)) }
+{
+    match comparison {
+        Comparison::Op(op, right) => Some((*op, right)),
+        Comparison::IsNone => None,
+        Comparison::IsNotNone => None,
+    }
+}
+
+fn enter_call(
+    alloc: Global,
+    first: &Shared<Expr>,
+    trailers: &List<Trailer>,
+    tasks: &mut Vec<Task>,
+) -> Result<Next, AllocError>
+    ensures { IfOk result (λ next. (env : Env) → post_of (reading first.now) (argument_in (map trailer_read trailers.now)) env (cont tasks.old.items env) ≡ run_at next tasks.new.items env) }
+{
+    let Some(argument) = only_argument(trailers) else {
+        return Ok(Next::Fault(FaultKind::TypeMismatch));
+    };
+    tasks.push(Task::Called(copy_expr(alloc, argument)?))?;
+    Ok(Next::Eval(copy_shared(alloc, first)?))
+}
+
+/// The argument of a call with one, where nothing follows the call.
+fn only_argument(trailers: &List<Trailer>) -> Option<&Expr>
+    ensures { MatchOption result (argument_in (map trailer_read trailers.now) ≡ None) (λ e. argument_in (map trailer_read trailers.now) ≡ Some (reading e.now)) }
+{
+    if trailers.len() != 1 {
+        return None;
+    }
+    let Some(trailer) = trailers.get(0) else {
+        return None;
+    };
+    let Some(arguments) = call_arguments(trailer) else {
+        return None;
+    };
+    if arguments.len() != 1 {
+        return None;
+    }
+    arguments.get(0)
+}
+
+/// The arguments of a call.
+fn call_arguments(trailer: &Trailer) -> Option<&List<Expr>>
+    ensures { MatchOption result (trailer_read trailer.now ≡ None) (λ es. trailer_read trailer.now ≡ Some (map reading es.now)) }
+{
+    match trailer {
+        Trailer::Call(args) => listed(args),
+        Trailer::Index(_) => None,
+        Trailer::Attr(_) => None,
+    }
+}
+
+fn listed(args: &Args) -> Option<&List<Expr>>
+    ensures { MatchOption result (args_read args.now ≡ None) (λ es. args_read args.now ≡ Some (map reading es.now)) }
+{
+    match args {
+        Args::List(arguments) => Some(arguments),
+        Args::Gen { .. } => None,
+    }
+}
+
+/// The next part of a sum of which the parts before have this total.
+fn sum_next(
+    alloc: Global,
+    total: Value,
+    rest: List<SumPart>,
+    at: usize,
+    tasks: &mut Vec<Task>,
+) -> Result<Next, AllocError>
+    ensures { IfOk result (λ next. (env : Env) → sum_from (map sum_read (drop at rest)) total env (cont tasks.old.items env) ≡ run_at next tasks.new.items env) }
+{
+    let Some(part) = rest.get(at) else {
+        return Ok(Next::Give(total));
+    };
+    let Some(next) = at.checked_add(1) else {
+        return Err(AllocError);
+    };
+    let op = part.op;
+    let of = copy_expr(alloc, &part.of)?;
+    tasks.push(Task::Sum(SumTask {
+        total: Some(total),
+        op,
+        rest,
+        next,
+    }))?;
+    Ok(Next::Eval(of))
+}
+
+/// The next factor of a product of which the factors before give this.
+fn product_next(
+    alloc: Global,
+    total: Value,
+    rest: List<ProductPart>,
+    at: usize,
+    tasks: &mut Vec<Task>,
+) -> Result<Next, AllocError>
+    ensures { IfOk result (λ next. (env : Env) → product_from (map product_read (drop at rest)) total env (cont tasks.old.items env) ≡ run_at next tasks.new.items env) }
+{
+    let Some(part) = rest.get(at) else {
+        return Ok(Next::Give(total));
+    };
+    let Some(next) = at.checked_add(1) else {
+        return Err(AllocError);
+    };
+    let op = part.op;
+    let of = copy_expr(alloc, &part.of)?;
+    tasks.push(Task::Product(ProductTask {
+        total: Some(total),
+        op,
+        rest,
+        next,
+    }))?;
+    Ok(Next::Eval(of))
+}
+
+/// The next test of a conditional, or its last part.
+fn choose(
+    alloc: Global,
+    arms: List<Arm>,
+    at: usize,
+    last: Shared<Expr>,
+    tasks: &mut Vec<Task>,
+) -> Result<Next, AllocError>
+    ensures { IfOk result (λ next. (env : Env) → choice_from (map arm_read (drop at arms)) (reading last) env (cont tasks.old.items env) ≡ run_at next tasks.new.items env) }
+{
+    let Some(arm) = arms.get(at) else {
+        return Ok(Next::Eval(copy_shared(alloc, &last)?));
+    };
+    let Some(next) = at.checked_add(1) else {
+        return Err(AllocError);
+    };
+    let value = copy_expr(alloc, &arm.value)?;
+    let test = copy_expr(alloc, &arm.test)?;
+    tasks.push(Task::Test(TestTask {
+        value,
+        arms,
+        next,
+        last,
+    }))?;
+    Ok(Next::Eval(test))
+}
+
+/// A part of a sum has this value.
+fn sum_on(
+    alloc: Global,
+    task: SumTask,
+    value: Value,
+    tasks: &mut Vec<Task>,
+) -> Result<Next, AllocError>
+    ensures { IfOk result (λ next. (env : Env) → continued (Task.Sum task) env (cont tasks.old.items env) value ≡ run_at next tasks.new.items env) }
+{
+    let SumTask {
+        total,
+        op,
+        rest,
+        next,
+    } = task;
+    let Some(total) = total else {
+        return sum_next(alloc, value, rest, next, tasks);
+    };
+    match add(op, &total, &value) {
+        Ok(total) => sum_next(alloc, total, rest, next, tasks),
+        Err(kind) => Ok(Next::Fault(kind)),
+    }
+}
+
+/// A factor of a product has this value.
+fn product_on(
+    alloc: Global,
+    task: ProductTask,
+    value: Value,
+    tasks: &mut Vec<Task>,
+) -> Result<Next, AllocError>
+    ensures { IfOk result (λ next. (env : Env) → continued (Task.Product task) env (cont tasks.old.items env) value ≡ run_at next tasks.new.items env) }
+{
+    let ProductTask {
+        total,
+        op,
+        rest,
+        next,
+    } = task;
+    let Some(total) = total else {
+        return product_next(alloc, value, rest, next, tasks);
+    };
+    match multiply(op, &total, &value) {
+        Ok(total) => product_next(alloc, total, rest, next, tasks),
+        Err(kind) => Ok(Next::Fault(kind)),
+    }
+}
+
+/// The left part of a comparison has this value.
+fn left_on(task: LeftTask, value: Value, tasks: &mut Vec<Task>) -> Result<Next, AllocError>
+    ensures { IfOk result (λ next. (env : Env) → continued (Task.Left task) env (cont tasks.old.items env) value ≡ run_at next tasks.new.items env) }
+{
+    let LeftTask { op, right } = task;
+    tasks.push(Task::Right(RightTask { left: value, op }))?;
+    Ok(Next::Eval(right))
+}
+
+/// The right part of a comparison has this value.
+fn right_on(task: &RightTask, value: &Value) -> Next
+    ensures { (env : Env) (ts : Many Task) → continued (Task.Right task.now) env (cont ts env) value.now ≡ run_at result ts env }
+{
+    match compare(task.op, &task.left, value) {
+        Ok(flag) => Next::Give(flag),
+        Err(kind) => Next::Fault(kind),
+    }
+}
+
+/// The flag that a value is.
+fn flag(value: &Value) -> Option<bool>
+    ensures { (given other : Run) (env : Env) → tested value.now given other env ≡ tested_by result given other env }
+{
+    match value {
+        Value::Flag(flag) => Some(*flag),
+        Value::Nothing => None,
+        Value::Int(_) => None,
+        Value::Fix(_) => None,
+        Value::Text(_) => None,
+        Value::Tup(_) => None,
+        Value::Space(_) => None,
+        Value::Cells(_) => None,
+        Value::Table(_) => None,
+    }
+}
+
+/// The test of a conditional's arm has this value.
+fn test_on(
+    alloc: Global,
+    task: TestTask,
+    value: &Value,
+    tasks: &mut Vec<Task>,
+) -> Result<Next, AllocError>
+    ensures { IfOk result (λ next. (env : Env) → continued (Task.Test task) env (cont tasks.old.items env) value.now ≡ run_at next tasks.new.items env) }
+{
+    let TestTask {
+        value: given,
+        arms,
+        next,
+        last,
+    } = task;
+    match flag(value) {
+        Some(true) => Ok(Next::Eval(given)),
+        Some(false) => choose(alloc, arms, next, last, tasks),
+        None => Ok(Next::Fault(FaultKind::TypeMismatch)),
+    }
+}
+
+/// One step of a task that waited for this value.
+fn go_on(
+    alloc: Global,
+    text: &ModelText,
+    task: Task,
+    value: Value,
+    tasks: &mut Vec<Task>,
+    events: &mut Items<Event>,
+) -> Result<Next, AllocError>
+    ensures { IfOk result (λ next. (env : Env) → GoesOnAlone text.now (continued task env (cont tasks.old.items env) value) events.old events.new (run_at next tasks.new.items env)) }
+{
+    match task {
+        Task::Sum(task) => sum_on(alloc, task, value, tasks),
+        Task::Product(task) => product_on(alloc, task, value, tasks),
+        Task::Left(task) => left_on(task, value, tasks),
+        Task::Right(task) => Ok(right_on(&task, &value)),
+        Task::Test(task) => test_on(alloc, task, &value, tasks),
+        Task::Called(argument) => {
+            tasks.push(Task::Argument(value))?;
+            Ok(Next::Eval(argument))
+        }
+        Task::Argument(called) => call(alloc, text, &called, value, events),
+    }
+}
+
+/// Goes on to the value of the run, or to where it asks a node or meets a fault.
+pub fn run_on(
+    alloc: Global,
+    text: &ModelText,
+    node: &Node,
+    scope: &Scope,
+    first: Next,
+    tasks: &mut Vec<Task>,
+    events: &mut Items<Event>,
+) -> Result<Stop, AllocError>
+    ensures { IfOk result (λ stop. GoesOnAlone text.now (run_at first tasks.old.items (env_of node.now scope.now)) events.old events.new (stopped_at stop tasks.new.items (env_of node.now scope.now))) }
+{
+    let mut next = first;
+    for _ in 0..u64::MAX {
+        match next {
+            Next::Eval(expr) => next = enter(alloc, text, node, scope, expr, tasks, events)?,
+            Next::Give(value) => match tasks.pop() {
+                Some(task) => next = go_on(alloc, text, task, value, tasks, events)?,
+                None => return Ok(Stop::Value(value)),
+            },
+            Next::Ask(to) => return Ok(Stop::Ask(to)),
+            Next::Fault(kind) => return Ok(Stop::Fault(kind)),
+        }
+    }
+    Err(AllocError)
+}

@@ -1,0 +1,9 @@
+pub mod Lists
+pub mod Levels
+pub mod Runs
+pub mod Meanings
+pub mod Reach
+pub mod Held
+pub mod Looks
+pub mod Agreement
+pub mod Unique

@@ -1,0 +1,77 @@
+-- Laws of what is among a list.
+use Rattle.std.proofs.Common.{◌≡◌, List, [], ◌∷◌, ◌++◌, map, reverse, ◌⊎◌, inl, inr, refl, sym, ◌∙◌, ap, subst}
+use Rattle.std.proofs.lemmas.List.{reverse-append, reverse-reverse, append-nil, append_assoc, map-append}
+use Rattle.mx_meaning.specs.Lists.{Has, Distinct, Disjoint}
+
+pub has_left : {X : Type 0} (xs ys : List X) (x : X) → Has xs x → Has (xs ++ ys) x
+has_left [] ys x h = absurd h
+has_left (z ∷ xs) ys x h = elim h [ inl e ↦ inl e | inr r ↦ inr (has_left xs ys x r) ]
+
+pub has_right : {X : Type 0} (xs ys : List X) (x : X) → Has ys x → Has (xs ++ ys) x
+has_right [] ys x h = h
+has_right (z ∷ xs) ys x h = inr (has_right xs ys x h)
+
+pub has_cases : {X : Type 0} (xs ys : List X) (x : X) → Has (xs ++ ys) x → Has xs x ⊎ Has ys x
+has_cases [] ys x h = inr h
+has_cases (z ∷ xs) ys x h =
+    elim h [ inl e ↦ inl (inl e) | inr r ↦ elim (has_cases xs ys x r) [ inl a ↦ inl (inr a) | inr b ↦ inr b ] ]
+
+pub has_push : {X : Type 0} (xs : List X) (x : X) → Has (xs ++ x ∷ []) x
+has_push xs x = has_right xs (x ∷ []) x (inl refl)
+
+pub has_push_cases : {X : Type 0} (xs : List X) (y x : X) → Has (xs ++ y ∷ []) x → Has xs x ⊎ (y ≡ x)
+has_push_cases xs y x h =
+    elim (has_cases xs (y ∷ []) x h) [ inl a ↦ inl a | inr b ↦ elim b [ inl e ↦ inr e | inr n ↦ absurd n ] ]
+
+pub distinct_push : {X : Type 0} (xs : List X) (x : X) → Distinct xs → (Has xs x → ⊥) → Distinct (xs ++ x ∷ [])
+distinct_push [] x d n = (λ h. h, tt)
+distinct_push (y ∷ xs) x d n =
+    (λ h. elim (has_push_cases xs x y h) [ inl a ↦ d.0 a | inr e ↦ n (inl (sym e)) ], distinct_push xs x d.1 (λ h. n (inr h)))
+
+pub has_map : {X Y : Type 0} (f : X → Y) (xs : List X) (x : X) → Has xs x → Has (map f xs) (f x)
+has_map f [] x h = absurd h
+has_map f (z ∷ xs) x h = elim h [ inl e ↦ inl (ap f e) | inr r ↦ inr (has_map f xs x r) ]
+
+pub record From {X Y : Type 0} (f : X → Y) (xs : List X) (y : Y) : Type 0 where
+  pub item : X
+  pub among : Has xs item
+  pub is : f item ≡ y
+
+pub has_map_from : {X Y : Type 0} (f : X → Y) (xs : List X) (y : Y) → Has (map f xs) y → From f xs y
+has_map_from f [] y h = absurd h
+has_map_from f (x ∷ xs) y h =
+    elim h [
+      | inl e ↦ record { item = x; among = inl refl; is = e }
+      | inr r ↦ let g = has_map_from f xs y r in record { item = g.item; among = inr g.among; is = g.is }
+    ]
+
+-- the first, last one first, onto the second
+abbrev pub onto : {X : Type 0} → List X → List X → List X
+onto [] rest = rest
+onto (x ∷ xs) rest = onto xs (x ∷ rest)
+
+pub reverse_cons : {X : Type 0} (x : X) (xs : List X) → reverse (x ∷ xs) ≡ reverse xs ++ x ∷ []
+reverse_cons x xs = reverse-append (x ∷ []) xs
+
+pub onto_is : {X : Type 0} (xs rest : List X) → onto xs rest ≡ reverse xs ++ rest
+onto_is [] rest = refl
+onto_is (x ∷ xs) rest = onto_is xs (x ∷ rest) ∙ sym (ap (λ zs. zs ++ rest) (reverse_cons x xs) ∙ append_assoc (reverse xs) (x ∷ []) rest)
+
+pub map_reverse : {X Y : Type 0} (f : X → Y) (xs : List X) → map f (reverse xs) ≡ reverse (map f xs)
+map_reverse f [] = refl
+map_reverse f (x ∷ xs) =
+    ap (λ zs. map f zs) (reverse_cons x xs) ∙ map-append f (reverse xs) (x ∷ []) ∙ ap (λ zs. zs ++ f x ∷ []) (map_reverse f xs) ∙ sym (reverse_cons (f x) (map f xs))
+
+pub onto_reversed : {X Y : Type 0} (f : X → Y) (xs : List X) → onto (map f (reverse xs)) [] ≡ map f xs
+onto_reversed f xs = onto_is (map f (reverse xs)) [] ∙ append-nil (reverse (map f (reverse xs))) ∙ ap reverse (map_reverse f xs) ∙ reverse-reverse (map f xs)
+
+pub distinct_onto : {X : Type 0} (xs rest : List X) → Distinct xs → Distinct rest → Disjoint xs rest → Distinct (onto xs rest)
+distinct_onto [] rest d e f = e
+distinct_onto (x ∷ xs) rest d e f =
+    distinct_onto xs (x ∷ rest) d.1 (λ h. f x (inl refl) h, e)
+    (λ z h k. elim k [ inl i ↦ d.0 (subst (λ y. Has xs y) (sym i) h) | inr r ↦ f z (inr h) r ])
+
+pub disjoint_onto : {X : Type 0} (xs rest zs : List X) → Disjoint xs zs → Disjoint rest zs → Disjoint (onto xs rest) zs
+disjoint_onto [] rest zs d e = e
+disjoint_onto (x ∷ xs) rest zs d e =
+    disjoint_onto xs (x ∷ rest) zs (λ z h. d z (inr h)) (λ z h k. elim h [ inl i ↦ d z (inl i) k | inr r ↦ e z r k ])

@@ -1,0 +1,9 @@
+pub mod Lists
+pub mod Model
+pub mod Meaning
+pub mod Chains
+pub mod Held
+pub mod Support
+pub mod Answers
+pub mod Laws
+pub mod State

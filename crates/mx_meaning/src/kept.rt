@@ -1,0 +1,9 @@
+use crate::event::{Event, Reply};
+use mx_list::items::Items;
+
+/// What is held of a node: what it gives, and the run that gave it.
+#[derive(Drop)]
+pub struct Kept {
+    pub reply: Reply,
+    pub events: Items<Event>,
+}

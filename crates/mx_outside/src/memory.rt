@@ -1,0 +1,141 @@
+//! A source and a sink in memory that fail at chosen calls, to try what stands above them.
+ghost use Rattle.std.specs.Prelude.{◌≡◌, ◌≤◌, ◌^◌, vec_len, Some, []};
+
+use crate::source::copy_front;
+use crate::{Failed, Sink, Source, WriteFailure};
+use std::alloc::Global;
+
+/// A source over bytes, which fails at the calls of the given numbers. The first call has the number 1.
+#[derive(Drop)]
+pub struct MemSource {
+    bytes: Vec<u8>,
+    at: usize,
+    fails: Vec<u64>,
+    calls: u64,
+    faults: u64,
+    ghost within: { at ≤ vec_len bytes },
+}
+
+impl MemSource {
+    ghost use Rattle.mx_outside.specs.Memory.{source_fails, source_calls};
+
+    /// A source with all of these bytes left, no call made and no fault counted.
+    pub fn new(bytes: Vec<u8>, fails: Vec<u64>) -> MemSource
+        ensures left { ⟦<MemSource as Source>⟧.left result ≡ Some bytes.items }
+        ensures faults { ⟦<MemSource as Source>⟧.faults result ≡ 0 }
+        ensures fails { source_fails result ≡ fails.items }
+        ensures calls { source_calls result ≡ 0 }
+    {
+        MemSource {
+            bytes,
+            at: 0,
+            fails,
+            calls: 0,
+            faults: 0,
+        }
+    }
+}
+
+impl Source for MemSource {
+    ghost use Rattle.std.specs.Prelude.{◌≡◌, ◌≤◌, ◌<◌, ◌↔◌, length, IfOk, OnErr, IsErr, Contains};
+    ghost use Rattle.std.specs.Io.KnownBytes.{prepend_known, IsAtEnd};
+    ghost use Rattle.mx_outside.specs.Outside.{Rose, bytes_read};
+    ghost use Rattle.mx_outside.specs.Memory.{source_left, source_faults, source_fails, source_calls, next_call};
+
+    ghost left = { source_left };
+
+    ghost faults = { source_faults };
+
+    fn read(&mut self, into: &mut [u8]) -> Result<usize, Failed>
+        ensures bound { IfOk result (λ n. n ≤ length into.new) }
+        ensures bytes { source_left self.old ≡ prepend_known (bytes_read result into.new) (source_left self.new) }
+        ensures end { result ≡ Ok 0 → 0 < length into.new → IsAtEnd (source_left self.new) }
+        ensures later { source_faults self.old ≤ source_faults self.new }
+        ensures failed { OnErr result (Rose (source_faults self.old) (source_faults self.new)) }
+
+        // It fails exactly at the calls of the numbers that it was made with.
+        ensures told { IsErr result ↔ Contains (source_fails self.old) (next_call (source_calls self.old)) }
+        ensures fails { source_fails self.new ≡ source_fails self.old }
+        ensures calls { source_calls self.new ≡ next_call (source_calls self.old) }
+    {
+        self.calls = self.calls.saturating_add(1);
+        if self.fails.contains(&self.calls) {
+            self.faults = self.faults.saturating_add(1);
+            return Err(Failed);
+        }
+        let count = copy_front(&self.bytes[self.at..], into);
+        self.at += count;
+        Ok(count)
+    }
+}
+
+/// A sink into memory, which fails at the calls of the given numbers. The first call has the number 1.
+#[derive(Drop)]
+pub struct MemSink {
+    bytes: Vec<u8>,
+    fails: Vec<u64>,
+    calls: u64,
+    faults: u64,
+}
+
+impl MemSink {
+    ghost use Rattle.mx_outside.specs.Memory.{sink_fails, sink_calls};
+
+    /// A sink that has taken nothing, with no call made and no fault counted.
+    pub fn new(alloc: Global, fails: Vec<u64>) -> MemSink
+        ensures taken { ⟦<MemSink as Sink>⟧.taken result ≡ Some [] }
+        ensures faults { ⟦<MemSink as Sink>⟧.faults result ≡ 0 }
+        ensures fails { sink_fails result ≡ fails.items }
+        ensures calls { sink_calls result ≡ 0 }
+    {
+        MemSink {
+            bytes: Vec::new(alloc),
+            fails,
+            calls: 0,
+            faults: 0,
+        }
+    }
+
+    /// What was taken.
+    pub fn bytes(&self) -> &[u8]
+        ensures { ⟦<MemSink as Sink>⟧.taken self.now ≡ Some result.now }
+    {
+        &self.bytes
+    }
+}
+
+impl Sink for MemSink {
+    ghost use Rattle.std.specs.Prelude.{◌≡◌, ◌≤◌, ◌<◌, ◌↔◌, length, take, IfOk, OnErr, IsErrOf, Contains};
+    ghost use Rattle.std.specs.Io.KnownBytes.{append_known};
+    ghost use Rattle.mx_outside.specs.Outside.{Rose, TakesFront};
+    ghost use Rattle.mx_outside.specs.Memory.{sink_taken, sink_faults, sink_fails, sink_calls, next_call};
+
+    ghost taken = { sink_taken };
+
+    ghost faults = { sink_faults };
+
+    fn write(&mut self, piece: &[u8]) -> Result<usize, WriteFailure>
+        ensures ok { IfOk result (λ n. (n ≤ length piece.now) × (sink_taken self.new ≡ append_known (sink_taken self.old) (take n piece.now))) }
+        ensures some { IfOk result (λ n. 0 < length piece.now → 0 < n) }
+        ensures err { OnErr result (TakesFront (sink_taken self.old) (sink_taken self.new) piece.now) }
+        ensures no_memory { IsErrOf result WriteFailure.NoMemory → sink_taken self.new ≡ sink_taken self.old }
+        ensures later { sink_faults self.old ≤ sink_faults self.new }
+        ensures failed { IsErrOf result WriteFailure.Failed → Rose (sink_faults self.old) (sink_faults self.new) }
+
+        // It fails exactly at the calls of the numbers that it was made with, and then takes nothing.
+        ensures told { IsErrOf result WriteFailure.Failed ↔ Contains (sink_fails self.old) (next_call (sink_calls self.old)) }
+        ensures nothing { OnErr result (sink_taken self.new ≡ sink_taken self.old) }
+        ensures fails { sink_fails self.new ≡ sink_fails self.old }
+        ensures calls { sink_calls self.new ≡ next_call (sink_calls self.old) }
+    {
+        self.calls = self.calls.saturating_add(1);
+        if self.fails.contains(&self.calls) {
+            self.faults = self.faults.saturating_add(1);
+            return Err(WriteFailure::Failed);
+        }
+        match self.bytes.extend_from_slice(piece) {
+            Ok(()) => return Ok(piece.len()),
+            Err(_) => return Err(WriteFailure::NoMemory),
+        }
+    }
+}
