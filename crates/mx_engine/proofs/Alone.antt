@@ -8,7 +8,7 @@ use Rattle.mx_meaning.specs.declared.key.Key.{Key}
 use Rattle.mx_meaning.specs.declared.event.Event.{Event}
 use Rattle.mx_meaning.specs.declared.event.Event.TheVariants.{Looked}
 use Rattle.mx_meaning.specs.Model.{Text, KeyResult, key_result}
-use Rattle.mx_meaning.specs.Meaning.{Run, Looks}
+use Rattle.mx_meaning.specs.Meaning.{Run, Env, Looks}
 use Rattle.mx_meaning.specs.Chains.{asks_of}
 use Rattle.mx_meaning.proofs.Levels.{leads_append}
 use Rattle.mx_meaning.proofs.Runs.{asks_append}
@@ -35,3 +35,13 @@ alone_from text run other rest a b e g = subst (λ r. GoesOnAlone text r a b res
 pub results_alone : (text : Text) (run : Run) (olds : List Event) (R : Next → Run) (r : Result Next AllocError) → IfOk r (λ next. run ≡ R next) → IfOk r (λ next. GoesOnAlone text run olds olds (R next))
 results_alone text run olds R (Ok next) h = alone_by text run (R next) olds h
 results_alone text run olds R (Err e) h = h
+
+-- the same for each environment, at one of them
+pub family_alone : (text : Text) (run : Run) (olds : List Event) (env : Env) (L : Env → Run) (R : Next → Env → Run) (r : Result Next AllocError) → run ≡ L env → IfOk r (λ next. (e : Env) → L e ≡ R next e) → IfOk r (λ next. GoesOnAlone text run olds olds (R next env))
+family_alone text run olds env L R (Ok next) q h = alone_by text run (R next env) olds (q ∙ h env)
+family_alone text run olds env L R (Err e) q h = h
+
+-- and at all of them
+pub all_alone : (text : Text) (olds : List Event) (K L : Env → Run) (R : Next → Env → Run) (r : Result Next AllocError) → ((e : Env) → K e ≡ L e) → IfOk r (λ next. (e : Env) → L e ≡ R next e) → IfOk r (λ next. (e : Env) → GoesOnAlone text (K e) olds olds (R next e))
+all_alone text olds K L R (Ok next) q h = λ e. alone_by text (K e) (R next e) olds (q e ∙ h e)
+all_alone text olds K L R (Err e) q h = h
