@@ -9,3 +9,4 @@ pub mod Places
 pub mod Evals
 pub mod Moves
 pub mod Begins
+pub mod Calls
