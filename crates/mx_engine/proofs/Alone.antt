@@ -2,6 +2,7 @@
 use Rattle.std.proofs.Common.{◌≡◌, List, [], ◌∷◌, ◌++◌, Result, Ok, Err, IfOk, refl, sym, ◌∙◌, ap, subst}
 use Rattle.std.specs.declared.alloc.AllocError.{AllocError}
 use Rattle.mx_engine.specs.declared.frame.Next.{Next}
+use Rattle.mx_engine.specs.declared.frame.Task.{Task}
 use Rattle.std.proofs.lemmas.List.{append-nil, append_assoc}
 use Rattle.mx_value.specs.declared.node.Node.{Node}
 use Rattle.mx_meaning.specs.declared.key.Key.{Key}
@@ -45,3 +46,8 @@ family_alone text run olds env L R (Err e) q h = h
 pub all_alone : (text : Text) (olds : List Event) (K L : Env → Run) (R : Next → Env → Run) (r : Result Next AllocError) → ((e : Env) → K e ≡ L e) → IfOk r (λ next. (e : Env) → L e ≡ R next e) → IfOk r (λ next. (e : Env) → GoesOnAlone text (K e) olds olds (R next e))
 all_alone text olds K L R (Ok next) q h = λ e. alone_by text (K e) (R next e) olds (q e ∙ h e)
 all_alone text olds K L R (Err e) q h = h
+
+-- a result that goes on for any tasks does so for these
+pub any_alone : (text : Text) (run : Run) (olds news : List Event) (ts : List Task) (L : List Task → Run) (R : Next → List Task → Run) (r : Result Next AllocError) → run ≡ L ts → IfOk r (λ next. (us : List Task) → GoesOnAlone text (L us) olds news (R next us)) → IfOk r (λ next. GoesOnAlone text run olds news (R next ts))
+any_alone text run olds news ts L R (Ok next) q h = alone_from text run (L ts) (R next ts) olds news q (h ts)
+any_alone text run olds news ts L R (Err e) q h = h

@@ -1,9 +1,10 @@
-use Rattle.std.proofs.Common.{[], ◌∷◌, map, drop, refl}
-use Rattle.mx_meaning.specs.Meaning.{Env, reading, choice_from, comparison_of, comparison_in, comparison_read, post_of, argument_in, trailer_read, arm_read}
+use Rattle.std.proofs.Common.{List, [], ◌∷◌, map, drop, refl}
+use Rattle.mx_meaning.specs.Meaning.{Env, sought, local_of, locals_of, reading, choice_from, comparison_of, comparison_in, comparison_read, post_of, argument_in, trailer_read, arm_read}
 use Rattle.mx_engine.specs.declared.frame.Next.{Next}
-use Rattle.mx_engine.specs.Tasks.{cont, run_at, env_of}
+use Rattle.mx_engine.specs.declared.frame.Task.{Task}
+use Rattle.mx_engine.specs.Tasks.{cont, run_at, env_of, arguments_of}
 use Rattle.mx_engine.proofs.Readings.{cont-push, reading-lit, reading-name, reading-sum, reading-product, reading-cond, reading-compare, reading-post, reading-tuple, reading-or, reading-and, reading-not, reading-signed, reading-power}
-use Rattle.mx_engine.proofs.Alone.{alone_by, family_alone}
+use Rattle.mx_engine.proofs.Alone.{alone_by, family_alone, any_alone}
 use Rattle.mx_engine.proofs.formula.enter.Goals as goal
 
 pub returns-in-Lit : goal.returns-in-Lit
@@ -41,3 +42,6 @@ returns-in-Compare c = family_alone c.args.text.now _ c.args.events.now (env_of 
 
 pub returns-in-Post : goal.returns-in-Post
 returns-in-Post c = family_alone c.args.text.now _ c.args.events.now (env_of c.args.node.now c.args.scope.now) (λ (e : Env). post_of (reading c.in-Post.of) (argument_in (map trailer_read c.in-Post.trailers)) e (cont c.args.tasks.now.items e)) (λ (next : Next) (e : Env). run_at next c.enter_call.new.tasks.items e) c.enter_call.result (rw (c.in-Post.is, reading-post) refl) c.enter_call.ensures
+
+pub returns-in-Name : goal.returns-in-Name
+returns-in-Name c = any_alone c.args.text.now _ c.args.events.now c.name_value.new.events c.args.tasks.now.items (λ (us : List Task). sought (local_of (locals_of c.args.scope.now.params (arguments_of c.args.node.now)) c.in-Name.name) c.in-Name.name (env_of c.args.node.now c.args.scope.now) (cont us (env_of c.args.node.now c.args.scope.now))) (λ (next : Next) (us : List Task). run_at next us (env_of c.args.node.now c.args.scope.now)) c.name_value.result (rw (c.in-Name.is, reading-name) refl) c.name_value.ensures
