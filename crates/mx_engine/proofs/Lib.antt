@@ -10,3 +10,6 @@ pub mod Evals
 pub mod Moves
 pub mod Begins
 pub mod Calls
+pub mod Loops
+pub mod Rings
+mod Maps

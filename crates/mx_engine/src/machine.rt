@@ -199,7 +199,7 @@ fn step<L: Ledger>(
     requires room { length held.old.entries ≤ most }
     ensures room { length held.new.entries ≤ most }
     ensures full { IfOk result (IsFull most held.new.entries) }
-    ensures grown { Grown held.old.entries held.new.entries }
+    ensures grown { (start : Many Entry) (asked : Node) → IsRunning text.now limit start held.old.entries asked (reverse waiting.old.entries) running → Grown held.old.entries held.new.entries }
     ensures good { (start : Many Entry) (asked : Node) → IsRunning text.now limit start held.old.entries asked (reverse waiting.old.entries) running → IfOk result (IsStep text.now limit start asked held.new.entries (suc (length waiting.old.entries)) waiting.new.entries) }
     ensures ticks { (start : Many Entry) (asked : Node) → IsRunning text.now limit start held.old.entries asked (reverse waiting.old.entries) running → IfOk result (λ p. steps.new + length held.old.entries + suc (length waiting.old.entries) ≡ steps.old + length held.new.entries + depth_after (suc (length waiting.old.entries)) (length waiting.new.entries) p) }
 {
@@ -244,7 +244,7 @@ fn give(
     requires { length held.old.entries ≤ most }
     ensures room { length held.new.entries ≤ most }
     ensures full { IfOk result (IsFull most held.new.entries) }
-    ensures grown { Grown held.old.entries held.new.entries }
+    ensures grown { (Has (nodes_of held.old.entries) node → ⊥) → Grown held.old.entries held.new.entries }
     ensures good { (text : Text) (limit : ℕ) (start : Many Entry) (asked : Node) (env : Env) → env.node ≡ node → IsMemo text held.old.entries → IsTop text limit start held.old.entries asked (reverse waiting.old.entries) node events (ended false env value) → IfOk result (IsStep text limit start asked held.new.entries (suc (length waiting.old.entries)) waiting.new.entries) }
     ensures ticks { (Has (nodes_of held.old.entries) node → ⊥) → IfOk result (λ p. length held.old.entries + suc (length waiting.old.entries) ≡ length held.new.entries + depth_after (suc (length waiting.old.entries)) (length waiting.new.entries) p) }
 {
@@ -267,7 +267,7 @@ fn finish(
     requires { length held.old.entries ≤ most }
     ensures room { length held.new.entries ≤ most }
     ensures full { IfOk result (IsFull most held.new.entries) }
-    ensures grown { Grown held.old.entries held.new.entries }
+    ensures grown { (Has (nodes_of held.old.entries) node → ⊥) → Grown held.old.entries held.new.entries }
     ensures good { (text : Text) (limit : ℕ) (start : Many Entry) (asked : Node) → IsMemo text held.old.entries → IsTop text limit start held.old.entries asked (reverse waiting.old.entries) node events (gives value) → IfOk result (IsStep text limit start asked held.new.entries (suc (length waiting.old.entries)) waiting.new.entries) }
     ensures ticks { (Has (nodes_of held.old.entries) node → ⊥) → IfOk result (λ p. length held.old.entries + suc (length waiting.old.entries) ≡ length held.new.entries + depth_after (suc (length waiting.old.entries)) (length waiting.new.entries) p) }
 {

@@ -9,7 +9,7 @@ pub returns-in_default : goal.returns-in_default
 returns-in_default g c = record {
   room = c.in_ok-end.ensures.room;
   full = c.in_ok-end.ensures.full;
-  grown = grown_on c.args.held.now.entries c.loop.held.entries c.step.new.held.entries c.loop.invariant.grown c.in_ok-end.ensures.grown;
+  grown = grown_on c.args.held.now.entries c.loop.held.entries c.step.new.held.entries c.loop.invariant.grown (c.in_ok-end.ensures.grown c.args.held.now.entries c.args.first.node c.loop.invariant.running);
   good = record {
     depth = suc (length c.loop.waiting.entries);
     waiting = c.step.new.waiting.entries;
@@ -17,6 +17,9 @@ returns-in_default g c = record {
     ticks = omega (arith, c.in_ok-end.ensures.ticks c.args.held.now.entries c.args.first.node c.loop.invariant.running);
   };
 }
+
+pub returns-in_err-end-clause-grown : goal.returns-in_err-end-clause-grown
+returns-in_err-end-clause-grown g c = grown_on c.args.held.now.entries c.loop.held.entries c.step.new.held.entries c.loop.invariant.grown (c.step.ensures.grown c.args.held.now.entries c.args.first.node c.loop.invariant.running)
 
 pub loop-preserved : goal.loop-preserved
 loop-preserved g c =
@@ -26,7 +29,7 @@ loop-preserved g c =
     record {
       room = c.in_ok-end.ensures.room;
       memo = s.0;
-      grown = grown_on c.args.held.now.entries c.loop.held.entries c.step.new.held.entries c.loop.invariant.grown c.in_ok-end.ensures.grown;
+      grown = grown_on c.args.held.now.entries c.loop.held.entries c.step.new.held.entries c.loop.invariant.grown (c.in_ok-end.ensures.grown c.args.held.now.entries c.args.first.node c.loop.invariant.running);
       running = s.1;
       ticks = omega (arith, c.in_ok-end.ensures.ticks c.args.held.now.entries c.args.first.node c.loop.invariant.running);
     }

@@ -88,4 +88,3 @@ returns-clause-memo g c =
     let k : c.len-before.result ≡ length c.args.held.now.entries = omega arith in
     let back : c.truncate-in-Err.new.self.entries ≡ c.args.held.now.entries = rolled_back c.args.held.now.entries c.drive.new.held.entries c.truncate-in-Err.new.self.entries c.in-Err.ensures.grown (c.truncate-in-Err.ensures.entries ∙ ap (λ (n : ℕ). take n c.drive.new.held.entries) k) in
     subst (λ (es : List Entry). IsMemo c.args.text.now es) (sym back) c.requires.memo
-

@@ -1,4 +1,5 @@
-use Rattle.std.proofs.Common.{◌≡◌, ◌+◌, List, suc, length, refl, sym, ◌∙◌, ap, subst, reverse, arith}
+use Rattle.std.proofs.Common.{◌≡◌, ◌+◌, List, suc, length, refl, sym, ◌∙◌, ap, subst, reverse, inl, arith, []}
+use Rattle.std.proofs.lemmas.List.{append-nil}
 use Rattle.std.proofs.lemmas.Result.{IfOk-weaker}
 use Rattle.mx_value.specs.declared.node.Node.{Node}
 use Rattle.mx_engine.specs.declared.frame.Stop.{Stop}
@@ -8,6 +9,9 @@ use Rattle.mx_engine.specs.Tasks.{run_at, env_of, stopped_at, GoesOnAlone}
 use Rattle.mx_engine.specs.Frames.{IsGood, IsStep, depth_after}
 use Rattle.mx_engine.proofs.Tops.{lost_reversed, top_alone, fault_top}
 use Rattle.mx_engine.proofs.machine.step.Goals as goal
+
+pub returns-in-Value-clause-grown : goal.returns-in-Value-clause-grown
+returns-in-Value-clause-grown g c = λ start asked t. c.give.ensures.grown (λ h. t.apart.unheld c.args.running.node (inl refl) h)
 
 pub returns-in-Value-clause-good : goal.returns-in-Value-clause-good
 returns-in-Value-clause-good g c = λ start asked t.
@@ -28,6 +32,9 @@ returns-in-Fault-clause-good g c = λ start asked t.
 
 pub returns-in-Ask-clause-full : goal.returns-in-Ask-clause-full
 returns-in-Ask-clause-full g c = c.ask.ensures.room c.args.most
+
+pub returns-in-Ask-clause-grown : goal.returns-in-Ask-clause-grown
+returns-in-Ask-clause-grown g c = λ start asked t. record { more = []; is = sym (append-nil c.args.held.now.entries) }
 
 pub returns-in-Ask-clause-good : goal.returns-in-Ask-clause-good
 returns-in-Ask-clause-good g c = λ start asked t.
