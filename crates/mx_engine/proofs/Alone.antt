@@ -2,13 +2,14 @@
 use Rattle.std.proofs.Common.{◌≡◌, List, [], ◌∷◌, ◌++◌, Result, Ok, Err, IfOk, refl, sym, ◌∙◌, ap, subst}
 use Rattle.std.specs.declared.alloc.AllocError.{AllocError}
 use Rattle.mx_engine.specs.declared.frame.Next.{Next}
+use Rattle.mx_engine.specs.declared.frame.Task.{Task}
 use Rattle.std.proofs.lemmas.List.{append-nil, append_assoc}
 use Rattle.mx_value.specs.declared.node.Node.{Node}
 use Rattle.mx_meaning.specs.declared.key.Key.{Key}
 use Rattle.mx_meaning.specs.declared.event.Event.{Event}
 use Rattle.mx_meaning.specs.declared.event.Event.TheVariants.{Looked}
 use Rattle.mx_meaning.specs.Model.{Text, KeyResult, key_result}
-use Rattle.mx_meaning.specs.Meaning.{Run, Looks}
+use Rattle.mx_meaning.specs.Meaning.{Run, Env, Looks}
 use Rattle.mx_meaning.specs.Chains.{asks_of}
 use Rattle.mx_meaning.proofs.Levels.{leads_append}
 use Rattle.mx_meaning.proofs.Runs.{asks_append}
@@ -35,3 +36,18 @@ alone_from text run other rest a b e g = subst (λ r. GoesOnAlone text r a b res
 pub results_alone : (text : Text) (run : Run) (olds : List Event) (R : Next → Run) (r : Result Next AllocError) → IfOk r (λ next. run ≡ R next) → IfOk r (λ next. GoesOnAlone text run olds olds (R next))
 results_alone text run olds R (Ok next) h = alone_by text run (R next) olds h
 results_alone text run olds R (Err e) h = h
+
+-- the same for each environment, at one of them
+pub family_alone : (text : Text) (run : Run) (olds : List Event) (env : Env) (L : Env → Run) (R : Next → Env → Run) (r : Result Next AllocError) → run ≡ L env → IfOk r (λ next. (e : Env) → L e ≡ R next e) → IfOk r (λ next. GoesOnAlone text run olds olds (R next env))
+family_alone text run olds env L R (Ok next) q h = alone_by text run (R next env) olds (q ∙ h env)
+family_alone text run olds env L R (Err e) q h = h
+
+-- and at all of them
+pub all_alone : (text : Text) (olds : List Event) (K L : Env → Run) (R : Next → Env → Run) (r : Result Next AllocError) → ((e : Env) → K e ≡ L e) → IfOk r (λ next. (e : Env) → L e ≡ R next e) → IfOk r (λ next. (e : Env) → GoesOnAlone text (K e) olds olds (R next e))
+all_alone text olds K L R (Ok next) q h = λ e. alone_by text (K e) (R next e) olds (q e ∙ h e)
+all_alone text olds K L R (Err e) q h = h
+
+-- a result that goes on for any tasks does so for these
+pub any_alone : (text : Text) (run : Run) (olds news : List Event) (ts : List Task) (L : List Task → Run) (R : Next → List Task → Run) (r : Result Next AllocError) → run ≡ L ts → IfOk r (λ next. (us : List Task) → GoesOnAlone text (L us) olds news (R next us)) → IfOk r (λ next. GoesOnAlone text run olds news (R next ts))
+any_alone text run olds news ts L R (Ok next) q h = alone_from text run (L ts) (R next ts) olds news q (h ts)
+any_alone text run olds news ts L R (Err e) q h = h

@@ -9,3 +9,7 @@ pub mod Places
 pub mod Evals
 pub mod Moves
 pub mod Begins
+pub mod Calls
+pub mod Loops
+pub mod Rings
+mod Maps

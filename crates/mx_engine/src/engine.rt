@@ -1,8 +1,10 @@
 //! The engine: a model text, and what is held for it.
 ghost use Rattle.std.specs.Prelude.{◌≡◌, ◌-◌, ◌+◌, [], Some, None, length, IfOk, IfErr, OnOk, OnErr};
 ghost use Rattle.mx_meaning.specs.Answers.{Answer};
+ghost use Rattle.mx_meaning.specs.Model.{define};
 ghost use Rattle.mx_meaning.specs.State.{State, IsRightState, most_held};
 ghost use Rattle.mx_engine.specs.Edits.{applied, refusal_of, IsRefusedBy, first_limit};
+ghost use Rattle.mx_engine.specs.declared.edit.Edit.TheVariants.{SetCells};
 
 use crate::edit::{Edit, EditRefusal, Limit, holds_item};
 use crate::machine::{Held, eval};
@@ -10,8 +12,9 @@ use crate::steps::Steps;
 use crate::text::ModelText;
 use indexmap::IndexMap;
 use mx_syntax::stmt::Formula;
+use mx_value::label::Label;
 use mx_value::name::is_name;
-use mx_value::node::Node;
+use mx_value::node::{Node, Path};
 use mx_value::refusal::EvalRefusal;
 use mx_value::value::Value;
 use std::alloc::{AllocError, Global};
@@ -74,11 +77,28 @@ impl Engine {
         ensures refused { OnErr result (self.new ≡ self.old) }
         ensures exact { IsRefusedBy result (refusal_of self.old.text edit.now) }
     {
-        let Edit::SetCells {
-            path,
-            name,
-            formula,
-        } = edit;
+        match edit {
+            Edit::SetCells {
+                path,
+                name,
+                formula,
+            } => self.set_cells(path, name, formula),
+        }
+    }
+
+    fn set_cells(
+        &mut self,
+        path: &Path,
+        name: &Label,
+        formula: &Formula,
+    ) -> Result<u32, EditRefusal>
+        ensures right { IsRightState self.new }
+        ensures accepted { OnOk result (self.new ≡ record self.old { text = define self.old.text name.now formula.now; held = [] }) }
+        ensures dropped { IfOk result (λ n. n ≡ length self.old.held) }
+        ensures refused { OnErr result (self.new ≡ self.old) }
+        ensures exact { IsRefusedBy result (refusal_of self.old.text (SetCells path.now name.now formula.now)) }
+    {
+        let dropped = self.held.len() as u32;
         if !is_name(name) {
             return Err(EditRefusal::BadName);
         }
@@ -91,7 +111,6 @@ impl Engine {
         if self.text.count() >= MOST_CELLS && !self.text.has_cells(name) {
             return Err(EditRefusal::TooMany(Limit::Cells));
         }
-        let dropped = self.held.len() as u32;
         self.text.define(
             name.copy()?,
             Formula {

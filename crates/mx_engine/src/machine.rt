@@ -25,9 +25,10 @@ use mx_meaning::kept::Kept;
 use mx_meaning::key::Key;
 use mx_syntax::stmt::Stmt;
 use mx_value::fault::FaultKind;
-use mx_value::node::Node;
+use mx_value::label::Label;
+use mx_value::node::{Node, Path};
 use mx_value::refusal::EvalRefusal;
-use mx_value::value::Value;
+use mx_value::value::{Addr, Value};
 use std::alloc::{AllocError, Global};
 use std::sync::ledger::Ledger;
 
@@ -198,7 +199,7 @@ fn step<L: Ledger>(
     requires room { length held.old.entries ≤ most }
     ensures room { length held.new.entries ≤ most }
     ensures full { IfOk result (IsFull most held.new.entries) }
-    ensures grown { Grown held.old.entries held.new.entries }
+    ensures grown { (start : Many Entry) (asked : Node) → IsRunning text.now limit start held.old.entries asked (reverse waiting.old.entries) running → Grown held.old.entries held.new.entries }
     ensures good { (start : Many Entry) (asked : Node) → IsRunning text.now limit start held.old.entries asked (reverse waiting.old.entries) running → IfOk result (IsStep text.now limit start asked held.new.entries (suc (length waiting.old.entries)) waiting.new.entries) }
     ensures ticks { (start : Many Entry) (asked : Node) → IsRunning text.now limit start held.old.entries asked (reverse waiting.old.entries) running → IfOk result (λ p. steps.new + length held.old.entries + suc (length waiting.old.entries) ≡ steps.old + length held.new.entries + depth_after (suc (length waiting.old.entries)) (length waiting.new.entries) p) }
 {
@@ -243,7 +244,7 @@ fn give(
     requires { length held.old.entries ≤ most }
     ensures room { length held.new.entries ≤ most }
     ensures full { IfOk result (IsFull most held.new.entries) }
-    ensures grown { Grown held.old.entries held.new.entries }
+    ensures grown { (Has (nodes_of held.old.entries) node → ⊥) → Grown held.old.entries held.new.entries }
     ensures good { (text : Text) (limit : ℕ) (start : Many Entry) (asked : Node) (env : Env) → env.node ≡ node → IsMemo text held.old.entries → IsTop text limit start held.old.entries asked (reverse waiting.old.entries) node events (ended false env value) → IfOk result (IsStep text limit start asked held.new.entries (suc (length waiting.old.entries)) waiting.new.entries) }
     ensures ticks { (Has (nodes_of held.old.entries) node → ⊥) → IfOk result (λ p. length held.old.entries + suc (length waiting.old.entries) ≡ length held.new.entries + depth_after (suc (length waiting.old.entries)) (length waiting.new.entries) p) }
 {
@@ -266,7 +267,7 @@ fn finish(
     requires { length held.old.entries ≤ most }
     ensures room { length held.new.entries ≤ most }
     ensures full { IfOk result (IsFull most held.new.entries) }
-    ensures grown { Grown held.old.entries held.new.entries }
+    ensures grown { (Has (nodes_of held.old.entries) node → ⊥) → Grown held.old.entries held.new.entries }
     ensures good { (text : Text) (limit : ℕ) (start : Many Entry) (asked : Node) → IsMemo text held.old.entries → IsTop text limit start held.old.entries asked (reverse waiting.old.entries) node events (gives value) → IfOk result (IsStep text limit start asked held.new.entries (suc (length waiting.old.entries)) waiting.new.entries) }
     ensures ticks { (Has (nodes_of held.old.entries) node → ⊥) → IfOk result (λ p. length held.old.entries + suc (length waiting.old.entries) ≡ length held.new.entries + depth_after (suc (length waiting.old.entries)) (length waiting.new.entries) p) }
 {
@@ -390,9 +391,28 @@ fn begin<L: Ledger>(
     ensures begins { IfOk result (Begins text.now node) }
     ensures tick { IfOk result (λ b. steps.new ≡ steps.old + runs_begun b) }
 {
-    let Node::Cell(at, name, arguments) = node.get() else {
-        return Ok(Begun::NoSuch);
-    };
+    match node.get() {
+        Node::Item(_, _) => Ok(Begun::NoSuch),
+        Node::Cell(at, name, arguments) => {
+            begin_cells(alloc, text, &node, at, name, arguments, steps)
+        }
+    }
+}
+
+/// The run of a cells node begins.
+fn begin_cells<L: Ledger>(
+    alloc: Global,
+    text: &ModelText,
+    node: &Shared<Node>,
+    at: &Addr,
+    name: &Label,
+    arguments: &Items<Value>,
+    steps: &mut Steps<L>,
+) -> Result<Begun, AllocError>
+    requires { node.now ≡ Node.Cell at.now name.now arguments.now }
+    ensures begins { IfOk result (Begins text.now node.now) }
+    ensures tick { IfOk result (λ b. steps.new ≡ steps.old + runs_begun b) }
+{
     let Some(source) = text.source_of(alloc, at)? else {
         return Ok(Begun::NoSuch);
     };
@@ -403,14 +423,12 @@ fn begin<L: Ledger>(
         return Ok(Begun::WrongCount);
     }
     steps.tick();
-    let mut events = Items::with_capacity(alloc, 8)?;
-    events.push(Event::Looked(Key::Input(node.copy()?)))?;
-    events.push(Event::Looked(Key::Cells(source.copy()?, name.copy()?)))?;
+    let events = first_events(alloc, node, &source, name)?;
+    let next = first_step(alloc, &formula.body)?;
     let scope = Scope {
         source,
         params: formula.params.copy()?,
     };
-    let next = first_step(alloc, &formula.body)?;
     let node = node.copy()?;
     let tasks = Vec::new(alloc);
     Ok(Begun::Running(Running {
@@ -422,6 +440,21 @@ fn begin<L: Ledger>(
         },
         next,
     }))
+}
+
+/// What the run of a cells node does first: it looks for an input, and then its formula up.
+fn first_events(
+    alloc: Global,
+    node: &Shared<Node>,
+    source: &Path,
+    name: &Label,
+) -> Result<Items<Event>, AllocError>
+    ensures { IfOk result (λ es. es ≡ Event.Looked (Key.Input node.now) ∷ Event.Looked (Key.Cells source.now name.now) ∷ []) }
+{
+    let mut events = Items::with_capacity(alloc, 8)?;
+    events.push(Event::Looked(Key::Input(node.copy()?)))?;
+    events.push(Event::Looked(Key::Cells(source.copy()?, name.copy()?)))?;
+    Ok(events)
 }
 
 /// The first step of a formula. Bodies of other forms than one expression are not built yet.
