@@ -2,6 +2,8 @@
 #![tactic(auto)]
 
 mod answer;
+#[cfg(test)]
+mod guide;
 mod host;
 mod laws;
 mod line;

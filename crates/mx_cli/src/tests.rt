@@ -14,7 +14,12 @@ fn run_word(alloc: Global) -> Result<Vec<String>, AllocError> {
 }
 
 /// A script is answered so, with status 0.
-fn answers(rt: &impl Abort, alloc: Global, script: &[u8], output: &[u8]) -> Result<(), AllocError> {
+pub fn answers(
+    rt: &impl Abort,
+    alloc: Global,
+    script: &[u8],
+    output: &[u8],
+) -> Result<(), AllocError> {
     let mut source = SureSource::new(script.to_vec(alloc)?);
     let mut out = SureSink::new(alloc);
     let status = mx_top(alloc, &run_word(alloc)?, &mut source, &mut out);
