@@ -4,15 +4,14 @@ ghost use Rattle.std.specs.Prelude.{◌≡◌, ◌<◌};
 use crate::edit::{Edit, EditRefusal};
 use crate::engine::Engine;
 use crate::steps::Steps;
-use mx_list::items::Items;
 use mx_list::list::List;
-use mx_list::shared::Shared;
-use mx_syntax::expr::{Args, Expr, Trailer};
-use mx_syntax::stmt::{Formula, Stmt};
+use mx_syntax::first::{FirstCommand, read_first};
+use mx_syntax::stmt::Formula;
+use mx_value::fault::FaultKind;
 use mx_value::label::Label;
 use mx_value::node::{Node, Path};
 use mx_value::refusal::EvalRefusal;
-use mx_value::value::{Addr, Segment, Value};
+use mx_value::value::Value;
 use std::alloc::{AllocError, Global};
 use std::marker::Brand;
 use std::process::Abort;
@@ -32,43 +31,24 @@ fn path(alloc: Global, name: &str) -> Result<Path, AllocError> {
     Ok(List::from_vec(alloc, names)?)
 }
 
-fn address(alloc: Global, name: &str) -> Result<Addr, AllocError> {
-    let mut segments = Vec::new(alloc);
-    segments.push(Segment::Name(label(alloc, name)?))?;
-    Ok(List::from_vec(alloc, segments)?)
+fn formula(alloc: Global, text: &[u8]) -> Result<Formula, AllocError> {
+    match read_first(alloc, text) {
+        Ok(FirstCommand::Cells(_, formula)) => Ok(formula),
+        _ => Err(AllocError),
+    }
 }
 
-fn node(alloc: Global, name: &str) -> Result<Node, AllocError> {
-    let at = address(alloc, "Main")?;
-    Ok(Node::Cell(at, label(alloc, name)?, Items::new(alloc)))
+fn node(alloc: Global, text: &[u8]) -> Result<Node, AllocError> {
+    match read_first(alloc, text) {
+        Ok(FirstCommand::Eval(node)) => Ok(node),
+        _ => Err(AllocError),
+    }
 }
 
-fn number(n: i64) -> Expr {
-    Expr::Lit(Value::Int(n))
-}
-
-fn call(alloc: Global, called: &str) -> Result<Expr, AllocError> {
-    let mut trailers = Vec::new(alloc);
-    trailers.push(Trailer::Call(Args::List(List::from_vec(alloc, Vec::new(alloc))?)))?;
-    let trailers = List::from_vec(alloc, trailers)?;
-    let of = Shared::new(alloc, Expr::Name(label(alloc, called)?))?;
-    Ok(Expr::Post { of, trailers })
-}
-
-fn formula(alloc: Global, body: Expr) -> Result<Formula, AllocError> {
-    let mut stmts = Vec::new(alloc);
-    stmts.push(Stmt::Return(Some(body)))?;
-    let body = List::from_vec(alloc, stmts)?;
-    Ok(Formula {
-        params: List::from_vec(alloc, Vec::new(alloc))?,
-        body,
-    })
-}
-
-fn cells_in(alloc: Global, space: &str, cells: &str, body: Expr) -> Result<Edit, AllocError> {
-    let formula = formula(alloc, body)?;
+fn cells(alloc: Global, space: &str, name: &str, text: &[u8]) -> Result<Edit, AllocError> {
     let path = path(alloc, space)?;
-    let name = label(alloc, cells)?;
+    let name = label(alloc, name)?;
+    let formula = formula(alloc, text)?;
     Ok(Edit::SetCells {
         path,
         name,
@@ -76,95 +56,154 @@ fn cells_in(alloc: Global, space: &str, cells: &str, body: Expr) -> Result<Edit,
     })
 }
 
-fn cells(alloc: Global, cells: &str, body: Expr) -> Result<Edit, AllocError> {
-    cells_in(alloc, "Main", cells, body)
+/// The edit is accepted and drops so many.
+fn drops(
+    alloc: Global,
+    engine: &mut Engine,
+    name: &str,
+    text: &[u8],
+    dropped: u32,
+) -> Result<bool, AllocError> {
+    let edit = cells(alloc, "Main", name, text)?;
+    Ok(engine.edit(&edit) == Ok(dropped))
 }
 
-fn value_is(answer: &Result<Value, EvalRefusal>, n: i64) -> bool {
-    match answer {
-        Ok(Value::Int(m)) => *m == n,
-        _ => false,
+fn refuses(
+    alloc: Global,
+    engine: &mut Engine,
+    space: &str,
+    name: &str,
+    why: EditRefusal,
+) -> Result<bool, AllocError> {
+    let edit = cells(alloc, space, name, b"cells f(n) = 1")?;
+    Ok(engine.edit(&edit) == Err(why))
+}
+
+/// The node has this value.
+fn answers<L: Ledger>(
+    alloc: Global,
+    engine: &mut Engine,
+    steps: &mut Steps<L>,
+    text: &[u8],
+    value: i64,
+) -> Result<bool, AllocError> {
+    let asked = node(alloc, text)?;
+    match engine.eval(&asked, steps) {
+        Ok(Value::Int(n)) => Ok(n == value),
+        _ => Ok(false),
     }
 }
 
-fn kept_rows<L: Ledger>(rt: &impl Abort, alloc: Global, blank: Blank) -> Result<(), Fail>
+/// The node is refused so.
+fn fails<L: Ledger>(
+    alloc: Global,
+    engine: &mut Engine,
+    steps: &mut Steps<L>,
+    text: &[u8],
+    why: &EvalRefusal,
+) -> Result<bool, AllocError> {
+    let asked = node(alloc, text)?;
+    match engine.eval(&asked, steps) {
+        Ok(_) => Ok(false),
+        Err(refusal) => Ok(refusal == *why),
+    }
+}
+
+fn fib_rows<L: Ledger>(rt: &impl Abort, alloc: Global, blank: Blank) -> Result<(), Fail>
     requires name { blank.name ≡ L.name }
     requires parts { blank.parts ≡ L.parts }
     requires some { 0 < blank.parts }
 {
     let mut steps = Steps::<L>::new(blank);
     let mut engine = Engine::new(alloc)?;
-    let asked = node(alloc, "f")?;
-    assert_eq!(rt;
-        engine.edit(&cells(alloc, "f", call(alloc, "g")?)?).ok(),
-        Some(0)
-    );
-    assert_eq!(rt; engine.edit(&cells(alloc, "g", number(7))?).ok(), Some(0));
-    assert!(rt; value_is(&engine.eval(&asked, &mut steps), 7));
-    assert_eq!(rt; engine.held_count(), 2);
-    assert!(rt; value_is(&engine.eval(&asked, &mut steps), 7));
-    assert_eq!(rt; engine.held_count(), 2);
-    assert_eq!(rt; engine.edit(&cells(alloc, "g", number(8))?).ok(), Some(2));
-    assert_eq!(rt; engine.held_count(), 0);
-    assert!(rt; value_is(&engine.eval(&asked, &mut steps), 8));
+    let first = b"cells fib(n) = n if n < 2 else fib(n - 1) + fib(n - 2)";
+    assert!(rt; drops(alloc, &mut engine, "fib", first, 0)?);
+    assert!(rt; answers(alloc, &mut engine, &mut steps, b"eval fib(30)", 832040)?);
+    assert_eq!(rt; engine.held_count(), 31);
+    assert!(rt; answers(alloc, &mut engine, &mut steps, b"eval fib(30)", 832040)?);
+    assert_eq!(rt; engine.held_count(), 31);
+    let second = b"cells fib(n) = n if n < 3 else fib(n - 1) + fib(n - 2)";
+    assert!(rt; drops(alloc, &mut engine, "fib", second, 31)?);
+    assert!(rt; answers(alloc, &mut engine, &mut steps, b"eval fib(30)", 1346269)?);
+    assert_eq!(rt; engine.held_count(), 30);
     Ok(())
 }
 
-fn is_node(alloc: Global, given: &Node, name: &str) -> Result<bool, AllocError> {
-    Ok(*given == node(alloc, name)?)
-}
-
-fn ring_rows<L: Ledger>(rt: &impl Abort, alloc: Global, blank: Blank) -> Result<(), Fail>
+fn deep_rows<L: Ledger>(rt: &impl Abort, alloc: Global, blank: Blank) -> Result<(), Fail>
     requires name { blank.name ≡ L.name }
     requires parts { blank.parts ≡ L.parts }
     requires some { 0 < blank.parts }
 {
     let mut steps = Steps::<L>::new(blank);
     let mut engine = Engine::new(alloc)?;
-    let asked = node(alloc, "f")?;
-    assert_eq!(rt;
-        engine.edit(&cells(alloc, "f", call(alloc, "g")?)?).ok(),
-        Some(0)
-    );
-    assert_eq!(rt;
-        engine.edit(&cells(alloc, "g", call(alloc, "f")?)?).ok(),
-        Some(0)
-    );
-    match engine.eval(&asked, &mut steps) {
-        Err(EvalRefusal::Ring(ring)) => match ring.as_slice() {
-            [first, second] => {
-                assert!(rt; is_node(alloc, first, "f")?);
-                assert!(rt; is_node(alloc, second, "g")?);
-            }
-            _ => assert!(rt; false),
-        },
-        _ => assert!(rt; false),
-    }
+    let f = b"cells f(n) = 0 if n == 0 else f(n - 1)";
+    assert!(rt; drops(alloc, &mut engine, "f", f, 0)?);
+    let deep = EvalRefusal::TooDeep(node(alloc, b"eval f(0)")?);
+    assert!(rt; fails(alloc, &mut engine, &mut steps, b"eval f(200)", &deep)?);
     assert_eq!(rt; engine.held_count(), 0);
+    assert!(rt; answers(alloc, &mut engine, &mut steps, b"eval f(199)", 0)?);
+    assert!(rt; answers(alloc, &mut engine, &mut steps, b"eval f(200)", 0)?);
+    assert_eq!(rt; engine.held_count(), 201);
+    Ok(())
+}
+
+fn fault_rows<L: Ledger>(rt: &impl Abort, alloc: Global, blank: Blank) -> Result<(), Fail>
+    requires name { blank.name ≡ L.name }
+    requires parts { blank.parts ≡ L.parts }
+    requires some { 0 < blank.parts }
+{
+    let mut steps = Steps::<L>::new(blank);
+    let mut engine = Engine::new(alloc)?;
+    let h = b"cells h(n) = n * 9223372036854775807";
+    assert!(rt; drops(alloc, &mut engine, "h", h, 0)?);
+    let overflow = EvalRefusal::Fault {
+        kind: FaultKind::Overflow,
+        node: node(alloc, b"eval h(2)")?,
+        line: 1,
+    };
+    assert!(rt; fails(alloc, &mut engine, &mut steps, b"eval h(2)", &overflow)?);
+    assert!(rt;
+        answers(
+            alloc,
+            &mut engine,
+            &mut steps,
+            b"eval h(1)",
+            9223372036854775807
+        )?
+    );
+    assert_eq!(rt; engine.held_count(), 1);
+    assert!(rt;
+        fails(
+            alloc,
+            &mut engine,
+            &mut steps,
+            b"eval k(1)",
+            &EvalRefusal::NoSuch
+        )?
+    );
     Ok(())
 }
 
 fn refused_rows(rt: &impl Abort, alloc: Global) -> Result<(), Fail> {
     let mut engine = Engine::new(alloc)?;
-    assert_eq!(rt;
-        engine.edit(&cells(alloc, "not", number(1))?),
-        Err(EditRefusal::BadName)
-    );
-    assert_eq!(rt;
-        engine.edit(&cells_in(alloc, "Other", "f", number(1))?),
-        Err(EditRefusal::NoSuchSpace)
-    );
+    assert!(rt; refuses(alloc, &mut engine, "Main", "not", EditRefusal::BadName)?);
+    assert!(rt; refuses(alloc, &mut engine, "Other", "f", EditRefusal::NoSuchSpace)?);
     Ok(())
 }
 
 #[test]
 fn values_are_kept_until_an_edit(rt: HostRuntime) -> Result<(), Fail> {
-    kept_rows::<Brand>(&rt, rt.alloc(), Blank::new(1))
+    fib_rows::<Brand>(&rt, rt.alloc(), Blank::new(1))
 }
 
 #[test]
-fn cells_that_ask_each_other_are_a_ring(rt: HostRuntime) -> Result<(), Fail> {
-    ring_rows::<Brand>(&rt, rt.alloc(), Blank::new(1))
+fn a_chain_past_200_calls_is_too_deep_but_held_nodes_break_it(rt: HostRuntime) -> Result<(), Fail> {
+    deep_rows::<Brand>(&rt, rt.alloc(), Blank::new(1))
+}
+
+#[test]
+fn an_overflow_and_a_missing_name_are_refused(rt: HostRuntime) -> Result<(), Fail> {
+    fault_rows::<Brand>(&rt, rt.alloc(), Blank::new(1))
 }
 
 #[test]
