@@ -1,5 +1,5 @@
 -- Runs that go on with no ask, one after the other.
-use Rattle.std.proofs.Common.{◌≡◌, List, [], ◌∷◌, ◌++◌, Result, Ok, Err, IfOk, refl, sym, ◌∙◌, ap, subst}
+use Rattle.std.proofs.Common.{◌≡◌, Option, Some, None, IfSome, List, [], ◌∷◌, ◌++◌, Result, Ok, Err, IfOk, refl, sym, ◌∙◌, ap, subst}
 use Rattle.std.specs.declared.alloc.AllocError.{AllocError}
 use Rattle.mx_engine.specs.declared.frame.Next.{Next}
 use Rattle.mx_engine.specs.declared.frame.Task.{Task}
@@ -13,7 +13,7 @@ use Rattle.mx_meaning.specs.Meaning.{Run, Env, Looks}
 use Rattle.mx_meaning.specs.Chains.{asks_of}
 use Rattle.mx_meaning.proofs.Levels.{leads_append}
 use Rattle.mx_meaning.proofs.Runs.{asks_append}
-use Rattle.mx_engine.specs.Tasks.{GoesOnAlone}
+use Rattle.mx_engine.specs.Tasks.{GoesOnAlone, run_at}
 
 pub alone_by : (text : Text) (run rest : Run) (olds : List Event) → run ≡ rest → GoesOnAlone text run olds olds rest
 alone_by text run rest olds e = record { events = []; is = sym (append-nil olds); alone = refl; leads = e }
@@ -51,3 +51,42 @@ all_alone text olds K L R (Err e) q h = h
 pub any_alone : (text : Text) (run : Run) (olds news : List Event) (ts : List Task) (L : List Task → Run) (R : Next → List Task → Run) (r : Result Next AllocError) → run ≡ L ts → IfOk r (λ next. (us : List Task) → GoesOnAlone text (L us) olds news (R next us)) → IfOk r (λ next. GoesOnAlone text run olds news (R next ts))
 any_alone text run olds news ts L R (Ok next) q h = alone_from text run (L ts) (R next ts) olds news q (h ts)
 any_alone text run olds news ts L R (Err e) q h = h
+
+-- a result from an equal run
+pub results_from : (run other : Run) (R : Next → Run) (r : Result Next AllocError) → run ≡ other → IfOk r (λ next. other ≡ R next) → IfOk r (λ next. run ≡ R next)
+results_from run other R (Ok next) q h = q ∙ h
+results_from run other R (Err e) q h = h
+
+-- the value that is there
+pub at_some : {X : Type 0} (P : X → Type 0) (o : Option X) (x : X) → o ≡ Some x → IfSome o P → P x
+at_some P o x e h = subst (λ y. IfSome y P) e h
+
+pub some_weaker : {X : Type 0} (P Q : X → Type 0) (r : Result (Option X) AllocError) → ((x : X) → P x → Q x) → IfOk r (λ o. IfSome o P) → IfOk r (λ o. IfSome o Q)
+some_weaker P Q (Ok None) f h = h
+some_weaker P Q (Ok (Some x)) f h = f x h
+some_weaker P Q (Err e) f h = h
+
+-- a result that goes on in any place does so here
+pub called_alone : (text : Text) (run : Run) (olds news : List Event) (env : Env) (ts : List Task) (L : Env → List Task → Run) (r : Result Next AllocError) → run ≡ L env ts → IfOk r (λ next. (e : Env) (us : List Task) → GoesOnAlone text (L e us) olds news (run_at next us e)) → IfOk r (λ next. GoesOnAlone text run olds news (run_at next ts env))
+called_alone text run olds news env ts L (Ok next) q h = alone_from text run (L env ts) (run_at next ts env) olds news q (h env ts)
+called_alone text run olds news env ts L (Err e) q h = h
+
+-- a result of an equation for each environment, at one of them
+pub results_at : (run : Run) (env : Env) (L : Env → Run) (R : Next → Env → Run) (r : Result Next AllocError) → run ≡ L env → IfOk r (λ next. (e : Env) → L e ≡ R next e) → IfOk r (λ next. run ≡ R next env)
+results_at run env L R (Ok next) q h = q ∙ h env
+results_at run env L R (Err e) q h = h
+
+-- a result from an equal run, with events
+pub alone_result : (text : Text) (run other : Run) (olds news : List Event) (R : Next → Run) (r : Result Next AllocError) → run ≡ other → IfOk r (λ next. GoesOnAlone text other olds news (R next)) → IfOk r (λ next. GoesOnAlone text run olds news (R next))
+alone_result text run other olds news R (Ok next) q h = alone_from text run other (R next) olds news q h
+alone_result text run other olds news R (Err e) q h = h
+
+-- one run goes on to another, which goes on in this result
+pub then_result : (text : Text) (run mid : Run) (a b c : List Event) (R : Next → Run) (r : Result Next AllocError) → GoesOnAlone text run a b mid → IfOk r (λ next. GoesOnAlone text mid b c (R next)) → IfOk r (λ next. GoesOnAlone text run a c (R next))
+then_result text run mid a b c R (Ok next) g h = alone_then text run mid (R next) a b c g h
+then_result text run mid a b c R (Err e) g h = h
+
+-- the same for any tasks
+pub each_result : (text : Text) (olds news : List Event) (K L : List Task → Run) (R : Next → List Task → Run) (r : Result Next AllocError) → ((ts : List Task) → K ts ≡ L ts) → IfOk r (λ next. (ts : List Task) → GoesOnAlone text (L ts) olds news (R next ts)) → IfOk r (λ next. (ts : List Task) → GoesOnAlone text (K ts) olds news (R next ts))
+each_result text olds news K L R (Ok next) q h = λ ts. alone_from text (K ts) (L ts) (R next ts) olds news (q ts) (h ts)
+each_result text olds news K L R (Err e) q h = h

@@ -1,6 +1,6 @@
 -- What look-ups by a node and by a place tell of the held nodes and of those that wait.
 use Rattle.std.proofs.Common.{Bool, true, false, cond, ◌≡◌, ℕ, zero, suc, ◌+◌, ◌<◌, List, [], ◌∷◌, ◌++◌, length, map, take, drop, get_or, reverse, Option, Some, None, inl, inr, refl, sym, ◌∙◌, ap, subst, arith, length-append}
-use Rattle.std.specs.Map.{lookup}
+use Rattle.std.specs.Map.{lookup, lookup_key}
 use Rattle.std.proofs.lemmas.List.{append-nil, reverse-append, reverse-reverse, length-reverse, drop_more, map-append, take-append-drop}
 use Rattle.mx_value.specs.declared.node.Node.{Node}
 use Rattle.mx_value.specs.Equality.{node_eq}
@@ -26,6 +26,18 @@ module _ {X : Type 0} (n : Node) where
   pub found_entry : (es : List (Node × X)) (v : X) → lookup (node_eq n) es ≡ Some v → Has es (n, v)
   found_entry [] v h = absurd (cc)
   found_entry (e ∷ es) v h = found_by (node_eq n e.0) e es v refl h (found_entry es v)
+
+  key_by : (b : Bool) (e : Node × X) (es : List (Node × X)) (k : Node) → node_eq n e.0 ≡ b → cond b (Some e.0) (lookup_key (node_eq n) es) ≡ Some k → (lookup_key (node_eq n) es ≡ Some k → k ≡ n) → k ≡ n
+  key_by true e es k q h r =
+      let i : n ≡ e.0 = (node_decides n e.0).0 q in
+      let j : e.0 ≡ k = cc in
+      sym j ∙ sym i
+  key_by false e es k q h r = r h
+
+  -- the key that it found is the node
+  pub found_key : (es : List (Node × X)) (k : Node) → lookup_key (node_eq n) es ≡ Some k → k ≡ n
+  found_key [] k h = absurd (cc)
+  found_key (e ∷ es) k h = key_by (node_eq n e.0) e es k refl h (found_key es k)
 
   missing_by : (b : Bool) (e : Node × X) (es : List (Node × X)) → node_eq n e.0 ≡ b → cond b (Some e.1) (lookup (node_eq n) es) ≡ None → (lookup (node_eq n) es ≡ None → Has (map (λ (d : Node × X). d.0) es) n → ⊥) → Has (map (λ (d : Node × X). d.0) (e ∷ es)) n → ⊥
   missing_by true e es q h k i = let c : Some e.1 ≡ None = h in absurd (cc)

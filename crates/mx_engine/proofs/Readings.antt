@@ -1,7 +1,7 @@
 -- How each form of expression is read, and what a pushed task does.
 use Rattle.std.proofs.lemmas.List.{drop_more, drop_all}
 use Rattle.std.proofs.lemmas.Option.{slice_get_within, get_or_from_slice_get}
-use Rattle.std.proofs.Common.{◌≤◌, MatchOption, Bor, arith, zero, suc, slice_get, ◌+◌, Option, Some, None, ◌≡◌, ℕ, List, [], ◌∷◌, ◌++◌, length, refl, sym, ap, ◌∙◌, map, rules, drop, false}
+use Rattle.std.proofs.Common.{◌≤◌, ◌<◌, get_or, MatchOption, Bor, arith, zero, suc, slice_get, ◌+◌, Option, Some, None, ◌≡◌, ℕ, List, [], ◌∷◌, ◌++◌, length, refl, sym, ap, ◌∙◌, map, rules, drop, false}
 use Rattle.mx_value.specs.declared.label.Label.{Label}
 use Rattle.mx_value.specs.declared.value.Value.{Value}
 use Rattle.mx_syntax.specs.declared.expr.Expr.{Expr, the_lemmas}
@@ -15,9 +15,10 @@ use Rattle.mx_syntax.specs.declared.expr.Sign.{Sign}
 use Rattle.mx_syntax.specs.declared.stmt.Param.{Param}
 use Rattle.mx_value.specs.declared.fault.FaultKind.TheVariants.{TypeMismatch}
 use Rattle.mx_syntax.specs.declared.expr.Trailer.{Trailer}
-use Rattle.mx_meaning.specs.Meaning.{fault, only_of, locals_of, Run, Env, reading, sum_read, product_read, arm_read, comparison_read, trailer_read, sum_from, product_from, choice_from, comparison_of, comparison_in, post_of, argument_in, sought, local_of, added, multiplied, tested, ended}
+use Rattle.mx_engine.specs.declared.frame.Task.TheVariants.{Called}
+use Rattle.mx_meaning.specs.Meaning.{Reading, fault, only_of, locals_of, Run, Env, reading, sum_read, product_read, arm_read, comparison_read, trailer_read, sum_from, product_from, choice_from, comparison_of, comparison_in, post_of, argument_in, sought, local_of, added, multiplied, tested, ended}
 use Rattle.mx_engine.specs.declared.frame.Task.{Task}
-use Rattle.mx_engine.specs.Tasks.{cont, cont_from, continued}
+use Rattle.mx_engine.specs.Tasks.{cont, cont_from, continued, IsRead}
 
 pub reading-name : (name : Label) (env : Env) (go : Value → Run) → reading (Name name) env go ≡ sought (local_of env.locals name) name env go
 reading-name name env go = search (the_lemmas, rules)
@@ -140,3 +141,37 @@ no_locals (p ∷ ps) name = refl
 -- a parameter past the arguments has none
 pub none_left : (ps : List Param) (vs : List Value) (name : Label) (i : ℕ) → local_of (locals_of ps vs) name ≡ local_of (locals_of (drop i ps) (drop i vs)) name → length vs ≤ i → local_of (locals_of ps vs) name ≡ None
 none_left ps vs name i h l = h ∙ ap (λ ws. local_of (locals_of (drop i ps) ws) name) (drop_all i vs l) ∙ no_locals (drop i ps) name
+
+part_at : {X : Type 0} (xs : List X) (i : ℕ) (x : X) → i < length xs → x ≡ get_or xs i x → drop i xs ≡ x ∷ drop (i + 1) xs
+part_at xs i x l e = drop_more xs i x l ∙ ap (λ y. y ∷ drop (i + 1) xs) (sym e)
+
+-- the part of a sum at this place has its value at hand
+pub sum_more : (rest : List SumPart) (i : ℕ) (p : SumPart) (env : Env) (total value sum : Value) → i < length rest → p ≡ get_or rest i p → IsRead (out-SumPart p).of env value → ((go : Value → Run) → added (out-SumPart p).op total value env go ≡ go sum) → (go : Value → Run) → sum_from (map sum_read (drop i rest)) total env go ≡ sum_from (map sum_read (drop (i + 1) rest)) sum env go
+sum_more rest i p env total value sum l e r a go =
+    ap (λ es. sum_from (map sum_read es) total env go) (part_at rest i p l e) ∙ ap (λ q. sum_from (q ∷ map sum_read (drop (i + 1) rest)) total env go) (sum_part p)
+    ∙ r (λ v. added (out-SumPart p).op total v env (λ s. sum_from (map sum_read (drop (i + 1) rest)) s env go)) ∙ a (λ s. sum_from (map sum_read (drop (i + 1) rest)) s env go)
+
+pub sum_done : (rest : List SumPart) (i : ℕ) (env : Env) (total : Value) (go : Value → Run) → length rest ≤ i → sum_from (map sum_read (drop i rest)) total env go ≡ go total
+sum_done rest i env total go l = ap (λ es. sum_from (map sum_read es) total env go) (drop_all i rest l)
+
+-- and the factor of a product
+pub product_more : (rest : List ProductPart) (i : ℕ) (p : ProductPart) (env : Env) (total value product : Value) → i < length rest → p ≡ get_or rest i p → IsRead (out-ProductPart p).of env value → ((go : Value → Run) → multiplied (out-ProductPart p).op total value env go ≡ go product) → (go : Value → Run) → product_from (map product_read (drop i rest)) total env go ≡ product_from (map product_read (drop (i + 1) rest)) product env go
+product_more rest i p env total value product l e r a go =
+    ap (λ es. product_from (map product_read es) total env go) (part_at rest i p l e) ∙ ap (λ q. product_from (q ∷ map product_read (drop (i + 1) rest)) total env go) (product_part p)
+    ∙ r (λ v. multiplied (out-ProductPart p).op total v env (λ s. product_from (map product_read (drop (i + 1) rest)) s env go)) ∙ a (λ s. product_from (map product_read (drop (i + 1) rest)) s env go)
+
+pub product_done : (rest : List ProductPart) (i : ℕ) (env : Env) (total : Value) (go : Value → Run) → length rest ≤ i → product_from (map product_read (drop i rest)) total env go ≡ go total
+product_done rest i env total go l = ap (λ es. product_from (map product_read es) total env go) (drop_all i rest l)
+
+-- the test of the arm at this place has its value at hand
+pub arm_more : (arms : List Arm) (i : ℕ) (a : Arm) (last : Expr) (env : Env) (value : Value) → i < length arms → a ≡ get_or arms i a → IsRead (out-Arm a).test env value → (go : Value → Run) → choice_from (map arm_read (drop i arms)) (reading last) env go ≡ tested value (reading (out-Arm a).value env go) (choice_from (map arm_read (drop (i + 1) arms)) (reading last) env go) env
+arm_more arms i a last env value l e r go =
+    ap (λ es. choice_from (map arm_read es) (reading last) env go) (part_at arms i a l e) ∙ ap (λ q. choice_from (q ∷ map arm_read (drop (i + 1) arms)) (reading last) env go) (arm_part a)
+    ∙ r (λ t. tested t (reading (out-Arm a).value env go) (choice_from (map arm_read (drop (i + 1) arms)) (reading last) env go) env)
+
+pub arms_done : (arms : List Arm) (i : ℕ) (last : Expr) (env : Env) (go : Value → Run) → length arms ≤ i → choice_from (map arm_read (drop i arms)) (reading last) env go ≡ reading last env go
+arms_done arms i last env go l = ap (λ es. choice_from (map arm_read es) (reading last) env go) (drop_all i arms l)
+
+-- a call's first part is read before the task that waits for it
+pub post_pushed : (first : Expr) (o : Option Reading) (argument : Expr) (env : Env) (ts : List Task) → o ≡ Some (reading argument) → post_of (reading first) o env (cont ts env) ≡ reading first env (cont (ts ++ Called argument ∷ []) env)
+post_pushed first o argument env ts e = ap (λ (x : Option Reading). post_of (reading first) x env (cont ts env)) e ∙ ap (λ (k : Value → Run). reading first env k) (sym (cont-push ts (Called argument) env))

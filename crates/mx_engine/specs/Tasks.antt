@@ -14,6 +14,7 @@ use Rattle.mx_meaning.specs.Chains.{asks_of}
 use Rattle.mx_engine.specs.declared.frame.Scope.{Scope}
 use Rattle.mx_engine.specs.declared.frame.Task.{Task}
 use Rattle.mx_engine.specs.declared.frame.Task.TheVariants.{Sum, Product, Left, Right, Test, Called, Argument}
+use Rattle.mx_syntax.specs.declared.expr.Expr.{Expr}
 use Rattle.mx_syntax.specs.declared.expr.SumOp.{SumOp}
 use Rattle.mx_syntax.specs.declared.expr.SumPart.{SumPart}
 use Rattle.mx_syntax.specs.declared.expr.ProductOp.{ProductOp}
@@ -96,3 +97,7 @@ abbrev pub tested_by : Option Bool → Run → Run → Env → Run
 tested_by (Some true) given other env = given
 tested_by (Some false) given other env = other
 tested_by None given other env = fault TypeMismatch env
+
+-- the expression is read here with no event, and this is its value
+abbrev pub IsRead : Expr → Env → Value → Type 0
+IsRead e env v = (go : Value → Run) → reading e env go ≡ go v

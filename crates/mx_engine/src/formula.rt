@@ -5,6 +5,7 @@ ghost use Rattle.mx_meaning.specs.Meaning.{reading, whole_of, cells_in, sum_from
 ghost use Rattle.mx_engine.specs.Tasks.{address_of, continued, cont, run_at, stopped_at, env_of, arguments_of, GoesOnAlone, Fitting, computed, tested_by};
 ghost use Rattle.mx_value.specs.declared.value.Value.{Value, out-Value};
 
+use crate::at_hand::at_hand;
 use crate::copies::{copy_expr, copy_shared};
 use crate::frame::{LeftTask, Next, ProductTask, RightTask, Scope, Stop, SumTask, Task, TestTask};
 use crate::text::ModelText;
@@ -57,7 +58,7 @@ fn product_whole(a: i64, b: i64) -> Option<i64>
     a.checked_mul(b)
 }
 
-fn add(op: SumOp, total: &Value, value: &Value) -> Result<Value, FaultKind>
+pub fn add(op: SumOp, total: &Value, value: &Value) -> Result<Value, FaultKind>
     ensures { (env : Env) (go : Value → Run) → added op total.now value.now env go ≡ computed result env go }
 {
     let Some(a) = whole(total) else {
@@ -72,7 +73,7 @@ fn add(op: SumOp, total: &Value, value: &Value) -> Result<Value, FaultKind>
     }
 }
 
-fn multiply(op: ProductOp, total: &Value, value: &Value) -> Result<Value, FaultKind>
+pub fn multiply(op: ProductOp, total: &Value, value: &Value) -> Result<Value, FaultKind>
     ensures { (env : Env) (go : Value → Run) → multiplied op total.now value.now env go ≡ computed result env go }
 {
     match op {
@@ -93,7 +94,7 @@ fn multiply(op: ProductOp, total: &Value, value: &Value) -> Result<Value, FaultK
     }
 }
 
-fn compare(op: CmpOp, left: &Value, right: &Value) -> Result<Value, FaultKind>
+pub fn compare(op: CmpOp, left: &Value, right: &Value) -> Result<Value, FaultKind>
     ensures { (env : Env) (go : Value → Run) → compared op left.now right.now env go ≡ computed result env go }
 {
     let Some(a) = whole(left) else {
@@ -121,7 +122,7 @@ fn compare_whole(op: CmpOp, a: i64, b: i64) -> Result<Value, FaultKind>
 }
 
 /// The argument of a parameter.
-fn local(
+pub fn local(
     alloc: Global,
     node: &Node,
     scope: &Scope,
@@ -231,15 +232,11 @@ fn call_cells(
     if formula.params.len() != 1 {
         return Ok(Next::Fault(FaultKind::WrongCountInside));
     }
-    let mut arguments = Vec::new(alloc);
+    let mut arguments = Items::with_capacity(alloc, 1)?;
     arguments.push(argument)?;
     Ok(Next::Ask(Shared::new(
         alloc,
-        Node::Cell(
-            at.space.copy()?,
-            at.name.copy()?,
-            Items::from_vec(arguments),
-        ),
+        Node::Cell(at.space.copy()?, at.name.copy()?, arguments),
     )?))
 }
 
@@ -258,27 +255,13 @@ fn enter(
     match expr {
         Expr::Lit(value) => Ok(Next::Give(value)),
         Expr::Name(name) => name_value(alloc, text, node, scope, name, events),
-        Expr::Sum { first, rest } => {
-            tasks.push(Task::Sum(SumTask {
-                total: None,
-                op: SumOp::Plus,
-                rest,
-                next: 0,
-            }))?;
-            Ok(Next::Eval(copy_shared(alloc, &first)?))
-        }
-        Expr::Product { first, rest } => {
-            tasks.push(Task::Product(ProductTask {
-                total: None,
-                op: ProductOp::Times,
-                rest,
-                next: 0,
-            }))?;
-            Ok(Next::Eval(copy_shared(alloc, &first)?))
-        }
-        Expr::Cond { arms, last } => choose(alloc, arms, 0, last, tasks),
+        Expr::Sum { first, rest } => enter_sum(alloc, node, scope, &first, rest, tasks),
+        Expr::Product { first, rest } => enter_product(alloc, node, scope, &first, rest, tasks),
+        Expr::Cond { arms, last } => choose(alloc, node, scope, arms, 0, last, tasks),
         Expr::Compare { first, rest } => enter_comparison(alloc, &first, &rest, tasks),
-        Expr::Post { of, trailers } => enter_call(alloc, &of, &trailers, tasks),
+        Expr::Post { of, trailers } => enter_call(
+            alloc, text, node, scope, &of, &trailers, tasks, events,
+        ),
         Expr::Tuple(_) => Ok(Next::Fault(FaultKind::TypeMismatch)),
         Expr::Or(_) => Ok(Next::Fault(FaultKind::TypeMismatch)),
         Expr::And(_) => Ok(Next::Fault(FaultKind::TypeMismatch)),
@@ -286,6 +269,50 @@ fn enter(
         Expr::Signed { .. } => Ok(Next::Fault(FaultKind::TypeMismatch)),
         Expr::Power { .. } => Ok(Next::Fault(FaultKind::TypeMismatch)),
     }
+}
+
+fn enter_sum(
+    alloc: Global,
+    node: &Node,
+    scope: &Scope,
+    first: &Shared<Expr>,
+    rest: List<SumPart>,
+    tasks: &mut Vec<Task>,
+) -> Result<Next, AllocError>
+    ensures { IfOk result (λ next. reading first.now (env_of node.now scope.now) (λ v. sum_from (map sum_read rest) v (env_of node.now scope.now) (cont tasks.old.items (env_of node.now scope.now))) ≡ run_at next tasks.new.items (env_of node.now scope.now)) }
+{
+    if let Some(total) = at_hand(alloc, node, scope, first.get())? {
+        return sum_next(alloc, node, scope, total, rest, 0, tasks);
+    }
+    tasks.push(Task::Sum(SumTask {
+        total: None,
+        op: SumOp::Plus,
+        rest,
+        next: 0,
+    }))?;
+    Ok(Next::Eval(copy_shared(alloc, first)?))
+}
+
+fn enter_product(
+    alloc: Global,
+    node: &Node,
+    scope: &Scope,
+    first: &Shared<Expr>,
+    rest: List<ProductPart>,
+    tasks: &mut Vec<Task>,
+) -> Result<Next, AllocError>
+    ensures { IfOk result (λ next. reading first.now (env_of node.now scope.now) (λ v. product_from (map product_read rest) v (env_of node.now scope.now) (cont tasks.old.items (env_of node.now scope.now))) ≡ run_at next tasks.new.items (env_of node.now scope.now)) }
+{
+    if let Some(total) = at_hand(alloc, node, scope, first.get())? {
+        return product_next(alloc, node, scope, total, rest, 0, tasks);
+    }
+    tasks.push(Task::Product(ProductTask {
+        total: None,
+        op: ProductOp::Times,
+        rest,
+        next: 0,
+    }))?;
+    Ok(Next::Eval(copy_shared(alloc, first)?))
 }
 
 fn enter_comparison(
@@ -305,7 +332,7 @@ fn enter_comparison(
 }
 
 /// The comparison of a chain of one.
-fn only_comparison(rest: &List<Comparison>) -> Option<(CmpOp, &Expr)>
+pub fn only_comparison(rest: &List<Comparison>) -> Option<(CmpOp, &Expr)>
     ensures { MatchOption result (comparison_in (map comparison_read rest.now) ≡ None) (λ c. comparison_in (map comparison_read rest.now) ≡ Some (c.0, reading c.1.now)) }
 {
     if rest.len() != 1 {
@@ -330,17 +357,66 @@ fn comparison_by(comparison: &Comparison) -> Option<(CmpOp, &Expr)>
 
 fn enter_call(
     alloc: Global,
+    text: &ModelText,
+    node: &Node,
+    scope: &Scope,
     first: &Shared<Expr>,
     trailers: &List<Trailer>,
     tasks: &mut Vec<Task>,
+    events: &mut Items<Event>,
 ) -> Result<Next, AllocError>
-    ensures { IfOk result (λ next. (env : Env) → post_of (reading first.now) (argument_in (map trailer_read trailers.now)) env (cont tasks.old.items env) ≡ run_at next tasks.new.items env) }
+    ensures { IfOk result (λ next. GoesOnAlone text.now (post_of (reading first.now) (argument_in (map trailer_read trailers.now)) (env_of node.now scope.now) (cont tasks.old.items (env_of node.now scope.now))) events.old events.new (run_at next tasks.new.items (env_of node.now scope.now))) }
 {
     let Some(argument) = only_argument(trailers) else {
         return Ok(Next::Fault(FaultKind::TypeMismatch));
     };
-    tasks.push(Task::Called(copy_expr(alloc, argument)?))?;
-    Ok(Next::Eval(copy_shared(alloc, first)?))
+    let called = enter_called(alloc, text, node, scope, first.get(), events)?;
+    match called {
+        Next::Give(value) => call_with(alloc, text, node, scope, value, argument, tasks, events),
+        other => {
+            tasks.push(Task::Called(copy_expr(alloc, argument)?))?;
+            Ok(other)
+        }
+    }
+}
+
+/// The part that is called. A name is looked up at once.
+fn enter_called(
+    alloc: Global,
+    text: &ModelText,
+    node: &Node,
+    scope: &Scope,
+    first: &Expr,
+    events: &mut Items<Event>,
+) -> Result<Next, AllocError>
+    ensures { IfOk result (λ next. (ts : Many Task) → GoesOnAlone text.now (reading first.now (env_of node.now scope.now) (cont ts (env_of node.now scope.now))) events.old events.new (run_at next ts (env_of node.now scope.now))) }
+{
+    match first {
+        Expr::Name(name) => name_value(alloc, text, node, scope, name.copy()?, events),
+        other => Ok(Next::Eval(copy_expr(alloc, other)?)),
+    }
+}
+
+/// A value is called with the argument that this expression gives.
+fn call_with(
+    alloc: Global,
+    text: &ModelText,
+    node: &Node,
+    scope: &Scope,
+    function: Value,
+    argument: &Expr,
+    tasks: &mut Vec<Task>,
+    events: &mut Items<Event>,
+) -> Result<Next, AllocError>
+    ensures { IfOk result (λ next. GoesOnAlone text.now (reading argument.now (env_of node.now scope.now) (λ v. called (cells_in (out-Value function)) (v ∷ []) (env_of node.now scope.now) (cont tasks.old.items (env_of node.now scope.now)))) events.old events.new (run_at next tasks.new.items (env_of node.now scope.now))) }
+{
+    match at_hand(alloc, node, scope, argument)? {
+        Some(value) => call(alloc, text, &function, value, events),
+        None => {
+            tasks.push(Task::Argument(function))?;
+            Ok(Next::Eval(copy_expr(alloc, argument)?))
+        }
+    }
 }
 
 /// The argument of a call with one, where nothing follows the call.
@@ -385,6 +461,34 @@ fn listed(args: &Args) -> Option<&List<Expr>>
 /// The next part of a sum of which the parts before have this total.
 fn sum_next(
     alloc: Global,
+    node: &Node,
+    scope: &Scope,
+    before: Value,
+    rest: List<SumPart>,
+    from: usize,
+    tasks: &mut Vec<Task>,
+) -> Result<Next, AllocError>
+    ensures { IfOk result (λ next. sum_from (map sum_read (drop from rest)) before (env_of node.now scope.now) (cont tasks.old.items (env_of node.now scope.now)) ≡ run_at next tasks.new.items (env_of node.now scope.now)) }
+{
+    let mut total = before;
+    for at in from..rest.len() {
+        let Some(part) = rest.get(at) else {
+            return Err(AllocError);
+        };
+        let Some(value) = at_hand(alloc, node, scope, &part.of)? else {
+            return sum_part(alloc, total, rest, at, tasks);
+        };
+        match add(part.op, &total, &value) {
+            Ok(sum) => total = sum,
+            Err(kind) => return Ok(Next::Fault(kind)),
+        }
+    }
+    Ok(Next::Give(total))
+}
+
+/// The part of a sum at this place, which is not at hand.
+fn sum_part(
+    alloc: Global,
     total: Value,
     rest: List<SumPart>,
     at: usize,
@@ -411,6 +515,34 @@ fn sum_next(
 
 /// The next factor of a product of which the factors before give this.
 fn product_next(
+    alloc: Global,
+    node: &Node,
+    scope: &Scope,
+    before: Value,
+    rest: List<ProductPart>,
+    from: usize,
+    tasks: &mut Vec<Task>,
+) -> Result<Next, AllocError>
+    ensures { IfOk result (λ next. product_from (map product_read (drop from rest)) before (env_of node.now scope.now) (cont tasks.old.items (env_of node.now scope.now)) ≡ run_at next tasks.new.items (env_of node.now scope.now)) }
+{
+    let mut total = before;
+    for at in from..rest.len() {
+        let Some(part) = rest.get(at) else {
+            return Err(AllocError);
+        };
+        let Some(value) = at_hand(alloc, node, scope, &part.of)? else {
+            return product_part(alloc, total, rest, at, tasks);
+        };
+        match multiply(part.op, &total, &value) {
+            Ok(product) => total = product,
+            Err(kind) => return Ok(Next::Fault(kind)),
+        }
+    }
+    Ok(Next::Give(total))
+}
+
+/// The factor of a product at this place, which is not at hand.
+fn product_part(
     alloc: Global,
     total: Value,
     rest: List<ProductPart>,
@@ -439,6 +571,34 @@ fn product_next(
 /// The next test of a conditional, or its last part.
 fn choose(
     alloc: Global,
+    node: &Node,
+    scope: &Scope,
+    arms: List<Arm>,
+    from: usize,
+    last: Shared<Expr>,
+    tasks: &mut Vec<Task>,
+) -> Result<Next, AllocError>
+    ensures { IfOk result (λ next. choice_from (map arm_read (drop from arms)) (reading last) (env_of node.now scope.now) (cont tasks.old.items (env_of node.now scope.now)) ≡ run_at next tasks.new.items (env_of node.now scope.now)) }
+{
+    for at in from..arms.len() {
+        let Some(arm) = arms.get(at) else {
+            return Err(AllocError);
+        };
+        let Some(value) = at_hand(alloc, node, scope, &arm.test)? else {
+            return test(alloc, arms, at, last, tasks);
+        };
+        match flag(&value) {
+            Some(true) => return Ok(Next::Eval(copy_expr(alloc, &arm.value)?)),
+            Some(false) => {}
+            None => return Ok(Next::Fault(FaultKind::TypeMismatch)),
+        }
+    }
+    Ok(Next::Eval(copy_shared(alloc, &last)?))
+}
+
+/// The test of a conditional's arm at this place, which is not at hand.
+fn test(
+    alloc: Global,
     arms: List<Arm>,
     at: usize,
     last: Shared<Expr>,
@@ -466,11 +626,13 @@ fn choose(
 /// A part of a sum has this value.
 fn sum_on(
     alloc: Global,
+    node: &Node,
+    scope: &Scope,
     task: SumTask,
     value: Value,
     tasks: &mut Vec<Task>,
 ) -> Result<Next, AllocError>
-    ensures { IfOk result (λ next. (env : Env) → continued (Task.Sum task) env (cont tasks.old.items env) value ≡ run_at next tasks.new.items env) }
+    ensures { IfOk result (λ next. continued (Task.Sum task) (env_of node.now scope.now) (cont tasks.old.items (env_of node.now scope.now)) value ≡ run_at next tasks.new.items (env_of node.now scope.now)) }
 {
     let SumTask {
         total,
@@ -479,10 +641,10 @@ fn sum_on(
         next,
     } = task;
     let Some(total) = total else {
-        return sum_next(alloc, value, rest, next, tasks);
+        return sum_next(alloc, node, scope, value, rest, next, tasks);
     };
     match add(op, &total, &value) {
-        Ok(total) => sum_next(alloc, total, rest, next, tasks),
+        Ok(total) => sum_next(alloc, node, scope, total, rest, next, tasks),
         Err(kind) => Ok(Next::Fault(kind)),
     }
 }
@@ -490,11 +652,13 @@ fn sum_on(
 /// A factor of a product has this value.
 fn product_on(
     alloc: Global,
+    node: &Node,
+    scope: &Scope,
     task: ProductTask,
     value: Value,
     tasks: &mut Vec<Task>,
 ) -> Result<Next, AllocError>
-    ensures { IfOk result (λ next. (env : Env) → continued (Task.Product task) env (cont tasks.old.items env) value ≡ run_at next tasks.new.items env) }
+    ensures { IfOk result (λ next. continued (Task.Product task) (env_of node.now scope.now) (cont tasks.old.items (env_of node.now scope.now)) value ≡ run_at next tasks.new.items (env_of node.now scope.now)) }
 {
     let ProductTask {
         total,
@@ -503,21 +667,34 @@ fn product_on(
         next,
     } = task;
     let Some(total) = total else {
-        return product_next(alloc, value, rest, next, tasks);
+        return product_next(alloc, node, scope, value, rest, next, tasks);
     };
     match multiply(op, &total, &value) {
-        Ok(total) => product_next(alloc, total, rest, next, tasks),
+        Ok(total) => product_next(alloc, node, scope, total, rest, next, tasks),
         Err(kind) => Ok(Next::Fault(kind)),
     }
 }
 
 /// The left part of a comparison has this value.
-fn left_on(task: LeftTask, value: Value, tasks: &mut Vec<Task>) -> Result<Next, AllocError>
-    ensures { IfOk result (λ next. (env : Env) → continued (Task.Left task) env (cont tasks.old.items env) value ≡ run_at next tasks.new.items env) }
+fn left_on(
+    alloc: Global,
+    node: &Node,
+    scope: &Scope,
+    task: LeftTask,
+    value: Value,
+    tasks: &mut Vec<Task>,
+) -> Result<Next, AllocError>
+    ensures { IfOk result (λ next. continued (Task.Left task) (env_of node.now scope.now) (cont tasks.old.items (env_of node.now scope.now)) value ≡ run_at next tasks.new.items (env_of node.now scope.now)) }
 {
     let LeftTask { op, right } = task;
-    tasks.push(Task::Right(RightTask { left: value, op }))?;
-    Ok(Next::Eval(right))
+    let left = RightTask { left: value, op };
+    match at_hand(alloc, node, scope, &right)? {
+        Some(value) => Ok(right_on(&left, &value)),
+        None => {
+            tasks.push(Task::Right(left))?;
+            Ok(Next::Eval(right))
+        }
+    }
 }
 
 /// The right part of a comparison has this value.
@@ -550,11 +727,13 @@ fn flag(value: &Value) -> Option<bool>
 /// The test of a conditional's arm has this value.
 fn test_on(
     alloc: Global,
+    node: &Node,
+    scope: &Scope,
     task: TestTask,
     value: &Value,
     tasks: &mut Vec<Task>,
 ) -> Result<Next, AllocError>
-    ensures { IfOk result (λ next. (env : Env) → continued (Task.Test task) env (cont tasks.old.items env) value.now ≡ run_at next tasks.new.items env) }
+    ensures { IfOk result (λ next. continued (Task.Test task) (env_of node.now scope.now) (cont tasks.old.items (env_of node.now scope.now)) value.now ≡ run_at next tasks.new.items (env_of node.now scope.now)) }
 {
     let TestTask {
         value: given,
@@ -564,7 +743,7 @@ fn test_on(
     } = task;
     match flag(value) {
         Some(true) => Ok(Next::Eval(given)),
-        Some(false) => choose(alloc, arms, next, last, tasks),
+        Some(false) => choose(alloc, node, scope, arms, next, last, tasks),
         None => Ok(Next::Fault(FaultKind::TypeMismatch)),
     }
 }
@@ -573,23 +752,24 @@ fn test_on(
 fn go_on(
     alloc: Global,
     text: &ModelText,
+    node: &Node,
+    scope: &Scope,
     task: Task,
     value: Value,
     tasks: &mut Vec<Task>,
     events: &mut Items<Event>,
 ) -> Result<Next, AllocError>
-    ensures { IfOk result (λ next. (env : Env) → GoesOnAlone text.now (continued task env (cont tasks.old.items env) value) events.old events.new (run_at next tasks.new.items env)) }
+    ensures { IfOk result (λ next. GoesOnAlone text.now (continued task (env_of node.now scope.now) (cont tasks.old.items (env_of node.now scope.now)) value) events.old events.new (run_at next tasks.new.items (env_of node.now scope.now))) }
 {
     match task {
-        Task::Sum(task) => sum_on(alloc, task, value, tasks),
-        Task::Product(task) => product_on(alloc, task, value, tasks),
-        Task::Left(task) => left_on(task, value, tasks),
+        Task::Sum(task) => sum_on(alloc, node, scope, task, value, tasks),
+        Task::Product(task) => product_on(alloc, node, scope, task, value, tasks),
+        Task::Left(task) => left_on(alloc, node, scope, task, value, tasks),
         Task::Right(task) => Ok(right_on(&task, &value)),
-        Task::Test(task) => test_on(alloc, task, &value, tasks),
-        Task::Called(argument) => {
-            tasks.push(Task::Argument(value))?;
-            Ok(Next::Eval(argument))
-        }
+        Task::Test(task) => test_on(alloc, node, scope, task, &value, tasks),
+        Task::Called(argument) => call_with(
+            alloc, text, node, scope, value, &argument, tasks, events,
+        ),
         Task::Argument(called) => call(alloc, text, &called, value, events),
     }
 }
@@ -611,7 +791,7 @@ pub fn run_on(
         match next {
             Next::Eval(expr) => next = enter(alloc, text, node, scope, expr, tasks, events)?,
             Next::Give(value) => match tasks.pop() {
-                Some(task) => next = go_on(alloc, text, task, value, tasks, events)?,
+                Some(task) => next = go_on(alloc, text, node, scope, task, value, tasks, events)?,
                 None => return Ok(Stop::Value(value)),
             },
             Next::Ask(to) => return Ok(Stop::Ask(to)),

@@ -85,7 +85,7 @@ pub fn eval<L: Ledger>(
 {
     let asked = Shared::new(alloc, node.copy(alloc)?)?;
     if let Some(kept) = held.get(&asked) {
-        return Ok(kept.reply.value.copy(alloc)?);
+        return Ok(kept.reply.get().value.copy(alloc)?);
     }
     if limit == 0 {
         return Err(EvalRefusal::TooDeep(node.copy(alloc)?));
@@ -274,12 +274,15 @@ fn finish(
     if held.len() >= most {
         return Ok(Progress::Full);
     }
-    let reply = Reply {
-        value,
-        namespace: None,
-    };
+    let reply = Shared::new(
+        alloc,
+        Reply {
+            value,
+            namespace: None,
+        },
+    )?;
     let kept = Kept {
-        reply: reply.copy(alloc)?,
+        reply: reply.copy()?,
         events,
     };
     held.insert(node.copy()?, kept)?;
@@ -291,14 +294,14 @@ fn hand_down(
     alloc: Global,
     waiting: &mut Waiting,
     node: Shared<Node>,
-    reply: Reply,
+    reply: Shared<Reply>,
 ) -> Result<Progress, AllocError>
     ensures good { (text : Text) (limit : ℕ) (start held : Many Entry) (asked : Node) → IsMemo text held → IsDone text limit start held asked (reverse waiting.old.entries) node reply → IfOk result (IsGood text limit start asked held (suc (length waiting.old.entries)) waiting.new.entries) }
     ensures ticks { IfOk result (λ p. length waiting.old.entries ≡ depth_after (suc (length waiting.old.entries)) (length waiting.new.entries) p) }
     ensures room { (most : ℕ) (held : Many Entry) → IfOk result (IsFull most held) }
 {
     match waiting.pop() {
-        None => Ok(Progress::Done(reply.value)),
+        None => Ok(Progress::Done(reply.get().value.copy(alloc)?)),
         Some((asker, frame)) => Ok(Progress::Going(given(alloc, asker, frame, node, reply)?)),
     }
 }
@@ -309,7 +312,7 @@ fn given(
     node: Shared<Node>,
     frame: Frame,
     asked: Shared<Node>,
-    reply: Reply,
+    reply: Shared<Reply>,
 ) -> Result<Running, AllocError>
     ensures { IfOk result (λ r. (r.node ≡ node) × (r.frame.events ≡ frame.events ++ Event.Asked asked reply ∷ []) × (run_at r.next r.frame.tasks.items (env_of r.node r.frame.scope) ≡ going (node, frame) reply)) }
 {
@@ -318,7 +321,7 @@ fn given(
         tasks,
         mut events,
     } = frame;
-    let value = reply.value.copy(alloc)?;
+    let value = reply.get().value.copy(alloc)?;
     events.push(Event::Asked(asked, reply))?;
     Ok(Running {
         node,
@@ -348,9 +351,10 @@ fn ask<L: Ledger>(
     ensures ticks { (start : Many Entry) (asked : Node) → IsTop text.now limit start held.now.entries asked (reverse waiting.old.entries) node frame.events (Asks to (going (node, frame))) → IfOk result (λ p. steps.new + suc (length waiting.old.entries) ≡ steps.old + depth_after (suc (length waiting.old.entries)) (length waiting.new.entries) p) }
     ensures room { (most : ℕ) → IfOk result (IsFull most held.now.entries) }
 {
-    if let Some(kept) = held.get(&to) {
-        let reply = kept.reply.copy(alloc)?;
-        return Ok(Progress::Going(given(alloc, node, frame, to, reply)?));
+    if let Some((asked, kept)) = held.get_key_value(&to) {
+        let asked = asked.copy()?;
+        let reply = kept.reply.copy()?;
+        return Ok(Progress::Going(given(alloc, node, frame, asked, reply)?));
     }
     waiting.insert(node, frame)?;
     if let Some(at) = waiting.get_index_of(&to) {

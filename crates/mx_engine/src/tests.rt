@@ -1,6 +1,4 @@
 //! Rows of an engine's answers, worked by hand.
-ghost use Rattle.std.specs.Prelude.{◌≡◌, ◌<◌};
-
 use crate::edit::{Edit, EditRefusal};
 use crate::engine::Engine;
 use crate::steps::Steps;
@@ -94,119 +92,135 @@ fn answers<L: Ledger>(
     }
 }
 
-/// The node is refused so.
-fn fails<L: Ledger>(
+/// The chain of the node is too deep, at this node.
+fn is_too_deep<L: Ledger>(
     alloc: Global,
     engine: &mut Engine,
     steps: &mut Steps<L>,
     text: &[u8],
-    why: &EvalRefusal,
+    at: &[u8],
 ) -> Result<bool, AllocError> {
     let asked = node(alloc, text)?;
+    let deep = node(alloc, at)?;
     match engine.eval(&asked, steps) {
-        Ok(_) => Ok(false),
-        Err(refusal) => Ok(refusal == *why),
+        Err(EvalRefusal::TooDeep(node)) => Ok(node == deep),
+        _ => Ok(false),
     }
 }
 
-fn fib_rows<L: Ledger>(rt: &impl Abort, alloc: Global, blank: Blank) -> Result<(), Fail>
-    requires name { blank.name ≡ L.name }
-    requires parts { blank.parts ≡ L.parts }
-    requires some { 0 < blank.parts }
-{
-    let mut steps = Steps::<L>::new(blank);
-    let mut engine = Engine::new(alloc)?;
+/// The node itself is the fault Overflow, in line 1.
+fn overflows<L: Ledger>(
+    alloc: Global,
+    engine: &mut Engine,
+    steps: &mut Steps<L>,
+    text: &[u8],
+) -> Result<bool, AllocError> {
+    let asked = node(alloc, text)?;
+    match engine.eval(&asked, steps) {
+        Err(
+            EvalRefusal::Fault {
+                kind: FaultKind::Overflow,
+                node,
+                line: 1,
+            },
+        ) => Ok(node == asked),
+        _ => Ok(false),
+    }
+}
+
+/// There are no such cells.
+fn is_missing<L: Ledger>(
+    alloc: Global,
+    engine: &mut Engine,
+    steps: &mut Steps<L>,
+    text: &[u8],
+) -> Result<bool, AllocError> {
+    let asked = node(alloc, text)?;
+    match engine.eval(&asked, steps) {
+        Err(EvalRefusal::NoSuch) => Ok(true),
+        _ => Ok(false),
+    }
+}
+
+fn fib_rows<L: Ledger>(
+    rt: &impl Abort,
+    alloc: Global,
+    engine: &mut Engine,
+    steps: &mut Steps<L>,
+) -> Result<(), Fail> {
     let first = b"cells fib(n) = n if n < 2 else fib(n - 1) + fib(n - 2)";
-    assert!(rt; drops(alloc, &mut engine, "fib", first, 0)?);
-    assert!(rt; answers(alloc, &mut engine, &mut steps, b"eval fib(30)", 832040)?);
+    assert!(rt; drops(alloc, engine, "fib", first, 0)?);
+    assert!(rt; answers(alloc, engine, steps, b"eval fib(30)", 832040)?);
     assert_eq!(rt; engine.held_count(), 31);
-    assert!(rt; answers(alloc, &mut engine, &mut steps, b"eval fib(30)", 832040)?);
+    assert!(rt; answers(alloc, engine, steps, b"eval fib(30)", 832040)?);
     assert_eq!(rt; engine.held_count(), 31);
     let second = b"cells fib(n) = n if n < 3 else fib(n - 1) + fib(n - 2)";
-    assert!(rt; drops(alloc, &mut engine, "fib", second, 31)?);
-    assert!(rt; answers(alloc, &mut engine, &mut steps, b"eval fib(30)", 1346269)?);
+    assert!(rt; drops(alloc, engine, "fib", second, 31)?);
+    assert!(rt; answers(alloc, engine, steps, b"eval fib(30)", 1346269)?);
     assert_eq!(rt; engine.held_count(), 30);
     Ok(())
 }
 
-fn deep_rows<L: Ledger>(rt: &impl Abort, alloc: Global, blank: Blank) -> Result<(), Fail>
-    requires name { blank.name ≡ L.name }
-    requires parts { blank.parts ≡ L.parts }
-    requires some { 0 < blank.parts }
-{
-    let mut steps = Steps::<L>::new(blank);
-    let mut engine = Engine::new(alloc)?;
+fn deep_rows<L: Ledger>(
+    rt: &impl Abort,
+    alloc: Global,
+    engine: &mut Engine,
+    steps: &mut Steps<L>,
+) -> Result<(), Fail> {
     let f = b"cells f(n) = 0 if n == 0 else f(n - 1)";
-    assert!(rt; drops(alloc, &mut engine, "f", f, 0)?);
-    let deep = EvalRefusal::TooDeep(node(alloc, b"eval f(0)")?);
-    assert!(rt; fails(alloc, &mut engine, &mut steps, b"eval f(200)", &deep)?);
+    assert!(rt; drops(alloc, engine, "f", f, 0)?);
+    assert!(rt; is_too_deep(alloc, engine, steps, b"eval f(200)", b"eval f(0)")?);
     assert_eq!(rt; engine.held_count(), 0);
-    assert!(rt; answers(alloc, &mut engine, &mut steps, b"eval f(199)", 0)?);
-    assert!(rt; answers(alloc, &mut engine, &mut steps, b"eval f(200)", 0)?);
+    assert!(rt; answers(alloc, engine, steps, b"eval f(199)", 0)?);
+    assert!(rt; answers(alloc, engine, steps, b"eval f(200)", 0)?);
     assert_eq!(rt; engine.held_count(), 201);
     Ok(())
 }
 
-fn fault_rows<L: Ledger>(rt: &impl Abort, alloc: Global, blank: Blank) -> Result<(), Fail>
-    requires name { blank.name ≡ L.name }
-    requires parts { blank.parts ≡ L.parts }
-    requires some { 0 < blank.parts }
-{
-    let mut steps = Steps::<L>::new(blank);
-    let mut engine = Engine::new(alloc)?;
+fn fault_rows<L: Ledger>(
+    rt: &impl Abort,
+    alloc: Global,
+    engine: &mut Engine,
+    steps: &mut Steps<L>,
+) -> Result<(), Fail> {
     let h = b"cells h(n) = n * 9223372036854775807";
-    assert!(rt; drops(alloc, &mut engine, "h", h, 0)?);
-    let overflow = EvalRefusal::Fault {
-        kind: FaultKind::Overflow,
-        node: node(alloc, b"eval h(2)")?,
-        line: 1,
-    };
-    assert!(rt; fails(alloc, &mut engine, &mut steps, b"eval h(2)", &overflow)?);
-    assert!(rt;
-        answers(
-            alloc,
-            &mut engine,
-            &mut steps,
-            b"eval h(1)",
-            9223372036854775807
-        )?
-    );
+    assert!(rt; drops(alloc, engine, "h", h, 0)?);
+    assert!(rt; overflows(alloc, engine, steps, b"eval h(2)")?);
+    assert!(rt; answers(alloc, engine, steps, b"eval h(1)", 9223372036854775807)?);
     assert_eq!(rt; engine.held_count(), 1);
-    assert!(rt;
-        fails(
-            alloc,
-            &mut engine,
-            &mut steps,
-            b"eval k(1)",
-            &EvalRefusal::NoSuch
-        )?
-    );
+    assert!(rt; is_missing(alloc, engine, steps, b"eval k(1)")?);
     Ok(())
 }
 
-fn refused_rows(rt: &impl Abort, alloc: Global) -> Result<(), Fail> {
-    let mut engine = Engine::new(alloc)?;
-    assert!(rt; refuses(alloc, &mut engine, "Main", "not", EditRefusal::BadName)?);
-    assert!(rt; refuses(alloc, &mut engine, "Other", "f", EditRefusal::NoSuchSpace)?);
+fn refused_rows(rt: &impl Abort, alloc: Global, engine: &mut Engine) -> Result<(), Fail> {
+    assert!(rt; refuses(alloc, engine, "Main", "not", EditRefusal::BadName)?);
+    assert!(rt; refuses(alloc, engine, "Other", "f", EditRefusal::NoSuchSpace)?);
     Ok(())
 }
 
 #[test]
 fn values_are_kept_until_an_edit(rt: HostRuntime) -> Result<(), Fail> {
-    fib_rows::<Brand>(&rt, rt.alloc(), Blank::new(1))
+    let mut steps = Steps::<Brand>::new(Blank::new(1));
+    let mut engine = Engine::new(rt.alloc())?;
+    fib_rows(&rt, rt.alloc(), &mut engine, &mut steps)
 }
 
 #[test]
 fn a_chain_past_200_calls_is_too_deep_but_held_nodes_break_it(rt: HostRuntime) -> Result<(), Fail> {
-    deep_rows::<Brand>(&rt, rt.alloc(), Blank::new(1))
+    let mut steps = Steps::<Brand>::new(Blank::new(1));
+    let mut engine = Engine::new(rt.alloc())?;
+    deep_rows(&rt, rt.alloc(), &mut engine, &mut steps)
 }
 
 #[test]
 fn an_overflow_and_a_missing_name_are_refused(rt: HostRuntime) -> Result<(), Fail> {
-    fault_rows::<Brand>(&rt, rt.alloc(), Blank::new(1))
+    let mut steps = Steps::<Brand>::new(Blank::new(1));
+    let mut engine = Engine::new(rt.alloc())?;
+    fault_rows(&rt, rt.alloc(), &mut engine, &mut steps)
 }
 
 #[test]
 fn edits_of_bad_names_and_other_spaces_are_refused(rt: HostRuntime) -> Result<(), Fail> {
-    refused_rows(&rt, rt.alloc())
+    let mut engine = Engine::new(rt.alloc())?;
+    refused_rows(&rt, rt.alloc(), &mut engine)
 }

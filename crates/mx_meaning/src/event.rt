@@ -38,6 +38,6 @@ impl Reply {
 #[derive(Drop)]
 pub enum Event {
     Looked(Key),
-    Asked(Shared<Node>, Reply),
+    Asked(Shared<Node>, Shared<Reply>),
     Noted(Read),
 }

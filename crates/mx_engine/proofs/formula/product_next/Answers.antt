@@ -1,9 +1,42 @@
-use Rattle.mx_engine.specs.Tasks.{cont}
-use Rattle.mx_engine.proofs.Readings.{cont-push, next_product, no_product}
+use Rattle.std.proofs.Common.{◌≡◌, ◌≤◌, ◌+◌, ◌∙◌, ap, length, map, drop, arith}
+use Rattle.mx_value.specs.declared.value.Value.{Value}
+use Rattle.mx_syntax.specs.declared.expr.ProductPart.{ProductPart, out-ProductPart}
+use Rattle.mx_meaning.specs.Meaning.{Env, Run, product_from, product_read, multiplied}
+use Rattle.mx_engine.specs.declared.frame.Next.{Next}
+use Rattle.mx_engine.specs.Tasks.{cont, env_of, run_at, IsRead}
+use Rattle.mx_engine.proofs.Alone.{at_some, results_at}
+use Rattle.mx_engine.proofs.Readings.{next_product, product_done}
 use Rattle.mx_engine.proofs.formula.product_next.Goals as goal
 
-pub returns-in_default : goal.returns-in_default
-returns-in_default c = λ env. no_product c.args.rest c.args.at env c.args.total (cont c.args.tasks.now.items env) c.in_default.ensures
+pub returns-in_default-2 : goal.returns-in_default-2
+returns-in_default-2 c =
+    let env : Env = env_of c.args.node.now c.args.scope.now in
+    results_at _ env (λ (e : Env). product_from (map product_read (drop c.loop-at.at c.loop-at.rest)) c.loop-at.total e (cont c.loop-at.tasks.items e)) (λ (next : Next) (e : Env). run_at next c.product_part.new.tasks.items e) c.product_part.result c.loop-at.invariant.0 c.product_part.ensures
+
+pub returns-in-Err : goal.returns-in-Err
+returns-in-Err c =
+    let env : Env = env_of c.args.node.now c.args.scope.now in
+    let p : ProductPart = c.in-Some.part.now in
+    let go : Value → Run = cont c.loop-at.tasks.items env in
+    let k : Value → Run = λ s. product_from (map product_read (drop (c.loop-at.at + 1) c.loop-at.rest)) s env go in
+    c.loop-at.invariant.0 ∙ next_product c.loop-at.rest c.loop-at.at p env c.loop-at.total go c.in-Some.ensures
+    ∙ at_some (IsRead (out-ProductPart p).of env) c.in_ok-value.field-0 c.in-Some-2.value c.in-Some-2.is c.in_ok-value.ensures (λ v. multiplied (out-ProductPart p).op c.loop-at.total v env k)
+    ∙ c.in-Err.ensures env k
+
+pub loop-at-preserved : goal.loop-at-preserved
+loop-at-preserved c =
+    let env : Env = env_of c.args.node.now c.args.scope.now in
+    let p : ProductPart = c.in-Some.part.now in
+    let go : Value → Run = cont c.loop-at.tasks.items env in
+    let k : Value → Run = λ s. product_from (map product_read (drop (c.loop-at.at + 1) c.loop-at.rest)) s env go in (
+      c.loop-at.invariant.0 ∙ next_product c.loop-at.rest c.loop-at.at p env c.loop-at.total go c.in-Some.ensures
+          ∙ at_some (IsRead (out-ProductPart p).of env) c.in_ok-value.field-0 c.in-Some-2.value c.in-Some-2.is c.in_ok-value.ensures (λ v. multiplied (out-ProductPart p).op c.loop-at.total v env k)
+          ∙ c.in-Ok.ensures env k,
+      c.loop-at.invariant.1,
+    )
 
 pub returns : goal.returns
-returns c = λ env. rw (c.in_ok-push.ensures.items, cont-push, c.in_ok-of.ensures, c.in-Some-checked_add.ensures.1) (next_product c.args.rest c.args.at c.in-Some.part.now env c.args.total (cont c.args.tasks.now.items env) c.in-Some.ensures)
+returns c =
+    let env : Env = env_of c.args.node.now c.args.scope.now in
+    let l : length c.loop-at.rest ≤ c.loop-at.at = omega (arith, c.len-at-end.ensures, ap length c.loop-at.invariant.1, c.loop-at-test.false) in
+    c.loop-at.invariant.0 ∙ product_done c.loop-at.rest c.loop-at.at env c.loop-at.total (cont c.loop-at.tasks.items env) l

@@ -26,5 +26,5 @@ loop-preserved c =
       | in-Give+in-Some+in_ok-next-in-Some w ↦
           let env : Env = env_of c.args.node.now c.args.scope.now in
           rw (w.tasks-is, w.events-is, w.next-is) (gone_on c.args.text.now (run_at c.args.first c.args.tasks.now.items env) (run_at c.loop.next c.loop.tasks.items env) _ (run_at w.in_ok-next-in-Some.next w.go_on.new.tasks.items env) c.args.events.now c.loop.events w.go_on.new.events c.loop.invariant
-          (ap (λ (x : Next). run_at x c.loop.tasks.items env) w.in-Give.is ∙ taken env c.loop.tasks.items w.pop.new.self.items w.in-Some.task w.in-Give.value w.in-Some.ensures.items) (w.in_ok-next-in-Some.ensures env))
+          (ap (λ (x : Next). run_at x c.loop.tasks.items env) w.in-Give.is ∙ taken env c.loop.tasks.items w.pop.new.self.items w.in-Some.task w.in-Give.value w.in-Some.ensures.items) w.in_ok-next-in-Some.ensures)
     ]

@@ -12,7 +12,7 @@ use Rattle.mx_meaning.specs.Meaning.{Means, Gives, NoSuch as NoSuchNode, WrongCo
 use Rattle.mx_meaning.proofs.Lists.{has_map}
 use Rattle.mx_engine.specs.declared.machine.Begun.{Begun}
 use Rattle.mx_engine.specs.Frames.{Waiter, going, Begins, StartsAt, EndsUnasked, runs_begun}
-use Rattle.mx_engine.proofs.Places.{found_entry, missing_entry}
+use Rattle.mx_engine.proofs.Places.{found_entry, found_key, missing_entry}
 use Rattle.mx_engine.proofs.Tops.{top_given}
 use Rattle.mx_engine.proofs.Moves.{running_by, ring_step, deep_step, unasked_step, begun_step}
 use Rattle.mx_engine.proofs.Maps.{pushed_entry, none_there, off_frames}
@@ -24,8 +24,10 @@ returns-in-Some-clause-good g c = λ start asked t.
     let h : Has c.args.held.now.entries (c.args.to, c.in-Some.kept.now) = found_entry c.args.to c.args.held.now.entries c.in-Some.kept.now (sym c.in-Some.ensures.value) in
     let has : Has (nodes_of c.args.held.now.entries) c.args.to = has_map (λ (d : Entry). d.0) c.args.held.now.entries (c.args.to, c.in-Some.kept.now) h in
     let means : Means c.args.text.now c.args.to (Gives c.in_ok-reply.reply) = subst (λ (r : Reply). Means c.args.text.now c.args.to (Gives r)) (sym c.in_ok-reply.ensures) (c.requires.right.means (c.args.to, c.in-Some.kept.now) h) in
+    let same : c.in_ok-asked.asked ≡ c.args.to = c.in_ok-asked.ensures ∙ found_key c.args.to c.args.held.now.entries c.in-Some.asked.now (sym c.in-Some.ensures.key) in
     let q = c.in_ok-given.ensures in
-    running_by c.args.text.now c.args.limit start c.args.held.now.entries asked (reverse c.args.waiting.now.entries) c.args.node (c.args.frame.events ++ Asked c.args.to c.in_ok-reply.reply ∷ []) (going f c.in_ok-reply.reply) c.in_ok-given.field-0 q.0 q.1 q.2
+    let news : c.in_ok-given.field-0.frame.events ≡ c.args.frame.events ++ Asked c.args.to c.in_ok-reply.reply ∷ [] = q.1 ∙ ap (λ (n : Node). c.args.frame.events ++ Asked n c.in_ok-reply.reply ∷ []) same in
+    running_by c.args.text.now c.args.limit start c.args.held.now.entries asked (reverse c.args.waiting.now.entries) c.args.node (c.args.frame.events ++ Asked c.args.to c.in_ok-reply.reply ∷ []) (going f c.in_ok-reply.reply) c.in_ok-given.field-0 q.0 news q.2
     (top_given c.args.text.now c.args.limit start asked c.args.held.now.entries (reverse c.args.waiting.now.entries) c.args.node c.args.to (going f) c.in_ok-reply.reply c.args.frame.events (c.args.frame.events ++ Asked c.args.to c.in_ok-reply.reply ∷ []) refl has means t)
 
 pub returns-in-Some-get_index_of-clause-good : goal.returns-in-Some-get_index_of-clause-good

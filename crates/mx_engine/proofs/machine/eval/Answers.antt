@@ -3,6 +3,7 @@ use Rattle.std.specs.Map.{lookup}
 use Rattle.std.proofs.lemmas.Grind.{common_steps}
 use Rattle.mx_value.specs.declared.node.Node.{Node}
 use Rattle.mx_value.specs.Equality.{node_eq}
+use Rattle.mx_meaning.specs.declared.event.Reply.{Reply}
 use Rattle.mx_meaning.specs.Lists.{Has}
 use Rattle.mx_meaning.specs.Held.{Entry, nodes_of}
 use Rattle.mx_meaning.specs.Meaning.{Gives, Means, NoSuch as NoSuchNode, WrongCount as BadCount}
@@ -20,7 +21,7 @@ returns-in-Some-clause-answer g c =
     let l : lookup (node_eq c.in_ok-asked.asked) c.args.held.now.entries ≡ Some c.in-Some.kept.now = sym c.in-Some.ensures.value in
     let h : Has c.args.held.now.entries (c.args.node.now, c.in-Some.kept.now) = found_entry c.args.node.now c.args.held.now.entries c.in-Some.kept.now (subst (λ (n : Node). lookup (node_eq n) c.args.held.now.entries ≡ Some c.in-Some.kept.now) same l) in
     let a = held_answer c.args.text.now c.args.held.now.entries c.args.limit c.args.most c.args.node.now c.requires.memo c.requires.room (has_map (λ (e : Entry). e.0) c.args.held.now.entries (c.args.node.now, c.in-Some.kept.now) h) in
-    (record { reply = c.in-Some.kept.now.reply; means = c.requires.memo.right.means (c.args.node.now, c.in-Some.kept.now) h; value = sym c.in_ok-copy-2.ensures }, a.0, a.1, omega arith)
+    (record { reply = c.in-Some.kept.now.reply; means = c.requires.memo.right.means (c.args.node.now, c.in-Some.kept.now) h; value = sym (c.in_ok-copy-2.ensures ∙ ap (λ (r : Reply). r.value) c.get-in-Some.ensures) }, a.0, a.1, omega arith)
 
 pub returns-then-limit-eq0-clause-answer : goal.returns-then-limit-eq0-clause-answer
 returns-then-limit-eq0-clause-answer g c =

@@ -32,12 +32,12 @@ returns-clause-good c = λ text limit start asked memo t.
     let e : Entry = (c.args.node, record { reply = reply; events = c.args.events }) in
     let es : c.insert.new.self.entries ≡ c.args.held.now.entries ++ e ∷ [] =
     c.in_ok-insert.ensures.entries ∙ ap (λ (n : Node). insert_entry node_eq c.args.held.now.entries n kept) c.in_ok-copy-2.ensures
-    ∙ ap (λ (r : Reply). insert_entry node_eq c.args.held.now.entries c.args.node (record { reply = r; events = c.args.events })) c.in_ok-copy.ensures
+    ∙ ap (λ (r : Reply). insert_entry node_eq c.args.held.now.entries c.args.node (record { reply = r; events = c.args.events })) (c.in_ok-copy.ensures ∙ c.in_ok-reply.ensures)
     ∙ pushed_entry c.args.node e.1 c.args.held.now.entries (λ h. t.apart.unheld c.args.node (inl refl) h) in
     let m : IsMemo text c.insert.new.self.entries = subst (λ (l : List Entry). IsMemo text l) (sym es) (memo_top text limit start asked c.args.held.now.entries (reverse c.args.waiting.now.entries) e memo t) in
     let d : IsDone text limit start c.insert.new.self.entries asked (reverse c.args.waiting.now.entries) c.args.node reply = subst (λ (l : List Entry). IsDone text limit start l asked (reverse c.args.waiting.now.entries) c.args.node reply) (sym es) (done_top text limit start asked c.args.held.now.entries (reverse c.args.waiting.now.entries) e memo t) in
     IfOk-weaker c.hand_down.result (λ (p : Progress). IsGood text limit start asked c.insert.new.self.entries (suc (length c.args.waiting.now.entries)) c.hand_down.new.waiting.entries p) (λ (p : Progress). IsStep text limit start asked c.insert.new.self.entries (suc (length c.args.waiting.now.entries)) c.hand_down.new.waiting.entries p) (λ p g. (m, g))
-    (c.hand_down.ensures.good text limit start c.insert.new.self.entries asked m d)
+    (c.hand_down.ensures.good text limit start c.insert.new.self.entries asked m (subst (λ (r : Reply). IsDone text limit start c.insert.new.self.entries asked (reverse c.args.waiting.now.entries) c.args.node r) (sym c.in_ok-reply.ensures) d))
 
 pub returns-clause-ticks : goal.returns-clause-ticks
 returns-clause-ticks c = λ out.

@@ -1,14 +1,18 @@
-use Rattle.std.proofs.Common.{true, false, ◌≡◌, [], ◌∷◌, ◌++◌, refl, subst, ap, reverse}
+use Rattle.std.proofs.Common.{sym, ◌∙◌, true, false, ◌≡◌, [], ◌∷◌, ◌++◌, refl, subst, ap, reverse}
 use Rattle.mx_meaning.specs.declared.event.Event.TheVariants.{Asked}
-use Rattle.mx_engine.specs.Frames.{Waiter, going, IsDone}
+use Rattle.mx_value.specs.declared.value.Value.{Value}
+use Rattle.mx_meaning.specs.declared.event.Reply.{Reply}
+use Rattle.mx_meaning.specs.Answers.{GivesValue}
+use Rattle.mx_engine.specs.Frames.{Waiter, going, IsDone, IsSettled}
 use Rattle.mx_engine.proofs.Places.{popped}
 use Rattle.mx_engine.proofs.Tops.{done_popped}
 use Rattle.mx_engine.proofs.Moves.{emptied, bottom, running_by}
 use Rattle.mx_engine.proofs.machine.hand_down.Goals as goal
 
-pub returns-in-None-clause-good : goal.returns-in-None-clause-good
-returns-in-None-clause-good c = λ text limit start held asked memo d.
-    bottom text limit start held asked c.args.node c.args.reply (reverse c.args.waiting.now.entries) (ap reverse (emptied c.args.waiting.now.entries (λ h. let z : false ≡ true = c.in-None.ensures.found.1 h in absurd (cc)))) memo d
+pub returns-in_ok-copy-in-None-clause-good : goal.returns-in_ok-copy-in-None-clause-good
+returns-in_ok-copy-in-None-clause-good c = λ text limit start held asked memo d.
+    subst (λ (v : Value). GivesValue text asked v × IsSettled text limit start asked held) (sym (c.in_ok-copy-in-None.ensures ∙ ap (λ (r : Reply). r.value) c.get.ensures))
+    (bottom text limit start held asked c.args.node c.args.reply (reverse c.args.waiting.now.entries) (ap reverse (emptied c.args.waiting.now.entries (λ h. let z : false ≡ true = c.in-None.ensures.found.1 h in absurd (cc)))) memo d)
 
 pub returns-in_ok-given-in-Some-clause-good : goal.returns-in_ok-given-in-Some-clause-good
 returns-in_ok-given-in-Some-clause-good c = λ text limit start held asked memo d.

@@ -1,4 +1,0 @@
-use Rattle.mx_engine.proofs.tests.an_overflow_and_a_missing_name_are_refused.Given as goal
-
-abbrev pub ghosts-fault_rows : goal.ghosts-fault_rows
-ghosts-fault_rows g a = record { name = a.blank.name; parts = a.blank.parts }

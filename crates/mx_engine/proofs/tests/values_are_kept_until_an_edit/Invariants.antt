@@ -1,4 +1,0 @@
-use Rattle.mx_engine.proofs.tests.values_are_kept_until_an_edit.Given as goal
-
-abbrev pub ghosts-fib_rows : goal.ghosts-fib_rows
-ghosts-fib_rows g a = record { name = a.blank.name; parts = a.blank.parts }
