@@ -129,3 +129,8 @@ is_marked_in nodes q = is_set (map.get nodes q)
 -- neither end of the edge is marked
 abbrev pub is_kept : map.FinMap nat_cmp Bool → Entry → Bool
 is_kept nodes e = not (is_marked_in nodes e.reader.at) && not (is_marked_in nodes e.read.at)
+
+-- following edges from reader to read leads to the node `to` from this one
+pub data Reaches (edges : List Entry) (to : ℕ) : ℕ → Type 0 where
+  Itself : Reaches edges to to
+  Through : (k : ℕ) (e : Entry) → find k edges ≡ Some e → Reaches edges to e.read.at → Reaches edges to e.reader.at

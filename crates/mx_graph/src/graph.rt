@@ -1,10 +1,11 @@
 //! The graph of reads.
-ghost use Rattle.std.specs.Prelude.{◌≡◌, ℕ, ◌+◌, ◌<◌, ◌≤◌, List, [], ◌∷◌, ◌++◌, Some, None, IsSome, IfSome, IfOk, IsOk, OnOk, IfNone, filter, true, false, if◌then◌else◌, IsTrue, ◌↔◌};
+ghost use Rattle.std.specs.Prelude.{◌≡◌, ℕ, ◌+◌, ◌<◌, ◌≤◌, List, [], ◌∷◌, ◌++◌, Some, None, IsSome, IfSome, IfOk, IsOk, OnOk, IfNone, filter, true, false, if◌then◌else◌, IsTrue, ◌↔◌, ◌⊎◌};
 ghost use Rattle.std.specs.FinMap as map;
-ghost use Rattle.mx_graph.specs.Relation.{by_reader, by_read, find, first_in, next_in, IsLive, IsEdge, IsRelation, Walks, no_graph, SameButRoom, without, is_off, is_marked_in, is_kept};
+ghost use Rattle.mx_graph.specs.Relation.{by_reader, by_read, find, first_in, next_in, IsLive, IsEdge, IsRelation, Walks, no_graph, SameButRoom, without, is_off, is_marked_in, is_kept, Reaches};
 
 use crate::edges::{AllEnds, Edge, Ends};
 use crate::ids::{EdgeId, NoMemory, NodeId};
+use crate::marking::mark_reaching;
 use crate::nodes::{Node, keeps_closed, set_ends, unmark};
 use crate::places::{insert_edge, take_edge};
 use crate::room::reserve_in;
@@ -101,6 +102,21 @@ impl ReadGraph {
         set_ends(&mut self.nodes, reader, read, ends);
         self.added = ends.added;
         self.closed = self.closed && keeps_closed(&self.nodes, reader, read);
+    }
+
+    /// Marks a node and each node that reaches it.
+    pub fn mark_readers(&mut self, from: NodeId)
+        requires { IsLive self.old from }
+        ensures live { (q : ℕ) → IsSome (map.get self.new.nodes q) ↔ IsSome (map.get self.old.nodes q) }
+        ensures marked { (q : ℕ) → (map.get self.new.nodes q ≡ Some true) ↔ ((map.get self.old.nodes q ≡ Some true) ⊎ Reaches self.old.edges from.at q) }
+        ensures edges { self.new.edges ≡ self.old.edges }
+        ensures spare_nodes { self.new.spare_nodes ≡ self.old.spare_nodes }
+        ensures spare_edges { self.new.spare_edges ≡ self.old.spare_edges }
+    {
+        if self.closed && self.nodes[from.at as usize].marked {
+            return;
+        }
+        self.marked = mark_reaching(&mut self.nodes, &self.edges, from, self.marked, self.closed);
     }
 
     /// Removes all marked nodes with their edges, and gives how many nodes they were.
