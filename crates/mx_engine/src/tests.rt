@@ -1,4 +1,6 @@
 //! Rows of an engine's answers, worked by hand.
+ghost use Rattle.std.specs.Prelude.{◌≡◌, ◌<◌};
+
 use crate::edit::{Edit, EditRefusal};
 use crate::engine::Engine;
 use crate::steps::Steps;
@@ -198,25 +200,49 @@ fn refused_rows(rt: &impl Abort, alloc: Global, engine: &mut Engine) -> Result<(
     Ok(())
 }
 
+fn kept<L: Ledger>(rt: &impl Abort, alloc: Global, blank: Blank) -> Result<(), Fail>
+    requires name { blank.name ≡ L.name }
+    requires parts { blank.parts ≡ L.parts }
+    requires some { 0 < blank.parts }
+{
+    let mut steps = Steps::<L>::new(blank);
+    let mut engine = Engine::new(alloc)?;
+    fib_rows(rt, alloc, &mut engine, &mut steps)
+}
+
 #[test]
 fn values_are_kept_until_an_edit(rt: HostRuntime) -> Result<(), Fail> {
-    let mut steps = Steps::<Brand>::new(Blank::new(1));
-    let mut engine = Engine::new(rt.alloc())?;
-    fib_rows(&rt, rt.alloc(), &mut engine, &mut steps)
+    kept::<Brand>(&rt, rt.alloc(), Blank::new(1))
+}
+
+fn deep<L: Ledger>(rt: &impl Abort, alloc: Global, blank: Blank) -> Result<(), Fail>
+    requires name { blank.name ≡ L.name }
+    requires parts { blank.parts ≡ L.parts }
+    requires some { 0 < blank.parts }
+{
+    let mut steps = Steps::<L>::new(blank);
+    let mut engine = Engine::new(alloc)?;
+    deep_rows(rt, alloc, &mut engine, &mut steps)
 }
 
 #[test]
 fn a_chain_past_200_calls_is_too_deep_but_held_nodes_break_it(rt: HostRuntime) -> Result<(), Fail> {
-    let mut steps = Steps::<Brand>::new(Blank::new(1));
-    let mut engine = Engine::new(rt.alloc())?;
-    deep_rows(&rt, rt.alloc(), &mut engine, &mut steps)
+    deep::<Brand>(&rt, rt.alloc(), Blank::new(1))
+}
+
+fn faults<L: Ledger>(rt: &impl Abort, alloc: Global, blank: Blank) -> Result<(), Fail>
+    requires name { blank.name ≡ L.name }
+    requires parts { blank.parts ≡ L.parts }
+    requires some { 0 < blank.parts }
+{
+    let mut steps = Steps::<L>::new(blank);
+    let mut engine = Engine::new(alloc)?;
+    fault_rows(rt, alloc, &mut engine, &mut steps)
 }
 
 #[test]
 fn an_overflow_and_a_missing_name_are_refused(rt: HostRuntime) -> Result<(), Fail> {
-    let mut steps = Steps::<Brand>::new(Blank::new(1));
-    let mut engine = Engine::new(rt.alloc())?;
-    fault_rows(&rt, rt.alloc(), &mut engine, &mut steps)
+    faults::<Brand>(&rt, rt.alloc(), Blank::new(1))
 }
 
 #[test]
