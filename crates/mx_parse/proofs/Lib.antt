@@ -1,0 +1,15 @@
+pub mod Exact
+pub mod Loops
+pub mod Meets
+pub mod Symbols
+pub mod Rules
+pub mod Lists
+pub mod LoopCode
+pub mod LiteralRules
+pub mod Texts
+pub mod Decimals
+pub mod Printable
+pub mod OpenCount
+pub mod Answering
+pub mod Lines
+pub mod Languages
