@@ -6,10 +6,11 @@ pub mod Rules
 pub mod Lists
 pub mod LoopCode
 pub mod LiteralRules
+pub mod AddressRules
 pub mod Texts
-pub mod Decimals
-pub mod Printable
 pub mod OpenCount
+pub mod Printable
+pub mod Decimals
 pub mod Answering
 pub mod Lines
 pub mod Languages

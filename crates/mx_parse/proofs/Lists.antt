@@ -7,7 +7,7 @@ use Rattle.mx_parse.specs.declared.word.Word.{Word}
 use Rattle.mx_parse.specs.declared.word.Word.TheVariants as word
 use Rattle.mx_parse.specs.Words.{is}
 use Rattle.mx_parse.specs.Grammar.{Parts, Listed}
-use Rattle.mx_parse.specs.Reading.{Words, Outcome, Parser, ◌>>=◌, ◌>>◌, pure, sees, expect, choose, Turn, On, Done, many_turn, many, item_turn, listed}
+use Rattle.mx_parse.specs.Reading.{Words, Outcome, Parser, ◌>>=◌, ◌>>◌, pure, sees, expect, choose, Turn, On, Done, many_turn, many, item_turn, listed, some_listed}
 use Rattle.mx_parse.proofs.Exact.{Rel, Kinds, Stops, none, stops_none, or, or_stops, Exists, Exact, bind_ok, ok_pair, read, Nothing, Then, Either}
 use Rattle.mx_parse.proofs.Meets.{Shorter}
 use Rattle.mx_parse.proofs.Symbols.{here, apart}
@@ -276,3 +276,74 @@ listed_rule {R} close c p found =
 pub all_listed_rule : {E A : Type 0} {K : Knot E} {k : ℕ} {F : Kinds} {R : Rel A} {P : E → Parser A} (close : Symbol) → Closes close F R → Rule K k (plain F) R P → Rule K k (plain none) (Closed R close) (λ i. listed close (P i) [])
 all_listed_rule {R} close c p =
     iff_rule (λ u all h. let m = mapped (Closed R close) (λ xs. [] ++ xs) u all h in subst (Closed R close u) (sym m.2) m.1) (λ u all h. mapping (Closed R close) (λ xs. [] ++ xs) u all h) (listed_rule close c p [])
+
+-- ---- at least one item
+
+pub record SomeClosed {A : Type 0} (R : Rel A) (close : Symbol) (u : Words) (xs : List A) : Type 0 where
+  pub first : A
+  pub others : List A
+  pub items : Words
+  pub parts : u ≡ items ++ word.Symbol close ∷ []
+  pub spells : Listed R items (first ∷ others)
+  pub are : xs ≡ first ∷ others
+
+module _ {A : Type 0} (close : Symbol) (R : Rel A) where
+  abbrev Others : A → Rel (List A)
+  Others a = Then (Closed R close) (λ xs. Nothing ((a ∷ []) ++ xs))
+
+  abbrev SomeIs : Rel (List A)
+  SomeIs = Then R (λ a. Either (Behind symbol.Comma (Others a)) (Behind close (Nothing (a ∷ []))))
+
+  to_some : (u : Words) (xs : List A) → SomeIs u xs → SomeClosed R close u xs
+  to_some u xs h = elim h.second [
+    | inl w ↦
+        let m = marked symbol.Comma (Others h.tree) h.right xs w in
+        let k = mapped (Closed R close) (λ ys. (h.tree ∷ []) ++ ys) m.0 xs m.2 in
+        record {
+          first = h.tree;
+          others = k.0;
+          items = h.left ++ word.Symbol symbol.Comma ∷ k.1.items;
+          parts = h.parts ∙ ap (λ (x : Words). h.left ++ x) (m.1 ∙ ap (λ (x : Words). word.Symbol symbol.Comma ∷ x) k.1.parts) ∙ sym (append_assoc h.left (word.Symbol symbol.Comma ∷ k.1.items) (word.Symbol close ∷ []));
+          spells = Listed.more h.first k.1.spells;
+          are = k.2;
+        }
+    | inr w ↦
+        let m = marked close (Nothing (h.tree ∷ [])) h.right xs w in
+        record {
+          first = h.tree;
+          others = [];
+          items = h.left;
+          parts = h.parts ∙ ap (λ (x : Words). h.left ++ x) (m.1 ∙ ap (λ (x : Words). word.Symbol close ∷ x) m.2.0);
+          spells = Listed.one h.first;
+          are = m.2.1;
+        }
+  ]
+
+  from_items : (items : Words) (all : List A) (first : A) (others : List A) → Listed R items all → all ≡ first ∷ others → SomeIs (items ++ word.Symbol close ∷ []) (first ∷ others)
+  from_items _ _ first others Listed.none e = absurd cc
+  from_items _ _ first others (Listed.one {u} {x} h) e =
+      subst (SomeIs (u ++ word.Symbol close ∷ [])) e (record { left = u; right = word.Symbol close ∷ []; tree = x; parts = refl; first = h; second = inr (mark close (Nothing (x ∷ [])) [] (x ∷ []) (refl, refl)) })
+  from_items _ _ first others (Listed.more {u} {v} {x} {xs} h k) e =
+      subst (SomeIs ((u ++ word.Symbol symbol.Comma ∷ v) ++ word.Symbol close ∷ [])) e
+      (record {
+        left = u;
+        right = word.Symbol symbol.Comma ∷ v ++ word.Symbol close ∷ [];
+        tree = x;
+        parts = append_assoc u (word.Symbol symbol.Comma ∷ v) (word.Symbol close ∷ []);
+        first = h;
+        second = inl (mark symbol.Comma (Others x) (v ++ word.Symbol close ∷ []) (x ∷ xs) (mapping (Closed R close) (λ ys. (x ∷ []) ++ ys) (v ++ word.Symbol close ∷ []) xs (record { items = v; parts = refl; spells = k })));
+      })
+
+  from_some : (u : Words) (xs : List A) → SomeClosed R close u xs → SomeIs u xs
+  from_some u xs h = subst (λ (y : Words). SomeIs y xs) (sym h.parts) (subst (SomeIs (h.items ++ word.Symbol close ∷ [])) (sym h.are) (from_items h.items (h.first ∷ h.others) h.first h.others h.spells refl))
+
+pub some_listed_rule : {E A : Type 0} {K : Knot E} {k : ℕ} {F : Kinds} {R : Rel A} {P : E → Parser A} (close : Symbol) → Closes close F R → Rule K k (plain F) R P → Rule K k (plain none) (SomeClosed R close) (λ i. some_listed close (P i))
+some_listed_rule {F} {R} close c p =
+    let some_others : (a : _) → Exists (Others close R a) = λ a. record { tokens = word.Symbol close ∷ []; tree = (a ∷ []) ++ []; spells = mapping (Closed R close) (λ ys. (a ∷ []) ++ ys) (word.Symbol close ∷ []) [] (record { items = []; parts = refl; spells = Listed.none }) } in
+    iff_rule (to_some close R) (from_some close R)
+    (then_rule p
+    (λ a. choose_rule (is symbol.Comma) (behind_rule symbol.Comma refl (some_others a) (listed_rule close c p (a ∷ []))) (behind_rule close c.inner (record { tokens = []; tree = a ∷ []; spells = (refl, refl) }) (pure_rule (plain none) (a ∷ [])))
+    (λ u rest r h s. sees_mark symbol.Comma (Others close R a) (is symbol.Comma) true refl u rest r h)
+    (λ u rest r h s. sees_mark close (Nothing (a ∷ [])) (is symbol.Comma) false c.no_comma u rest r h))
+    (λ a v rest r h s. elim h [ inl w ↦ sees_mark symbol.Comma (Others close R a) F false c.stops_comma v rest r w | inr w ↦ sees_mark close (Nothing (a ∷ [])) F false c.stops_close v rest r w ])
+    (λ a. record { tokens = word.Symbol close ∷ []; tree = a ∷ []; spells = inr (mark close (Nothing (a ∷ [])) [] (a ∷ []) (refl, refl)) }))

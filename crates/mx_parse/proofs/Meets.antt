@@ -10,6 +10,9 @@ pub record Meets {A : Type 0} (k : ℕ) (P Q : Parser A) : Type 0 where
   pub same : (ts : Words) → length ts < k → P ts ≡ Q ts
   pub within : (ts rest : Words) (a : A) → P ts ≡ Ok (a, rest) → length rest ≤ length ts
 
+pub fewer_meets : {A : Type 0} (k m : ℕ) (P Q : Parser A) → k ≤ m → Meets m P Q → Meets k P Q
+fewer_meets k m P Q le h = record { grows = h.grows; same = λ ts lt. h.same ts (omega arith); within = h.within }
+
 abbrev pub Shorter : {A : Type 0} → Parser A → Type 0
 Shorter {A} P = (ts rest : Words) (a : A) → P ts ≡ Ok (a, rest) → length rest < length ts
 

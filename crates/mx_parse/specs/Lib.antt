@@ -5,3 +5,4 @@ pub mod Literals
 pub mod LiteralParsers
 pub mod Nests
 pub mod Spelling
+pub mod AddressParsers

@@ -1,5 +1,5 @@
 -- Literals, and the arguments that are made of them.
-use Rattle.std.specs.Prelude.{ℕ, ◌<◌, ◌≤◌, ◌^◌, List, [], ◌∷◌, ◌++◌, ℤ, pos, neg_ℤ, true, false}
+use Rattle.std.specs.Prelude.{ℕ, ◌+◌, ◌<◌, ◌≤◌, ◌^◌, List, [], ◌∷◌, ◌++◌, ℤ, pos, neg_ℤ, true, false, codes}
 use Rattle.mx_value.specs.declared.value.Value.{Value}
 use Rattle.mx_value.specs.declared.value.Value.TheVariants as value
 use Rattle.mx_value.specs.declared.value.Segment.{Segment}
@@ -26,6 +26,42 @@ pub data Literal (In : Spelling Value) : List Word → Value → Type 0 where
   tuple : {u v : List Word} {x : Value} {xs : List Value} → In u x → Listed In v xs
       → Literal In (Symbol OpenRound ∷ u ++ Symbol Comma ∷ v ++ Symbol CloseRound ∷ []) (value.Tup (x ∷ xs))
 
--- the text of a literal
+-- arguments in square brackets, at least one
+pub data Index (In : Spelling Value) : List Word → List Value → Type 0 where
+  index : {u : List Word} {x : Value} {xs : List Value} → Listed In u (x ∷ xs) → Index In (Symbol OpenSquare ∷ u ++ Symbol CloseSquare ∷ []) (x ∷ xs)
+
+-- a step of an address: a name, and maybe the arguments of an item behind it
+pub data Step (In : Spelling Value) : List Word → List Segment → Type 0 where
+  child : {n : List ℕ} → Step In (Name n ∷ []) (segment.Name n ∷ [])
+  item : {n : List ℕ} {u : List Word} {xs : List Value} → Index In u xs → Step In (Name n ∷ u) (segment.Name n ∷ segment.Item xs ∷ [])
+
+-- any number of steps, each with a point behind it
+pub data Leading (In : Spelling Value) : List Word → List Segment → Type 0 where
+  none : Leading In [] []
+  more : {u v : List Word} {s a : List Segment} → Step In u s → Leading In v a → Leading In (u ++ Symbol Dot ∷ v) (s ++ a)
+
+pub data Addr (In : Spelling Value) : List Word → List Segment → Type 0 where
+  addr : {u v : List Word} {a s : List Segment} → Leading In u a → Step In v s → Addr In (u ++ v) (a ++ s)
+
+-- without an address the cells are in the space `Main`
+abbrev pub space_of : List Segment → List Segment
+space_of [] = segment.Name (codes "Main") ∷ []
+space_of (s ∷ a) = s ∷ a
+
+-- the cells of a name, called with arguments; or the item that an address ends with
+pub data NodeText (In : Spelling Value) : List Word → Node → Type 0 where
+  cell : {n : List ℕ} {u v : List Word} {a : List Segment} {xs : List Value} → Leading In u a → Listed In v xs
+      → NodeText In (u ++ (Name n ∷ Symbol OpenRound ∷ v ++ Symbol CloseRound ∷ [])) (node.Cell (space_of a) n xs)
+  item : (n : List ℕ) {u v : List Word} {a : List Segment} {xs : List Value} → Leading In u a → Index In v xs
+      → NodeText In (u ++ Name n ∷ v) (node.Item (a ++ segment.Name n ∷ []) xs)
+
+-- ---- whole texts
+
 abbrev pub literal_text : Language Value
 literal_text levels = Line (Within Literal levels)
+
+abbrev pub addr_text : Language (List Segment)
+addr_text levels = Line (Addr (Within Literal (levels + 1)))
+
+abbrev pub node_text : Language Node
+node_text levels = Line (NodeText (Within Literal (levels + 1)))

@@ -106,6 +106,10 @@ item_turn closes item found =
 abbrev pub listed : {A : Type 0} → Symbol → Parser A → List A → Parser (List A)
 listed closes item = loop (item_turn closes item)
 
+-- at least one item
+abbrev pub some_listed : {A : Type 0} → Symbol → Parser A → Parser (List A)
+some_listed closes item = item >>= λ a. choose (is Comma) (expect Comma >> listed closes item (a ∷ [])) (expect closes >> pure (a ∷ []))
+
 -- ---- levels: a rule takes what parses its parts inside brackets
 
 unfoldable pub levels : {A : Type 0} → (Parser A → Parser A) → ℕ → Parser A

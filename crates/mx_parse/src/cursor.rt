@@ -5,10 +5,12 @@ ghost use Rattle.mx_parse.specs.Words.{is};
 ghost use Rattle.mx_parse.specs.Reading as spec;
 ghost use Rattle.mx_parse.specs.Reading.{Reads};
 ghost use Rattle.mx_parse.specs.LiteralParsers.{simple_of, negative_of};
+ghost use Rattle.mx_parse.specs.AddressParsers.{name_of};
 
 use crate::trouble::Trouble;
 use crate::word::{Symbol, Word};
 use mx_value::fixed::Fixed;
+use mx_value::label::Label;
 use mx_value::value::Value;
 use std::marker::Model;
 
@@ -76,6 +78,18 @@ impl<'a> Cursor<'a> {
             [token, rest @ ..] if token.is(symbol) => {
                 self.left = rest;
                 Ok(())
+            }
+            left => Err(Trouble::Unexpected(left.len())),
+        }
+    }
+
+    pub fn name(&mut self) -> Result<Label, Trouble>
+        ensures { Reads (spec.accept name_of self.old) result self.new }
+    {
+        match self.left {
+            [Word::Name(name), rest @ ..] => {
+                self.left = rest;
+                Ok(name.copy()?)
             }
             left => Err(Trouble::Unexpected(left.len())),
         }

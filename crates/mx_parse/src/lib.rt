@@ -1,6 +1,7 @@
 //! The parsers of the formula language.
 #![tactic(auto)]
 
+mod address;
 mod cursor;
 pub mod laws;
 mod literal;
@@ -13,5 +14,5 @@ mod trouble;
 mod word;
 mod words;
 
-pub use parse::parse_literal;
+pub use parse::{parse_addr, parse_literal, parse_node};
 pub use refusal::ParseRefusal;

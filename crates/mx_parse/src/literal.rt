@@ -1,7 +1,7 @@
 //! Literals. The rules take the parser of literals inside brackets as a parameter, so that each is proved by itself.
 
 ghost use Rattle.std.specs.Prelude.{◌≡◌};
-ghost use Rattle.mx_parse.specs.Reading.{Reads, listed};
+ghost use Rattle.mx_parse.specs.Reading.{Reads, listed, some_listed};
 ghost use Rattle.mx_parse.specs.LiteralParsers as spec;
 ghost use Rattle.mx_parse.specs.Nests.{Nests};
 
@@ -105,4 +105,42 @@ pub fn literal(alloc: Global, tokens: &mut Cursor<'_>, levels: usize) -> Result<
         literal,
     }
     .rule(tokens)
+}
+
+/// What is left of a list of literals up to the symbol that closes it, behind those found before.
+pub fn listed(
+    alloc: Global,
+    tokens: &mut Cursor<'_>,
+    levels: usize,
+    close: Symbol,
+    found: Items<Value>,
+) -> Result<Items<Value>, Trouble>
+    ensures { Reads (listed close (spec.literal levels) found tokens.old) result tokens.new }
+{
+    Literals {
+        alloc,
+        levels,
+        literal,
+    }
+    .listed(tokens, close, found)
+}
+
+/// At least one literal, up to the symbol that closes the list.
+pub fn some_listed(
+    alloc: Global,
+    tokens: &mut Cursor<'_>,
+    levels: usize,
+    close: Symbol,
+) -> Result<Items<Value>, Trouble>
+    ensures { Reads (some_listed close (spec.literal levels) tokens.old) result tokens.new }
+{
+    let first = literal(alloc, tokens, levels)?;
+    let mut found = Items::new(alloc);
+    found.push(first)?;
+    if tokens.sees(Symbol::Comma) {
+        tokens.expect(Symbol::Comma)?;
+        return listed(alloc, tokens, levels, close, found);
+    }
+    tokens.expect(close)?;
+    Ok(found)
 }

@@ -22,7 +22,7 @@ const ONE: u64 = 1_000_000_000;
 
 const MOST_DECIMALS: usize = 9;
 
-fn label(alloc: Global, bytes: &[u8]) -> Result<Label, AllocError>
+pub fn label(alloc: Global, bytes: &[u8]) -> Result<Label, AllocError>
     requires { AllPass is_printable bytes.now }
     ensures { IfOk result (λ label. label ≡ bytes.now) }
 {
