@@ -10,6 +10,8 @@ mod parse;
 mod refusal;
 mod source;
 mod symbol;
+#[cfg(test)]
+mod tests;
 mod trouble;
 mod word;
 mod words;
