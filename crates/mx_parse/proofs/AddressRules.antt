@@ -1,6 +1,6 @@
 -- The parsers of addresses and nodes are exact.
-use Rattle.std.proofs.Common.{◌≡◌, ℕ, suc, ◌<◌, Bool, true, false, List, [], ◌∷◌, ◌++◌, length, Option, Some, None, Ok, refl, sym, ap, subst, ◌∙◌, append_assoc, arith, inl, inr}
-use Rattle.std.proofs.lemmas.List.{append-nil, length-append}
+use Rattle.std.proofs.Common.{◌≡◌, ℕ, ◌<◌, Bool, true, false, List, [], ◌∷◌, ◌++◌, length, Some, refl, sym, ap, subst, ◌∙◌, append_assoc, arith, inl, inr}
+use Rattle.std.proofs.lemmas.List.{append-nil}
 use Rattle.mx_value.specs.declared.value.Value.{Value}
 use Rattle.mx_value.specs.declared.value.Segment.{Segment}
 use Rattle.mx_value.specs.declared.value.Segment.TheVariants as segment
@@ -8,15 +8,15 @@ use Rattle.mx_value.specs.declared.node.Node.{Node}
 use Rattle.mx_value.specs.declared.node.Node.TheVariants as node
 use Rattle.mx_parse.specs.declared.word.Symbol.TheVariants as symbol
 use Rattle.mx_parse.specs.declared.word.Word.{Word}
-use Rattle.mx_parse.specs.declared.word.Word.TheVariants.{Name, Int, Fix, Text, Symbol}
+use Rattle.mx_parse.specs.declared.word.Word.TheVariants.{Name, Symbol}
 use Rattle.mx_parse.specs.Words.{is}
 use Rattle.mx_parse.specs.Grammar.{Listed}
-use Rattle.mx_parse.specs.Reading.{Words, Parser, sees, Turn, On, Done, loop}
+use Rattle.mx_parse.specs.Reading.{Words, Parser, sees, Turn, On, Done}
 use Rattle.mx_parse.specs.Literals.{Index, Step, Leading, Addr, space_of, NodeText}
 use Rattle.mx_parse.specs.AddressParsers.{name_of, index, arguments, dotted, addr_turn, addr, node_turn, node_by}
-use Rattle.mx_parse.proofs.Exact.{Rel, Kinds, Stops, none, stops_none, or, or_stops, Exists, Exact, Nothing, Then, Either, One, Inner}
+use Rattle.mx_parse.proofs.Exact.{Rel, Kinds, Stops, none, stops_none, or, or_stops, Exists, Nothing, Then, Either, One, Inner}
 use Rattle.mx_parse.proofs.Loops.{Turns, last, next, Shrinks}
-use Rattle.mx_parse.proofs.Rules.{Knot, Rule, plain, pure_rule, accept_rule, then_rule, iff_rule, stops_rule, any_rule, choose_rule, behind_rule, loop_rule, Behind, marked, mark, sees_mark, some_behind, some_then}
+use Rattle.mx_parse.proofs.Rules.{Knot, Rule, plain, pure_rule, accept_rule, then_rule, iff_rule, stops_rule, choose_rule, behind_rule, loop_rule, Behind, marked, mark, sees_mark}
 use Rattle.mx_parse.proofs.Lists.{Closed, SomeClosed, all_listed_rule, some_listed_rule, shorter, on_done, on_same, done_same}
 use Rattle.mx_parse.proofs.LiteralRules.{Begins, closes_round, closes_square}
 

@@ -1,5 +1,5 @@
 -- There is one answer for each source, and the parsers give it.
-use Rattle.std.proofs.Common.{◌≡◌, ◌≢◌, ℕ, zero, suc, ◌+◌, ◌≤◌, ◌<◌, Bool, true, false, ◌||◌, List, [], ◌∷◌, ◌++◌, length, map, Result, Ok, Err, refl, sym, ap, subst, ◌∙◌, append_assoc, arith, inl, inr}
+use Rattle.std.proofs.Common.{◌≡◌, ◌≢◌, ℕ, suc, ◌+◌, ◌<◌, Bool, true, false, ◌||◌, List, [], ◌∷◌, ◌++◌, length, Result, Ok, Err, refl, sym, ap, subst, ◌∙◌, append_assoc, arith, inl, inr}
 use Rattle.std.specs.Prelude.{IfErr}
 use Rattle.std.proofs.lemmas.List.{append-nil, length-append, length-map}
 use Rattle.std.proofs.lemmas.Bool.{cases_lt}
@@ -10,17 +10,16 @@ use Rattle.mx_lex.specs.Heads.{empty_token}
 use Rattle.mx_lex.specs.Lexing.{tokens_of}
 use Rattle.mx_lex.proofs.Order.{tokens_end}
 use Rattle.mx_parse.specs.declared.word.Word.{Word}
-use Rattle.mx_parse.specs.declared.word.Word.TheVariants.{Symbol}
 use Rattle.mx_parse.specs.declared.word.Symbol.TheVariants.{End}
 use Rattle.mx_parse.specs.declared.trouble.Trouble.{Trouble}
 use Rattle.mx_parse.specs.declared.trouble.Trouble.TheVariants as trouble
 use Rattle.mx_parse.specs.declared.refusal.ParseRefusal.{ParseRefusal}
 use Rattle.mx_parse.specs.declared.refusal.ParseRefusal.TheVariants.{Lex, TooNested, Unexpected, TooManyLoops, PrintsTooLong, NoMemory}
 use Rattle.mx_parse.specs.Words.{is, word_of}
-use Rattle.mx_parse.specs.Reading.{Words, Parser, enough, parsed, Gives}
+use Rattle.mx_parse.specs.Reading.{Words, Parser, parsed, Gives}
 use Rattle.mx_parse.specs.Spelling.{Language, Spells, Begins, UnexpectedIn, Shallow, DeepAt, words_of, SpellsIn, PlaceOf, NestedAt, UnexpectedAt, Unread, Refused, Answers, Unless, IsOpened, InText, Placed}
 use Rattle.mx_parse.proofs.Exact.{ends}
-use Rattle.mx_parse.proofs.Texts.{Exactly, one_tree, parsed_complete, parsed_sound, parsed_unexpected, Unexpects}
+use Rattle.mx_parse.proofs.Texts.{Exactly, one_tree, parsed_sound, parsed_unexpected}
 use Rattle.mx_parse.proofs.OpenCount.{not_both, one_depth}
 
 -- ---- END is among the tokens of a source

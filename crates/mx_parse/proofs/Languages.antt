@@ -1,6 +1,5 @@
 -- The parsers of the languages are exact.
-use Rattle.std.proofs.Common.{◌≡◌, ℕ, suc, zero, ◌+◌, ◌<◌, ◌≤◌, Bool, true, false, Ok, List, [], ◌∷◌, refl, sym, subst, arith}
-use Rattle.mx_value.specs.declared.value.Value.{Value}
+use Rattle.std.proofs.Common.{◌≡◌, ℕ, suc, zero, ◌+◌, ◌<◌, ◌≤◌, Bool, true, false, Ok, List, [], ◌∷◌, refl, subst, arith}
 use Rattle.mx_value.specs.declared.value.Value.TheVariants as value
 use Rattle.mx_parse.specs.declared.word.Word.TheVariants.{Symbol}
 use Rattle.mx_parse.specs.declared.word.Symbol.TheVariants as symbol

@@ -1,5 +1,5 @@
 -- A text of one line.
-use Rattle.std.proofs.Common.{◌≡◌, ℕ, false, List, [], ◌∷◌, ◌++◌, refl, sym, ap, subst, ◌∙◌}
+use Rattle.std.proofs.Common.{◌≡◌, ℕ, false, [], ◌∷◌, ◌++◌, refl, sym, ap, subst, ◌∙◌}
 use Rattle.mx_parse.specs.declared.word.Word.TheVariants.{Symbol}
 use Rattle.mx_parse.specs.declared.word.Symbol.TheVariants.{Newline}
 use Rattle.mx_parse.specs.Grammar.{Line}

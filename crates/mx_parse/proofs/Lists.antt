@@ -1,5 +1,5 @@
 -- Parsers of lists and chains.
-use Rattle.std.proofs.Common.{◌≡◌, ℕ, ◌<◌, Bool, true, false, cond, List, [], ◌∷◌, ◌++◌, length, Ok, refl, sym, ap, subst, ◌∙◌, append_assoc, arith, inl, inr}
+use Rattle.std.proofs.Common.{◌≡◌, ℕ, ◌<◌, Bool, true, false, cond, List, [], ◌∷◌, ◌++◌, length, refl, sym, ap, subst, ◌∙◌, append_assoc, arith, inl, inr}
 use Rattle.std.proofs.lemmas.List.{append-nil, length-append}
 use Rattle.mx_parse.specs.declared.word.Symbol.{Symbol}
 use Rattle.mx_parse.specs.declared.word.Symbol.TheVariants as symbol
@@ -7,12 +7,12 @@ use Rattle.mx_parse.specs.declared.word.Word.{Word}
 use Rattle.mx_parse.specs.declared.word.Word.TheVariants as word
 use Rattle.mx_parse.specs.Words.{is}
 use Rattle.mx_parse.specs.Grammar.{Parts, Listed}
-use Rattle.mx_parse.specs.Reading.{Words, Outcome, Parser, ◌>>=◌, ◌>>◌, pure, sees, expect, choose, Turn, On, Done, many_turn, many, item_turn, listed, some_listed}
+use Rattle.mx_parse.specs.Reading.{Words, Outcome, Parser, ◌>>=◌, pure, sees, Turn, On, Done, many_turn, many, item_turn, listed, some_listed}
 use Rattle.mx_parse.proofs.Exact.{Rel, Kinds, Stops, none, stops_none, or, or_stops, Exists, Exact, bind_ok, ok_pair, read, Nothing, Then, Either}
 use Rattle.mx_parse.proofs.Meets.{Shorter}
 use Rattle.mx_parse.proofs.Symbols.{here, apart}
 use Rattle.mx_parse.proofs.Loops.{Turns, last, next, Shrinks}
-use Rattle.mx_parse.proofs.Rules.{Knot, Rule, plain, pure_rule, then_rule, iff_rule, map_rule, choose_rule, behind_rule, loop_rule, Mark, Behind, marked, mark, mapped, mapping, sees_mark}
+use Rattle.mx_parse.proofs.Rules.{Knot, Rule, plain, pure_rule, then_rule, iff_rule, map_rule, choose_rule, behind_rule, loop_rule, Behind, marked, mark, mapped, mapping, sees_mark}
 
 -- a turn takes a token where the items that it goes on behind have one
 pub shorter : (ts used rest : Words) → ts ≡ used ++ rest → 0 < length used → length rest < length ts

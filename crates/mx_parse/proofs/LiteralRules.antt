@@ -1,5 +1,5 @@
 -- The parser of literals is exact.
-use Rattle.std.proofs.Common.{◌≡◌, ◌≢◌, ℕ, zero, suc, ◌<◌, ◌≤◌, ◌^◌, Bool, true, false, nat_lt, nat_le, List, [], ◌∷◌, ◌++◌, Option, Some, None, ℤ, pos, neg_ℤ, refl, sym, ap, subst, ◌∙◌, append_assoc, arith, inl, inr}
+use Rattle.std.proofs.Common.{◌≡◌, ℕ, zero, suc, ◌≤◌, ◌^◌, Bool, true, false, nat_lt, nat_le, List, [], ◌∷◌, ◌++◌, Option, Some, pos, neg_ℤ, refl, sym, ap, subst, ◌∙◌, append_assoc, arith, inl, inr}
 use Rattle.std.proofs.lemmas.Bool.Decides.{Decides-ltb, leb_tells}
 use Rattle.mx_value.specs.declared.value.Value.{Value}
 use Rattle.mx_value.specs.declared.value.Value.TheVariants as value
@@ -12,10 +12,10 @@ use Rattle.mx_parse.specs.Grammar.{Listed, Within}
 use Rattle.mx_parse.specs.Reading.{Words, Parser, sees, levels}
 use Rattle.mx_parse.specs.Literals.{Literal}
 use Rattle.mx_parse.specs.LiteralParsers.{fitting, constant, simple_of, negative_of, tuple_rest, tupled, literal_rule, literal}
-use Rattle.mx_parse.proofs.Exact.{Rel, Kinds, none, stops_none, Exists, Nothing, Then, Either, One, Inner, refuse_exact}
+use Rattle.mx_parse.proofs.Exact.{Rel, none, stops_none, Exists, Nothing, Then, Either, One, Inner, refuse_exact}
 use Rattle.mx_parse.proofs.Meets.{none_meets}
-use Rattle.mx_parse.proofs.Symbols.{apart, only}
-use Rattle.mx_parse.proofs.Rules.{Knot, Rule, plain, pure_rule, accept_rule, then_rule, iff_rule, map_rule, choose_rule, behind_rule, open_rule, Behind, marked, mark, mapped, mapping, sees_mark, some_behind, some_mapped}
+use Rattle.mx_parse.proofs.Symbols.{apart}
+use Rattle.mx_parse.proofs.Rules.{Knot, Rule, plain, pure_rule, accept_rule, then_rule, iff_rule, map_rule, choose_rule, behind_rule, open_rule, Behind, marked, mark, mapped, mapping, sees_mark, some_behind}
 use Rattle.mx_parse.proofs.Lists.{Closed, Closes, listed_rule}
 use Rattle.mx_parse.proofs.LoopCode.{Within as WithinText}
 

@@ -1,14 +1,14 @@
 -- The steps of the code's loops, beside the parsers that they compute.
-use Rattle.std.proofs.Common.{◌≡◌, ℕ, suc, ◌-◌, ◌<◌, ◌≤◌, Bool, true, false, cond, List, [], ◌∷◌, ◌++◌, length, Option, Ok, Err, refl, sym, ap, ◌∙◌, subst, arith}
+use Rattle.std.proofs.Common.{◌≡◌, ℕ, suc, ◌-◌, ◌<◌, ◌≤◌, Bool, true, false, cond, List, [], ◌∷◌, ◌++◌, length, Ok, Err, sym, ap, ◌∙◌, arith}
 use Rattle.mx_parse.specs.declared.word.Symbol.{Symbol}
 use Rattle.mx_parse.specs.declared.word.Symbol.TheVariants.{Comma}
 use Rattle.mx_parse.specs.declared.trouble.Trouble.{Trouble}
 use Rattle.mx_parse.specs.Words.{is}
-use Rattle.mx_parse.specs.Reading.{Words, Outcome, Parser, and_then, ◌>>=◌, ◌>>◌, pure, sees, behind, taken, seen, says, expect, choose, Turn, On, Done, loop, item_turn, many_turn, many, listed}
+use Rattle.mx_parse.specs.Reading.{Words, Outcome, Parser, and_then, ◌>>=◌, ◌>>◌, pure, sees, behind, taken, seen, says, expect, choose, Turn, On, Done, item_turn, listed}
 use Rattle.mx_parse.proofs.Exact.{Kinds, bind_ok, ok_pair, read}
-use Rattle.mx_parse.proofs.Meets.{Shorter, accept_shorter}
+use Rattle.mx_parse.proofs.Meets.{accept_shorter}
 use Rattle.mx_parse.proofs.Loops.{Shrinks, loop_on, loop_done, loop_err}
-use Rattle.mx_parse.proofs.Lists.{chosen_left, chosen_right, on_done, many_shrinks}
+use Rattle.mx_parse.proofs.Lists.{chosen_left, chosen_right, on_done}
 
 abbrev pub Within : {A : Type 0} → Parser A → Type 0
 Within {A} P = (ts rest : Words) (a : A) → P ts ≡ Ok (a, rest) → length rest ≤ length ts

@@ -1,8 +1,8 @@
 -- A loop is exact where each of its turns is.
-use Rattle.std.proofs.Common.{◌≡◌, ℕ, zero, suc, ◌<◌, ◌⊎◌, List, [], ◌∷◌, ◌++◌, length, Ok, Err, refl, sym, ap, subst, ◌∙◌, append_assoc, arith, inl, inr}
+use Rattle.std.proofs.Common.{◌≡◌, ℕ, zero, suc, ◌<◌, [], ◌++◌, length, Ok, Err, refl, sym, ap, subst, ◌∙◌, append_assoc, arith, inl, inr}
 use Rattle.std.proofs.lemmas.List.{append-nil}
 use Rattle.mx_parse.specs.declared.trouble.Trouble.{Trouble}
-use Rattle.mx_parse.specs.Reading.{Words, Outcome, Parser, and_then, ◌>>=◌, pure, Turn, On, Done, after_turn, turns, loop}
+use Rattle.mx_parse.specs.Reading.{Words, Outcome, Parser, and_then, ◌>>=◌, Turn, On, Done, after_turn, turns, loop}
 use Rattle.mx_parse.proofs.Exact.{Rel, Kinds, Stops, none, read, Exists, Took, Fails, Exact, bind_ok, bind_err, Nothing, pure_exact, Then, both, first_fails, second_fails, took_map, fails_map}
 
 -- the turns from a state on

@@ -1,6 +1,5 @@
 -- A parser beside the one with more levels inside: what it reads is read by both, and on few tokens they are the same.
-use Rattle.std.proofs.Common.{◌≡◌, ℕ, zero, suc, ◌<◌, ◌≤◌, Bool, true, false, cond, List, [], ◌∷◌, ◌++◌, length, Option, Some, None, Ok, Err, refl, sym, ap, subst, ◌∙◌, arith, inl, inr}
-use Rattle.std.proofs.lemmas.List.{length-append}
+use Rattle.std.proofs.Common.{◌≡◌, ℕ, zero, suc, ◌<◌, ◌≤◌, Bool, true, false, cond, [], ◌∷◌, length, Option, Some, None, Ok, Err, refl, ap, ◌∙◌, arith, inl, inr}
 use Rattle.mx_parse.specs.declared.word.Word.{Word}
 use Rattle.mx_parse.specs.Reading.{Words, Outcome, Parser, and_then, ◌>>=◌, pure, sees, refuse, accept, taken, choose, Turn, On, Done, after_turn, turns, loop}
 use Rattle.mx_parse.proofs.Exact.{Kinds, read, bind_ok, ok_pair, chosen}

@@ -1,5 +1,5 @@
 -- Bytes of which a label can be made.
-use Rattle.std.proofs.Common.{◌≡◌, ◌≢◌, ℕ, ◌<◌, ◌≤◌, Bool, true, false, cond, List, [], ◌∷◌, ◌++◌, ◌+◌, ◌-◌, length, take, drop, subst, get_or, Option, Some, None, Result, Ok, Err, sym, ap, ◌∙◌, refl, arith}
+use Rattle.std.proofs.Common.{◌≡◌, ℕ, Bool, true, false, cond, List, [], ◌∷◌, ◌++◌, ◌+◌, ◌-◌, length, take, drop, subst, get_or, Option, Some, None, Result, Ok, Err, sym, ap, ◌∙◌, refl, arith}
 use Rattle.std.specs.Prelude.{MatchOption, IsErrOf, IsOkUnless, not}
 use Rattle.std.specs.List.{AllPass}
 use Rattle.std.proofs.lemmas.List.{length-append}
@@ -9,7 +9,7 @@ use Rattle.std.proofs.lemmas.List.Quantifiers.{position-Some}
 use Rattle.mx_value.specs.Label as labels
 use Rattle.mx_value.specs.declared.label.LabelRefusal.{LabelRefusal}
 use Rattle.mx_value.specs.declared.label.LabelRefusal.TheVariants as refusal
-use Rattle.mx_lex.specs.Bytes.{begins_name, continues_name, is_printable, first_passes}
+use Rattle.mx_lex.specs.Bytes.{continues_name, is_printable}
 use Rattle.mx_lex.specs.Laws.{IsText}
 use Rattle.mx_parse.specs.Words.{unescaped, inner_of}
 

@@ -1,12 +1,12 @@
 -- A rule of the grammar: its parser is exact, and meets the one with more levels inside.
-use Rattle.std.proofs.Common.{◌≡◌, ℕ, suc, ◌<◌, Bool, true, false, List, [], ◌∷◌, ◌++◌, length, Option, Some, Ok, refl, sym, ap, subst, ◌∙◌, append_assoc, inl, inr}
+use Rattle.std.proofs.Common.{◌≡◌, ℕ, suc, Bool, true, false, [], ◌∷◌, ◌++◌, Option, Some, refl, sym, ap, subst, ◌∙◌}
 use Rattle.std.proofs.lemmas.List.{append-nil}
 use Rattle.mx_parse.specs.declared.word.Symbol.{Symbol}
 use Rattle.mx_parse.specs.declared.word.Symbol.TheVariants as symbol
 use Rattle.mx_parse.specs.declared.word.Word.{Word}
 use Rattle.mx_parse.specs.declared.word.Word.TheVariants as word
 use Rattle.mx_parse.specs.Words.{is}
-use Rattle.mx_parse.specs.Reading.{Words, Outcome, Parser, ◌>>=◌, ◌>>◌, pure, sees, refuse, accept, says, seen, expect, choose, Turn, On, Done, loop}
+use Rattle.mx_parse.specs.Reading.{Words, Parser, ◌>>=◌, ◌>>◌, pure, sees, refuse, accept, says, seen, expect, choose, Turn, On, Done, loop}
 use Rattle.mx_parse.proofs.Exact.{Rel, Kinds, Stops, none, stops_none, Exists, Exact, Nothing, Never, pure_exact, refuse_exact, Then, then_exact, Either, choose_exact, One, Inner, accept_exact, iff_exact, more_stops}
 use Rattle.mx_parse.proofs.Meets.{Meets, pure_meets, accept_meets, then_meets, open_meets, choose_meets, loop_meets}
 use Rattle.mx_parse.proofs.Loops.{Turns, Shrinks, loop_exact}

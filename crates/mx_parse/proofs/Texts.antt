@@ -1,19 +1,17 @@
 -- What the parser of a whole text gives, in the words of the grammar.
-use Rattle.std.proofs.Common.{◌≡◌, ℕ, zero, suc, ◌+◌, ◌≤◌, ◌<◌, ◌⊎◌, Bool, true, false, max, List, [], ◌∷◌, ◌++◌, length, Option, Some, None, Result, Ok, Err, refl, sym, ap, subst, ◌∙◌, append_assoc, arith, inl, inr}
+use Rattle.std.proofs.Common.{◌≡◌, ℕ, suc, ◌≤◌, ◌<◌, Bool, true, false, max, [], ◌∷◌, ◌++◌, length, Result, Ok, Err, refl, sym, ap, subst, ◌∙◌, append_assoc, arith, inl, inr}
 use Rattle.std.proofs.lemmas.List.{append-nil, length-append}
-use Rattle.std.proofs.lemmas.Bool.{cases_lt}
 use Rattle.mx_parse.specs.declared.word.Word.{Word}
 use Rattle.mx_parse.specs.declared.word.Word.TheVariants.{Symbol}
 use Rattle.mx_parse.specs.declared.word.Symbol.TheVariants.{End}
 use Rattle.mx_parse.specs.declared.trouble.Trouble.{Trouble}
-use Rattle.mx_parse.specs.declared.trouble.Trouble.TheVariants.{Unexpected, NoMemory}
+use Rattle.mx_parse.specs.declared.trouble.Trouble.TheVariants.{Unexpected}
 use Rattle.mx_parse.specs.Words.{is}
-use Rattle.mx_parse.specs.Reading.{Words, Outcome, Parser, and_then, ◌>>=◌, ◌>>◌, pure, sees, behind, expect, taken, seen, text, whole, enough, parsed}
+use Rattle.mx_parse.specs.Reading.{Words, Outcome, Parser, and_then, ◌>>◌, pure, expect, taken, seen, text, whole, enough, parsed}
 use Rattle.mx_parse.specs.Spelling.{Language, Spells, Begins, UnexpectedIn}
-use Rattle.mx_parse.proofs.Exact.{Rel, Kinds, none, stops_none, read, failed, ends, ends_behind, Exists, Viable, Took, Fails, Exact, ok_pair}
+use Rattle.mx_parse.proofs.Exact.{none, stops_none, read, failed, ends, ends_behind, Exists, Fails, Exact, ok_pair}
 use Rattle.mx_parse.proofs.Meets.{Meets}
 use Rattle.mx_parse.proofs.Symbols.{only, here}
-use Rattle.mx_parse.proofs.LoopCode.{expect_ok}
 
 -- the parsers are exact in each number of levels, and meet those with more
 pub record Exactly {A : Type 0} (L : Language A) (P : ℕ → Parser A) : Type 0 where

@@ -2,7 +2,7 @@
 use Rattle.std.specs.Prelude.{ℕ, zero, suc, List, [], ◌∷◌, ◌++◌}
 use Rattle.mx_parse.specs.declared.word.Word.{Word}
 use Rattle.mx_parse.specs.declared.word.Word.TheVariants.{Symbol}
-use Rattle.mx_parse.specs.declared.word.Symbol.TheVariants.{Comma, Newline, End}
+use Rattle.mx_parse.specs.declared.word.Symbol.TheVariants.{Comma, Newline}
 
 abbrev pub Spelling : Type 0 → Type 1
 Spelling A = List Word → A → Type 0

@@ -1,5 +1,5 @@
 -- What the code of literals computes.
-use Rattle.std.specs.Prelude.{ℕ, Bool, true, false, nat_lt, nat_le, ◌^◌, if◌then◌else◌, List, [], ◌∷◌, ◌++◌, Option, Some, None, ℤ, pos, neg_ℤ}
+use Rattle.std.specs.Prelude.{ℕ, Bool, true, false, nat_lt, nat_le, ◌^◌, if◌then◌else◌, [], ◌∷◌, Option, Some, None, pos, neg_ℤ}
 use Rattle.mx_value.specs.declared.value.Value.{Value}
 use Rattle.mx_value.specs.declared.value.Value.TheVariants as value
 use Rattle.mx_parse.specs.declared.word.Word.{Word}
@@ -7,7 +7,7 @@ use Rattle.mx_parse.specs.declared.word.Word.TheVariants.{Name, Int, Fix, Text, 
 use Rattle.mx_parse.specs.declared.word.Symbol.{Symbol as Symbols}
 use Rattle.mx_parse.specs.declared.word.Symbol.TheVariants as symbol
 use Rattle.mx_parse.specs.Words.{is}
-use Rattle.mx_parse.specs.Reading.{Words, Parser, ◌>>=◌, ◌>>◌, pure, accept, expect, choose, listed, levels}
+use Rattle.mx_parse.specs.Reading.{Parser, ◌>>=◌, ◌>>◌, pure, accept, expect, choose, listed, levels}
 
 abbrev pub fitting : {A : Type 0} → Bool → A → Option A
 fitting fits a = if fits then Some a else None

@@ -1,6 +1,5 @@
-use Rattle.std.proofs.Common.{ℕ, List, ◌≡◌, sym, ◌∙◌, ap, subst, length, arith, All}
+use Rattle.std.proofs.Common.{◌≡◌, sym, ◌∙◌, ap, subst, length, arith, All}
 use Rattle.std.proofs.lemmas.List.{length-map}
-use Rattle.mx_lex.specs.declared.Token.{Token}
 use Rattle.mx_parse.specs.Words.{IsReadable, word_of}
 use Rattle.mx_parse.proofs.Decimals.{readable}
 use Rattle.mx_parse.proofs.OpenCount.{deep_within}

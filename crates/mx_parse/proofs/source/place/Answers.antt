@@ -1,4 +1,4 @@
-use Rattle.std.proofs.Common.{◌≡◌, ◌-◌, ◌<◌, suc, length, take, drop, get_or, refl, arith, length-drop}
+use Rattle.std.proofs.Common.{◌-◌, ◌<◌, suc, length, take, drop, get_or, refl, arith, length-drop}
 use Rattle.std.proofs.Math.Seq.{split_at}
 use Rattle.mx_lex.specs.declared.TokenKind.TheVariants.{Name}
 use Rattle.mx_lex.specs.declared.Token.{Token}

@@ -1,7 +1,6 @@
 use Rattle.std.proofs.Common.{rules, arith, ◌≡◌, refl}
 use Rattle.std.specs.Prelude.{codes}
 use Rattle.std.proofs.lemmas.Slice.Eq.{text_from_reads}
-use Rattle.mx_parse.specs.Words as spec
 use Rattle.mx_parse.proofs.symbol.keyword.Goals as goal
 
 pub returns-in-return : goal.returns-in-return

@@ -1,4 +1,4 @@
-use Rattle.std.proofs.Common.{ℕ, List, sym, ◌∙◌, ap, subst, false, drop, take, length, ◌-◌, ◌≡◌}
+use Rattle.std.proofs.Common.{sym, ◌∙◌, ap, subst, false, take, length, ◌-◌, ◌≡◌}
 use Rattle.std.specs.List.{AllPass}
 use Rattle.mx_lex.specs.Bytes.{is_printable}
 use Rattle.mx_parse.specs.Words.{unescaped, inner_of}

@@ -1,4 +1,4 @@
-use Rattle.std.proofs.Common.{arith, drop, get_or, ◌≤◌, ◌+◌, ◌*◌, ◌-◌}
+use Rattle.std.proofs.Common.{arith, drop, get_or, ◌+◌, ◌*◌, ◌-◌}
 use Rattle.mx_lex.proofs.Digits.{digits_from_grows, digits_from_more}
 use Rattle.mx_parse.proofs.words.value.Goals as goal
 
