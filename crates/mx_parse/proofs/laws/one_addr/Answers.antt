@@ -1,0 +1,6 @@
+use Rattle.mx_parse.proofs.Languages.{addresses}
+use Rattle.mx_parse.proofs.Texts.{one_tree}
+use Rattle.mx_parse.proofs.laws.one_addr.Goals as goal
+
+pub returns : goal.returns
+returns c = one_tree _ _ addresses

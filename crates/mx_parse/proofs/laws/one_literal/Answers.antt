@@ -1,0 +1,6 @@
+use Rattle.mx_parse.proofs.Languages.{literals}
+use Rattle.mx_parse.proofs.Texts.{one_tree}
+use Rattle.mx_parse.proofs.laws.one_literal.Goals as goal
+
+pub returns : goal.returns
+returns c = one_tree _ _ literals
