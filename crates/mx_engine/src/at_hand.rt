@@ -4,7 +4,8 @@ ghost use Rattle.mx_meaning.specs.Meaning.{reading, sum_from, product_from, comp
 ghost use Rattle.mx_value.specs.declared.value.Value.{Value};
 ghost use Rattle.mx_engine.specs.Tasks.{env_of, IsRead};
 
-use crate::formula::{add, compare, local, multiply, only_comparison};
+use crate::arithmetic::{add, compare, multiply};
+use crate::formula::{local, only_comparison};
 use crate::frame::Scope;
 use mx_list::list::List;
 use mx_syntax::expr::{Comparison, Expr, ProductPart, SumPart};

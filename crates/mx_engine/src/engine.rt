@@ -1,5 +1,5 @@
 //! The engine: a model text, and what is held for it.
-ghost use Rattle.std.specs.Prelude.{◌≡◌, ◌-◌, ◌+◌, [], Some, None, length, IfOk, IfErr, OnOk, OnErr};
+ghost use Rattle.std.specs.Prelude.{◌≡◌, ◌-◌, [], length, IfOk, OnOk, OnErr};
 ghost use Rattle.mx_meaning.specs.Answers.{Answer};
 ghost use Rattle.mx_meaning.specs.Model.{define};
 ghost use Rattle.mx_meaning.specs.State.{State, IsRightState, most_held};

@@ -1,6 +1,7 @@
 //! The engine: cells by name, values that are kept, and evaluation on an explicit stack.
 #![tactic(auto)]
 
+mod arithmetic;
 mod at_hand;
 mod copies;
 pub mod edit;

@@ -9,7 +9,7 @@ ghost use Rattle.mx_meaning.specs.Lists.{Has};
 ghost use Rattle.mx_meaning.specs.Answers.{Answer};
 ghost use Rattle.mx_meaning.specs.Meaning.{Asks, Env, doing, line_of, ended, gives};
 ghost use Rattle.mx_engine.specs.Tasks.{run_at, env_of};
-ghost use Rattle.mx_engine.specs.Frames.{IsRunning, IsTop, IsDone, IsGood, IsStep, Driven, IsFull, Begins, StartsAt, going, runs_begun, depth_after, Waiter};
+ghost use Rattle.mx_engine.specs.Frames.{IsRunning, IsTop, IsDone, IsGood, IsStep, Driven, IsFull, Begins, going, runs_begun, depth_after};
 
 use crate::copies::copy_expr;
 use crate::formula::run_on;
@@ -455,7 +455,7 @@ fn first_events(
 ) -> Result<Items<Event>, AllocError>
     ensures { IfOk result (λ es. es ≡ Event.Looked (Key.Input node.now) ∷ Event.Looked (Key.Cells source.now name.now) ∷ []) }
 {
-    let mut events = Items::with_capacity(alloc, 8)?;
+    let mut events = Items::with_capacity(alloc, 12)?;
     events.push(Event::Looked(Key::Input(node.copy()?)))?;
     events.push(Event::Looked(Key::Cells(source.copy()?, name.copy()?)))?;
     Ok(events)

@@ -39,5 +39,5 @@ impl Reply {
 pub enum Event {
     Looked(Key),
     Asked(Shared<Node>, Shared<Reply>),
-    Noted(Read),
+    Noted(Shared<Read>),
 }
