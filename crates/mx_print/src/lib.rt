@@ -1,0 +1,5 @@
+//! The printed text of formulas, parameter lists and values, and the binding of arguments.
+#![tactic(auto)]
+
+mod append;
+pub mod value;
