@@ -1,1 +1,4 @@
+mod BindLemmas
+mod ListLemmas
+mod LocalLemmas
 mod TextLemmas

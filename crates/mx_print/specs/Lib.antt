@@ -1,2 +1,5 @@
+pub mod Binding
+pub mod Lists
+pub mod Locals
 pub mod Texts
 pub mod Values

@@ -2,4 +2,6 @@
 #![tactic(auto)]
 
 mod append;
+pub mod bind;
+pub mod locals;
 pub mod value;
