@@ -1,4 +1,5 @@
 mod BindLemmas
+mod ExprLemmas
 mod ListLemmas
 mod LocalLemmas
 mod TextLemmas

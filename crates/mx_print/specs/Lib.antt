@@ -1,4 +1,5 @@
 pub mod Binding
+pub mod Expressions
 pub mod Lists
 pub mod Locals
 pub mod Texts

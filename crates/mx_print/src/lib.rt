@@ -3,5 +3,6 @@
 
 mod append;
 pub mod bind;
+mod expr;
 pub mod locals;
 pub mod value;
