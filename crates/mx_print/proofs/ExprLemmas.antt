@@ -29,7 +29,7 @@ all_more s out l xs i x some lt is =
     ap (λ (ts : List Text). ((out ++ separated s ts) ++ s) ++ at l (printed x)) (all_at_is l (take i xs))
     ∙ separated_more (λ (y : Expr). at l (printed y)) s out xs i x some lt is ∙ ap (λ (ts : List Text). out ++ separated s ts) (sym (all_at_is l (take (i + 1) xs)))
 
-flat_again : (n : ℕ) (t : Text) → flat (replicate n t) ++ t ≡ t ++ flat (replicate n t)
+pub flat_again : (n : ℕ) (t : Text) → flat (replicate n t) ++ t ≡ t ++ flat (replicate n t)
 flat_again zero t = sym (append-nil t)
 flat_again (suc n) t = append_assoc t (flat (replicate n t)) t ∙ ap (λ (u : Text). t ++ u) (flat_again n t)
 

@@ -2,4 +2,5 @@ mod BindLemmas
 mod ExprLemmas
 mod ListLemmas
 mod LocalLemmas
+mod StatementLemmas
 mod TextLemmas

@@ -2,5 +2,6 @@ pub mod Binding
 pub mod Expressions
 pub mod Lists
 pub mod Locals
+pub mod Statements
 pub mod Texts
 pub mod Values

@@ -4,5 +4,7 @@
 mod append;
 pub mod bind;
 mod expr;
+pub mod formula;
 pub mod locals;
+mod statement;
 pub mod value;

@@ -54,7 +54,7 @@ fn push_fixed(out: &mut Vec<u8>, number: Fixed) -> Result<(), AllocError>
 }
 
 /// Adds a text in quotes.
-fn push_quoted(out: &mut Vec<u8>, text: &[u8]) -> Result<(), AllocError>
+pub fn push_quoted(out: &mut Vec<u8>, text: &[u8]) -> Result<(), AllocError>
     ensures { OnOk result (out.new.items ≡ out.old.items ++ spec.quoted text.now) }
 {
     push(out, b"\"")?;
