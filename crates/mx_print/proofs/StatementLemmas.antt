@@ -42,8 +42,8 @@ if_last false [] arm none some = let e : 0 < 0 = some refl in absurd (omega (ari
 if_last false (a ∷ arms) arm none some =
     append_assoc (front (arm_word true) a) (flat (map (front (arm_word false)) arms)) (front (arm_word false) arm)
     ∙ ap (λ (lines : List Text). front (arm_word true) a ++ lines) (
-        ap (λ (lines : List Text). flat (map (front (arm_word false)) arms) ++ lines) (sym (append-nil (front (arm_word false) arm)))
-        ∙ sym (flat_append (map (front (arm_word false)) arms) (front (arm_word false) arm ∷ [])) ∙ ap flat (sym (map-append (front (arm_word false)) arms (arm ∷ [])))
+    ap (λ (lines : List Text). flat (map (front (arm_word false)) arms) ++ lines) (sym (append-nil (front (arm_word false) arm)))
+    ∙ sym (flat_append (map (front (arm_word false)) arms) (front (arm_word false) arm ∷ [])) ∙ ap flat (sym (map-append (front (arm_word false)) arms (arm ∷ [])))
     )
 
 pub arms_more : (d : ℕ) (out : Text) (arms : List IfArm) (i : ℕ) (arm : IfArm) → i < length arms → arm ≡ get_or arms i arm

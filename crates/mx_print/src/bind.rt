@@ -29,7 +29,11 @@ impl From<AllocError> for BindRefusal {
 /// The full arguments: those given, then the defaults of the other parameters, each in normal form.
 /// WrongCount comes exactly where there are more arguments than parameters, or where a parameter
 /// without an argument has no default.
-pub fn bind(alloc: Global, params: &[Param], args: Items<Value>) -> Result<Items<Value>, BindRefusal>
+pub fn bind(
+    alloc: Global,
+    params: &[Param],
+    args: Items<Value>,
+) -> Result<Items<Value>, BindRefusal>
     ensures full { IfOk result (λ full. full ≡ bound params.now args) }
     ensures wrong_count { IsErrOf result BindRefusal.WrongCount ↔ IsTrue (is_wrong_count params.now (length args)) }
 {

@@ -89,11 +89,7 @@ fn push_line(out: &mut Vec<u8>, depth: usize, line: &[u8]) -> Result<(), AllocEr
     push(out, b"\n")
 }
 
-fn push_return(
-    out: &mut Vec<u8>,
-    depth: usize,
-    value: &Option<Expr>,
-) -> Result<(), AllocError>
+fn push_return(out: &mut Vec<u8>, depth: usize, value: &Option<Expr>) -> Result<(), AllocError>
     ensures { OnOk result (out.new.items ≡ out.old.items ++ line_text depth (return_text value.now)) }
 {
     match value {
@@ -162,12 +158,7 @@ fn push_change(
 }
 
 /// Adds the first line of a `for`.
-fn push_for(
-    out: &mut Vec<u8>,
-    depth: usize,
-    name: &Label,
-    over: &Expr,
-) -> Result<(), AllocError>
+fn push_for(out: &mut Vec<u8>, depth: usize, name: &Label, over: &Expr) -> Result<(), AllocError>
     ensures { OnOk result (out.new.items ≡ out.old.items ++ line_text depth (spec.for_text name.now over.now)) }
 {
     push_margin(out, depth)?;
@@ -239,12 +230,7 @@ fn push_arms(out: &mut Vec<u8>, depth: usize, arms: &[IfArm]) -> Result<(), Allo
 }
 
 #[cycle(statements)]
-fn push_arm(
-    out: &mut Vec<u8>,
-    depth: usize,
-    first: bool,
-    arm: &IfArm,
-) -> Result<(), AllocError>
+fn push_arm(out: &mut Vec<u8>, depth: usize, first: bool, arm: &IfArm) -> Result<(), AllocError>
     ensures { OnOk result (out.new.items ≡ out.old.items ++ lines_text depth (front (spec.arm_word first) (arm_lines arm.now))) }
 {
     push_margin(out, depth)?;

@@ -41,9 +41,9 @@ push_args-returns-in_ok-push_at-in-Gen-2 t c =
     let g = c.in-Gen in
     subst (λ (u : Text). OnOk c.push_test.result (c.push_test.new.out.items ≡ u))
     (generator_whole c.args.args.now g.element g.name g.over g.test c.args.out.now.items c.push_at.new.out.items c.push.new.out.items c.push-in-Gen.new.out.items c.push-in-Gen-2.new.out.items c.push_at-in-Gen.new.out.items g.is
-        (c.in_ok-push_at-in-Gen.ensures ∙ ap (λ (e : Expr). c.args.out.now.items ++ at 0 (printed e)) c.get.ensures)
-        c.in_ok-push-in-Gen.ensures
-        (c.in_ok-push-in-Gen-2.ensures ∙ ap (λ (n : Text). c.push.new.out.items ++ n) c.as_slice-in-Gen.ensures.value)
-        c.in_ok-push-in-Gen-3.ensures
-        (c.in_ok-push_at-in-Gen-2.ensures ∙ ap (λ (e : Expr). c.push-in-Gen-2.new.out.items ++ at 1 (printed e)) c.get-in-Gen.ensures))
+    (c.in_ok-push_at-in-Gen.ensures ∙ ap (λ (e : Expr). c.args.out.now.items ++ at 0 (printed e)) c.get.ensures)
+    c.in_ok-push-in-Gen.ensures
+    (c.in_ok-push-in-Gen-2.ensures ∙ ap (λ (n : Text). c.push.new.out.items ++ n) c.as_slice-in-Gen.ensures.value)
+    c.in_ok-push-in-Gen-3.ensures
+    (c.in_ok-push_at-in-Gen-2.ensures ∙ ap (λ (e : Expr). c.push-in-Gen-2.new.out.items ++ at 1 (printed e)) c.get-in-Gen.ensures))
     c.push_test.ensures

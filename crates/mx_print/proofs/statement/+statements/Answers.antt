@@ -24,7 +24,7 @@ push_stmt-returns-in_ok-push_for-in-For t c =
     let g = c.in-For in
     subst (λ (u : Text). OnOk c.push_block.result (c.push_block.new.out.items ≡ u))
     (ap (λ (body : List Stmt). c.push_for.new.out.items ++ lines_text c.args.depth (block (map stmt_lines body))) c.as_slice-in-For.ensures
-        ∙ for_whole c.args.stmt.now g.name g.over g.body c.args.depth c.args.out.now.items c.push_for.new.out.items g.is c.in_ok-push_for-in-For.ensures)
+    ∙ for_whole c.args.stmt.now g.name g.over g.body c.args.depth c.args.out.now.items c.push_for.new.out.items g.is c.in_ok-push_for-in-For.ensures)
     c.push_block.ensures
 
 pub push_stmt-returns-in_ok-push_arms-in-Some : goal.push_stmt-returns-in_ok-push_arms-in-Some
@@ -32,6 +32,6 @@ push_stmt-returns-in_ok-push_arms-in-Some t c =
     let g = c.in-If in
     subst (λ (u : Text). OnOk c.push_else.result (c.push_else.new.out.items ≡ u))
     (ap (λ (body : List Stmt). c.push_arms.new.out.items ++ lines_text c.args.depth (codes "else:" ∷ block (map stmt_lines body))) c.as_slice-in-Some-2.ensures
-        ∙ if_else_whole c.args.stmt.now g.arms g.other c.in-Some.body c.args.depth c.args.out.now.items c.push_arms.new.out.items g.is c.in-Some.is
-            (c.in_ok-push_arms-in-Some.ensures ∙ ap (λ (arms : List IfArm). c.args.out.now.items ++ lines_text c.args.depth (if_lines (map arm_lines arms))) c.as_slice-in-Some.ensures))
+    ∙ if_else_whole c.args.stmt.now g.arms g.other c.in-Some.body c.args.depth c.args.out.now.items c.push_arms.new.out.items g.is c.in-Some.is
+    (c.in_ok-push_arms-in-Some.ensures ∙ ap (λ (arms : List IfArm). c.args.out.now.items ++ lines_text c.args.depth (if_lines (map arm_lines arms))) c.as_slice-in-Some.ensures))
     c.push_else.ensures
