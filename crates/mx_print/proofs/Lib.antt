@@ -1,5 +1,6 @@
 mod BindLemmas
 mod ExprLemmas
+mod LineLemmas
 mod ListLemmas
 mod LocalLemmas
 mod StatementLemmas

@@ -58,7 +58,7 @@ arms_more d out arms i arm lt is =
 if_else_is : (arms : List IfArm) (body : List Stmt) → stmt_lines (made.If arms (Some body)) ≡ if_lines (map arm_lines arms) ++ (codes "else:" ∷ block (map stmt_lines body))
 if_else_is arms body = ap stmt_lines (sym (made.rolls-If arms (Some body))) ∙ fold-roll-Stmt (List Text) (List Text) stmt_step arm_step (Stmt-F.If arms (Some body))
 
-for_is : (name : Text) (over : Expr) (body : List Stmt) → stmt_lines (made.For name over body) ≡ for_text name over ∷ block (map stmt_lines body)
+pub for_is : (name : Text) (over : Expr) (body : List Stmt) → stmt_lines (made.For name over body) ≡ for_text name over ∷ block (map stmt_lines body)
 for_is name over body = ap stmt_lines (sym (made.rolls-For name over body)) ∙ fold-roll-Stmt (List Text) (List Text) stmt_step arm_step (Stmt-F.For name over body)
 
 pub if_else_whole : (stmt : Stmt) (arms : List IfArm) (other : Option (List Stmt)) (body : List Stmt) (d : ℕ) (out between : Text) → stmt ≡ made.If arms other → other ≡ Some body

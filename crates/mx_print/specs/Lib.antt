@@ -1,5 +1,6 @@
 pub mod Binding
 pub mod Expressions
+pub mod Lines
 pub mod Lists
 pub mod Locals
 pub mod Statements

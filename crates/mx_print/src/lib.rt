@@ -5,6 +5,9 @@ mod append;
 pub mod bind;
 mod expr;
 pub mod formula;
+pub mod line;
 pub mod locals;
 mod statement;
+#[cfg(test)]
+mod tests;
 pub mod value;

@@ -1,0 +1,8 @@
+use Rattle.mx_print.proofs.LineLemmas.{statements_stand, arms_stand}
+use Rattle.mx_print.proofs.line.line_laws.Goals as goal
+
+pub returns-clause-statements : goal.returns-clause-statements
+returns-clause-statements c = statements_stand
+
+pub returns-clause-arms : goal.returns-clause-arms
+returns-clause-arms c = arms_stand
