@@ -29,28 +29,36 @@ indent_deep d (l ∷ ls) = ap (λ (rest : List Text). (codes "    " ++ (margin d
 
 start : (first : ℕ) (own after : List Text) → Stands first (own ++ after) first own
 start first own after = record {
-  depth = 0; before = []; after = after;
+  depth = 0;
+  before = [];
+  after = after;
   whole = ap (λ (lines : List Text). lines ++ after) (sym (deep_none own));
   place = omega arith;
 }
 
 behind : (first line : ℕ) (fronts lines own : List Text) → Stands (first + length fronts) lines line own → Stands first (fronts ++ lines) line own
 behind first line fronts lines own h = record {
-  depth = h.depth; before = fronts ++ h.before; after = h.after;
+  depth = h.depth;
+  before = fronts ++ h.before;
+  after = h.after;
   whole = ap (λ (ls : List Text). fronts ++ ls) h.whole ∙ sym (append_assoc fronts h.before (deep h.depth own ++ h.after));
   place = omega (arith, h.place, length-append fronts h.before);
 }
 
 followed : (first line : ℕ) (lines back own : List Text) → Stands first lines line own → Stands first (lines ++ back) line own
 followed first line lines back own h = record {
-  depth = h.depth; before = h.before; after = h.after ++ back;
+  depth = h.depth;
+  before = h.before;
+  after = h.after ++ back;
   whole = ap (λ (ls : List Text). ls ++ back) h.whole ∙ append_assoc h.before (deep h.depth own ++ h.after) back ∙ ap (λ (ls : List Text). h.before ++ ls) (append_assoc (deep h.depth own) h.after back);
   place = h.place;
 }
 
 inward : (first line : ℕ) (lines own : List Text) → Stands first lines line own → Stands first (indent lines) line own
 inward first line lines own h = record {
-  depth = suc h.depth; before = indent h.before; after = indent h.after;
+  depth = suc h.depth;
+  before = indent h.before;
+  after = indent h.after;
   whole = ap indent h.whole ∙ map-append (λ (l : Text). codes "    " ++ l) h.before (deep h.depth own ++ h.after)
       ∙ ap (λ (ls : List Text). indent h.before ++ ls) (map-append (λ (l : Text). codes "    " ++ l) (deep h.depth own) h.after ∙ ap (λ (ls : List Text). ls ++ indent h.after) (indent_deep h.depth own));
   place = h.place ∙ ap (λ (n : ℕ). first + n) (sym (length-map h.before (λ (l : Text). codes "    " ++ l)));

@@ -1,16 +1,17 @@
 //! Tables of printed texts, of bound arguments and of locals, worked by hand.
-mod build;
-mod formulas;
-
 use crate::bind::{BindRefusal, bind};
-use crate::tests::build::{label, list};
+use crate::formula::{print, print_params};
+use crate::line::{body_height, first_line};
+use crate::locals::locals_of;
 use crate::value::push_value;
 use mx_list::items::Items;
-use mx_syntax::stmt::Param;
+use mx_list::list::List;
+use mx_syntax::first::{FirstCommand, read_first};
+use mx_syntax::stmt::{Formula, Param, Params};
 use mx_value::fixed::Fixed;
 use mx_value::label::Label;
-use mx_value::value::{CellsAt, Segment, Value};
-use std::alloc::Global;
+use mx_value::value::Value;
+use std::alloc::{AllocError, Global};
 use std::test::Fail;
 
 fn value_text(alloc: Global, value: &Value) -> Result<Vec<u8>, Fail> {
@@ -80,40 +81,9 @@ fn a_tuple_of_one_item_has_a_comma(rt: HostRuntime) -> Result<(), Fail> {
     Ok(())
 }
 
-#[test]
-fn spaces_cells_and_tables_are_named(rt: HostRuntime) -> Result<(), Fail> {
-    let arguments = Items::from_vec(vec![in rt.alloc(); Value::Int(30), Value::Flag(false)]?);
-    let space = list(
-        rt.alloc(),
-        vec![in rt.alloc();
-            Segment::Name(label(rt.alloc(), "Life")?),
-            Segment::Item(arguments),
-            Segment::Name(label(rt.alloc(), "Cash")?),
-        ]?,
-    )?;
-    let cells = Value::Cells(CellsAt {
-        space: space.copy()?,
-        name: label(rt.alloc(), "claims")?,
-    });
-    assert_eq!(rt;
-        value_text(rt.alloc(), &Value::Space(space))?.as_slice(),
-        b"<space Life[30, False].Cash>".as_slice()
-    );
-    assert_eq!(rt;
-        value_text(rt.alloc(), &cells)?.as_slice(),
-        b"<cells Life[30, False].Cash.claims>".as_slice()
-    );
-    let table = Value::Table(label(rt.alloc(), "mort")?);
-    assert_eq!(rt;
-        value_text(rt.alloc(), &table)?.as_slice(),
-        b"<table mort>".as_slice()
-    );
-    Ok(())
-}
-
 fn param(alloc: Global, name: &str, default: Option<Value>) -> Result<Param, Fail> {
     Ok(Param {
-        name: label(alloc, name)?,
+        name: Label::new(alloc, name.as_bytes())?,
         default,
     })
 }
@@ -159,5 +129,112 @@ fn a_wrong_count_does_not_bind(rt: HostRuntime) -> Result<(), Fail> {
     );
     let all = Items::from_vec(vec![in rt.alloc(); Value::Int(1), Value::Int(2), Value::Int(3)]?);
     assert!(rt; bind(rt.alloc(), params.as_slice(), all).is_ok());
+    Ok(())
+}
+
+/// Formulas in odd spacing and parentheses, and their printed forms.
+const PRINTED: [(&str, &str); 24] = [
+    ("cells f(n)=n", "(n) = n\n"),
+    ("cells f( n ) = ((n))", "(n) = n\n"),
+    (
+        "cells fib(n) = n if n<2 else fib( n-1 )+fib(n-2)",
+        "(n) = n if n < 2 else fib(n - 1) + fib(n - 2)\n",
+    ),
+    ("cells f(n) = 1+2-3", "(n) = 1 + 2 - 3\n"),
+    ("cells f(n) = 1-(2-3)", "(n) = 1 - (2 - 3)\n"),
+    ("cells f(n) = (1-2)-3", "(n) = (1 - 2) - 3\n"),
+    ("cells f(n) = (2*n)+(3*n)", "(n) = 2 * n + 3 * n\n"),
+    ("cells f(n) = 2*(n+3)*n", "(n) = 2 * (n + 3) * n\n"),
+    ("cells f(n) = (2*3)*4", "(n) = (2 * 3) * 4\n"),
+    ("cells f(n) = 2*(3*4)", "(n) = 2 * (3 * 4)\n"),
+    ("cells f(n) = (1+2)+3", "(n) = (1 + 2) + 3\n"),
+    ("cells f(n) = g( n )", "(n) = g(n)\n"),
+    ("cells f(n) = g((n+1)*2)", "(n) = g((n + 1) * 2)\n"),
+    ("cells f(n) = g(h(n))*2", "(n) = g(h(n)) * 2\n"),
+    (
+        "cells f(x) = g(x if x<1 else 2)",
+        "(x) = g(x if x < 1 else 2)\n",
+    ),
+    (
+        "cells f(n) = 1 if n<=2 else 0",
+        "(n) = 1 if n <= 2 else 0\n",
+    ),
+    ("cells f(n) = 1 if n>2 else 0", "(n) = 1 if n > 2 else 0\n"),
+    (
+        "cells f(n) = 1 if n>=2 else 0",
+        "(n) = 1 if n >= 2 else 0\n",
+    ),
+    (
+        "cells f(n) = 1 if n==2 else 0",
+        "(n) = 1 if n == 2 else 0\n",
+    ),
+    (
+        "cells f(n) = 1 if n!=2 else 0",
+        "(n) = 1 if n != 2 else 0\n",
+    ),
+    (
+        "cells f(n) = 1 if n<2 else 2 if n<3 else 4",
+        "(n) = 1 if n < 2 else 2 if n < 3 else 4\n",
+    ),
+    (
+        "cells f(n) = 1 if n<2 else (2 if n<3 else 4)",
+        "(n) = 1 if n < 2 else (2 if n < 3 else 4)\n",
+    ),
+    (
+        "cells f(n) = (1 if n<2 else 2) if n<3 else 4",
+        "(n) = (1 if n < 2 else 2) if n < 3 else 4\n",
+    ),
+    (
+        "cells f(n) = (1 if n<2 else 2)+1",
+        "(n) = (1 if n < 2 else 2) + 1\n",
+    ),
+];
+
+fn formula(alloc: Global, source: &str) -> Result<Formula, AllocError> {
+    match read_first(alloc, source.as_bytes()) {
+        Ok(FirstCommand::Cells(_, formula)) => Ok(formula),
+        _ => Err(AllocError),
+    }
+}
+
+fn printed(alloc: Global, source: &str) -> Result<Vec<u8>, AllocError> {
+    let formula = formula(alloc, source)?;
+    print(alloc, &formula)
+}
+
+#[test]
+fn formulas_are_printed_in_one_form(rt: HostRuntime) -> Result<(), Fail> {
+    for (source, text) in PRINTED {
+        let out = printed(rt.alloc(), source)?;
+        assert_eq!(rt; out.as_slice(), text.as_bytes());
+    }
+    Ok(())
+}
+
+#[test]
+fn a_parameter_is_a_local(rt: HostRuntime) -> Result<(), Fail> {
+    let square = formula(rt.alloc(), "cells f(n) = n * n")?;
+    let names = locals_of(rt.alloc(), &square)?;
+    assert_eq!(rt; names.len(), 1);
+    assert_eq!(rt; first_line(square.body.as_slice()), 1);
+    assert_eq!(rt; body_height(square.body.as_slice()), 1);
+    Ok(())
+}
+
+fn parameter_list(alloc: Global) -> Result<Params, Fail> {
+    let mut params = Vec::new(alloc);
+    params.push(param(alloc, "x", None)?)?;
+    params.push(param(alloc, "n", Some(Value::Int(-2)))?)?;
+    Ok(Params {
+        params: List::from_vec(alloc, params)?,
+        body: None,
+    })
+}
+
+#[test]
+fn a_parameter_list_alone(rt: HostRuntime) -> Result<(), Fail> {
+    let list = parameter_list(rt.alloc())?;
+    let text = print_params(rt.alloc(), &list)?;
+    assert_eq!(rt; text.as_slice(), b"(x, n=-2)\n".as_slice());
     Ok(())
 }
