@@ -1,5 +1,5 @@
 -- Defaults, one after the other.
-use Rattle.std.proofs.Common.{◌≡◌, ℕ, ◌+◌, ◌<◌, List, [], ◌∷◌, ◌++◌, Option, None, Some, length, get_or, take, refl, sym, ap, ◌∙◌, append_assoc, append-nil}
+use Rattle.std.proofs.Common.{◌≡◌, ℕ, ◌+◌, ◌<◌, List, [], ◌∷◌, ◌++◌, None, Some, length, get_or, take, refl, sym, ap, ◌∙◌, append_assoc}
 use Rattle.std.proofs.lemmas.List.Elements.{filter_map-append}
 use Rattle.mx_value.specs.declared.value.Value.{Value}
 use Rattle.mx_syntax.specs.declared.stmt.Param.{Param}

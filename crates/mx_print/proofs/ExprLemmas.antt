@@ -1,16 +1,13 @@
 -- Steps of printing an expression.
 use Rattle.std.proofs.Common.{◌≡◌, ℕ, zero, suc, ◌+◌, ◌<◌, List, [], ◌∷◌, ◌++◌, Option, None, Some, length, get_or, map, take, replicate, refl, sym, ap, ◌∙◌, append_assoc, append-nil, arith}
 use Rattle.std.specs.Prelude.{codes}
-use Rattle.std.proofs.lemmas.List.{map-append, take_more}
 use Rattle.mx_syntax.specs.declared.expr.Expr.{Expr}
 use Rattle.mx_syntax.specs.declared.expr.Args.{Args, fold-roll-Args}
 use Rattle.mx_syntax.specs.declared.expr.Args.TheVariants as made
 use Rattle.mx_syntax.specs.declared.expr.Args.TheOpen.{Args-F}
-use Rattle.mx_syntax.specs.declared.expr.Sign.{Sign}
 use Rattle.mx_print.specs.Lists.{flat}
 use Rattle.mx_print.specs.Texts.{Text, separated}
-use Rattle.mx_print.specs.Expressions.{Piece, at, all_at, printed, sign_byte, args_text, generator_test_text, args_step, comparison_step, piece, trailer_step, arm_step, power_step, product_step, sum_step}
-use Rattle.mx_print.proofs.ListLemmas.{flat_append, take_next}
+use Rattle.mx_print.specs.Expressions.{Piece, at, all_at, printed, args_text, generator_test_text, args_step, comparison_step, piece, trailer_step, arm_step, power_step, product_step, sum_step}
 use Rattle.mx_print.proofs.TextLemmas.{separated_first, separated_more}
 
 all_at_is : (l : ℕ) (xs : List Expr) → all_at l (map printed xs) ≡ map (λ (x : Expr). at l (printed x)) xs

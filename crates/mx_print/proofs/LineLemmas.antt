@@ -1,18 +1,17 @@
 -- Statements stand at their lines.
-use Rattle.std.proofs.Common.{◌≡◌, ℕ, suc, ◌+◌, ◌<◌, ◌-◌, ◌^◌, min, Bool, true, false, List, [], ◌∷◌, ◌++◌, Option, None, Some, length, get_or, map, take, refl, sym, ap, subst, ◌∙◌, append_assoc, append-nil, arith}
+use Rattle.std.proofs.Common.{◌≡◌, ◌≢◌, ℕ, suc, ◌+◌, ◌==◌, ◌<◌, ◌-◌, ◌^◌, min, true, false, List, [], ◌∷◌, ◌++◌, Option, None, Some, length, get_or, map, take, refl, sym, ap, subst, ◌∙◌, append_assoc, append-nil, arith}
 use Rattle.std.specs.Prelude.{codes, is_some, if◌then◌else◌}
 use Rattle.std.proofs.lemmas.Grind.{common_steps}
+use Rattle.std.proofs.lemmas.Bool.Decides.{nat_tests}
 use Rattle.std.proofs.lemmas.List.{map-append, length-append, length-map}
-use Rattle.mx_syntax.specs.declared.expr.Expr.{Expr}
 use Rattle.mx_syntax.specs.declared.stmt.Stmt.{Stmt, fold-roll-Stmt}
 use Rattle.mx_syntax.specs.declared.stmt.Stmt.TheVariants as made
 use Rattle.mx_syntax.specs.declared.stmt.Stmt.TheOpen.{Stmt-F}
 use Rattle.mx_syntax.specs.declared.stmt.IfArm.{IfArm, out-IfArm, fold_out-IfArm}
-use Rattle.mx_syntax.specs.declared.stmt.Param.{Param}
 use Rattle.mx_print.specs.Lists.{flat}
 use Rattle.mx_print.specs.Texts.{Text}
-use Rattle.mx_print.specs.Statements.{margin, block, body_lines, stmt_lines, arm_lines, arm_word, front, if_lines, for_text, stmt_step, arm_step, whole, params_text, lines_by, formula_lines, one_line, returned}
-use Rattle.mx_print.specs.Lines.{height, arm_height, body_height, arms_height, first_line, AtLine, deep, Stands, is_first, StatementsStand, ArmsStand, arm_head}
+use Rattle.mx_print.specs.Statements.{margin, block, body_lines, stmt_lines, arm_lines, arm_word, front, if_lines, for_text, stmt_step, arm_step, whole, params_text, lines_by, lines_text}
+use Rattle.mx_print.specs.Lines.{height, arm_height, body_height, arms_height, AtLine, deep, Stands, is_first, StatementsStand, ArmsStand, arm_head, split, HasNoFeed, TextHasItsLines}
 use Rattle.mx_print.proofs.ListLemmas.{flat_append, flat_next, take_next}
 use Rattle.mx_print.proofs.StatementLemmas.{for_is}
 
@@ -146,3 +145,18 @@ arms_height_more arms i a lt is = ap arms_height (take_next arms i a lt is) ∙ 
 -- sums that stop at the greatest number
 pub capped_sum : (total sum next more : ℕ) → total ≡ min (min sum (2 ^ 32 - 1) + min next (2 ^ 32 - 1)) (2 ^ 32 - 1) → more ≡ sum + next → total ≡ min more (2 ^ 32 - 1)
 capped_sum total sum next more is same = grind (arith, common_steps)
+
+-- ---- the text and its lines
+
+split_line : (line rest : Text) → HasNoFeed line → split (line ++ 10 ∷ rest) ≡ line ∷ split rest
+split_line [] rest free = refl
+split_line (b ∷ bs) rest free =
+    let other : b ≢ 10 = free.0 in
+    let e : (b == 10) ≡ false = grind (arith, nat_tests) in
+    let more = split_line bs rest free.1 in
+    rw (e, more) refl
+
+pub text_has_its_lines : TextHasItsLines
+text_has_its_lines [] free = refl
+text_has_its_lines (line ∷ lines) free =
+    ap split (append_assoc line (codes "\n") (lines_text 0 lines)) ∙ split_line line (lines_text 0 lines) free.0 ∙ ap (λ (ls : List Text). line ∷ ls) (text_has_its_lines lines free.1)

@@ -5,11 +5,8 @@ use Rattle.std.proofs.lemmas.List.Folds.{concat-append}
 use Rattle.std.specs.List.{concat}
 use Rattle.std.proofs.lemmas.Bool.Decides.{nat_tests}
 use Rattle.mx_print.specs.Texts.{Text, separated}
+use Rattle.mx_print.proofs.ListLemmas.{take_next}
 use Rattle.mx_print.specs.Values.{address_of, after_dot, escaped, padded, decimals}
-
--- the first i items and the next one
-pub take_next : {X : Type 0} (xs : List X) (i : ℕ) (x : X) → i < length xs → x ≡ get_or xs i x → take (i + 1) xs ≡ take i xs ++ x ∷ []
-take_next xs i x lt is = take_more xs i x lt ∙ ap (λ y. take i xs ++ y ∷ []) (sym is)
 
 concat_last : (ts : List Text) (t : Text) → concat (ts ++ t ∷ []) ≡ concat ts ++ t
 concat_last ts t = concat-append ts (t ∷ []) ∙ ap (λ (u : Text). concat ts ++ u) (append-nil t)

@@ -1,5 +1,5 @@
 -- Arguments, bound to parameters.
-use Rattle.std.specs.Prelude.{ℕ, Bool, List, ◌++◌, Option, ◌||◌, map, drop, length, nat_lt, is_none}
+use Rattle.std.specs.Prelude.{ℕ, Bool, List, ◌++◌, ◌||◌, map, drop, length, nat_lt, is_none}
 use Rattle.std.specs.List.{list_any, filter_map}
 use Rattle.mx_value.specs.declared.value.Value.{Value}
 use Rattle.mx_value.specs.Normal.{normal_of}

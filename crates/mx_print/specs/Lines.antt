@@ -1,12 +1,12 @@
 -- The line of the printed text at which each statement stands.
-use Rattle.std.specs.Prelude.{◌≡◌, ℕ, ◌+◌, Bool, true, false, List, [], ◌∷◌, ◌++◌, Option, None, Some, map, length, codes, is_some, if◌then◌else◌}
+use Rattle.std.specs.Prelude.{◌≡◌, ◌≢◌, ℕ, ◌+◌, ◌==◌, Bool, true, false, List, [], ◌∷◌, ◌++◌, Option, None, Some, map, length, codes, is_some, if◌then◌else◌}
 use Rattle.mx_syntax.specs.declared.expr.Expr.{Expr}
 use Rattle.mx_syntax.specs.declared.stmt.Stmt.{Stmt}
 use Rattle.mx_syntax.specs.declared.stmt.Stmt.TheVariants as made
 use Rattle.mx_syntax.specs.declared.stmt.IfArm.{IfArm, out-IfArm}
 use Rattle.mx_syntax.specs.declared.stmt.Param.{Param}
 use Rattle.mx_print.specs.Texts.{Text}
-use Rattle.mx_print.specs.Statements.{stmt_lines, arm_lines, body_lines, if_lines, arm_word, whole, returned, one_line, formula_lines, margin}
+use Rattle.mx_print.specs.Statements.{stmt_lines, arm_lines, body_lines, if_lines, arm_word, whole, returned, one_line, formula_lines, margin, lines_text}
 
 -- how many lines a statement takes, with those within it
 abbrev pub height : Stmt → ℕ
@@ -63,3 +63,24 @@ arm_head first a = arm_word first ++ (whole (out-IfArm a).test ++ codes ":")
 -- an arm of an `if` stands below the arms before it
 abbrev pub ArmsStand : Type 0
 ArmsStand = (first : ℕ) (arms more : List IfArm) (a : IfArm) (other : Option (List Stmt)) → Stands first (stmt_lines (made.If (arms ++ a ∷ more) other)) (first + arms_height arms) (arm_head (is_first arms) a ∷ [])
+
+abbrev with_first : ℕ → List Text → List Text
+with_first b [] = (b ∷ []) ∷ []
+with_first b (line ∷ lines) = (b ∷ line) ∷ lines
+
+-- the lines of a text, each without the line feed that ends it
+abbrev pub split : Text → List Text
+split [] = []
+split (b ∷ bs) = if b == 10 then [] ∷ split bs else with_first b (split bs)
+
+abbrev pub HasNoFeed : Text → Type 0
+HasNoFeed [] = Unit {0}
+HasNoFeed (b ∷ bs) = (b ≢ 10) × HasNoFeed bs
+
+abbrev pub HaveNoFeed : List Text → Type 0
+HaveNoFeed [] = Unit {0}
+HaveNoFeed (line ∷ lines) = HasNoFeed line × HaveNoFeed lines
+
+-- the text of lines is split into them, where none holds a line feed: names and texts are printable
+abbrev pub TextHasItsLines : Type 0
+TextHasItsLines = (lines : List Text) → HaveNoFeed lines → split (lines_text 0 lines) ≡ lines

@@ -1,7 +1,7 @@
 //! The lines of the printed text, for faults, which name the line of their statement.
 ghost use Rattle.std.specs.Prelude.{◌≡◌, ◌-◌, ◌^◌, min};
 ghost use Rattle.mx_print.specs.Lines as spec;
-ghost use Rattle.mx_print.specs.Lines.{ArmsStand, StatementsStand};
+ghost use Rattle.mx_print.specs.Lines.{ArmsStand, StatementsStand, TextHasItsLines};
 
 use mx_syntax::stmt::{IfArm, Stmt};
 
@@ -72,8 +72,10 @@ fn arm_height(arm: &IfArm) -> u32
 }
 
 /// The law of lines, for proofs: in the printed text each statement stands at the line that the
-/// heights above it give, and so does each test of an `if` or `elif`. Does nothing when it runs.
+/// heights above it give, and so does each test of an `if` or `elif`; the text, cut at its line
+/// feeds, is those lines. Does nothing when it runs.
 pub fn line_laws()
     ensures statements { StatementsStand }
     ensures arms { ArmsStand }
+    ensures lines { TextHasItsLines }
 {}

@@ -1,4 +1,4 @@
-use Rattle.std.proofs.Common.{◌≡◌, map, take}
+use Rattle.std.proofs.Common.{◌≡◌, take}
 use Rattle.mx_print.specs.Locals.{add_all, names_of}
 use Rattle.mx_print.proofs.locals.add_params.Given as goal
 
