@@ -1,0 +1,7 @@
+mod BindLemmas
+mod ExprLemmas
+mod LineLemmas
+mod ListLemmas
+mod LocalLemmas
+mod StatementLemmas
+mod TextLemmas

@@ -1,0 +1,6 @@
+use Rattle.std.proofs.Common.{◌≡◌, ◌++◌, map, take}
+use Rattle.mx_print.specs.Expressions.{sign_byte}
+use Rattle.mx_print.proofs.expr.push_signs.Given as goal
+
+abbrev pub invariant-loop-sign : goal.invariant-loop-sign
+invariant-loop-sign l = l.out.items ≡ l.fn.out.items ++ map sign_byte (take l.sign-index l.signs)

@@ -1,0 +1,7 @@
+use Rattle.std.proofs.Common.{◌≡◌, ◌++◌, map, take}
+use Rattle.mx_print.specs.Texts.{commas}
+use Rattle.mx_print.specs.Statements.{entry_text}
+use Rattle.mx_print.proofs.statement.push_entries.Given as goal
+
+abbrev pub invariant-loop-i : goal.invariant-loop-i
+invariant-loop-i l = l.out.items ≡ l.fn.out.items ++ commas (map entry_text (take l.i l.entries))

@@ -1,0 +1,6 @@
+use Rattle.std.proofs.Common.{◌≡◌, ◌++◌}
+use Rattle.mx_print.specs.Statements.{margin}
+use Rattle.mx_print.proofs.statement.push_margin.Given as goal
+
+abbrev pub invariant-loop : goal.invariant-loop
+invariant-loop l = l.out.items ≡ l.fn.out.items ++ margin l.counter

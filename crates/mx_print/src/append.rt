@@ -1,0 +1,26 @@
+//! Adding bytes and numbers behind the bytes of a buffer.
+ghost use Rattle.std.specs.Prelude.{◌≡◌, ◌++◌, OnOk};
+ghost use Rattle.std.specs.Fmt.{decimal, signed_decimal};
+
+use std::alloc::AllocError;
+
+/// Adds bytes as they stand.
+pub fn push(out: &mut Vec<u8>, bytes: &[u8]) -> Result<(), AllocError>
+    ensures { OnOk result (out.new.items ≡ out.old.items ++ bytes.now) }
+{
+    out.extend_from_slice(bytes)
+}
+
+/// Adds a number in decimal.
+pub fn push_number(out: &mut Vec<u8>, number: u64) -> Result<(), AllocError>
+    ensures { OnOk result (out.new.items ≡ out.old.items ++ decimal number) }
+{
+    push(out, itoa::Buffer::new().format(number).as_bytes())
+}
+
+/// Adds a whole number in decimal, with `-` in front of a negative one.
+pub fn push_int(out: &mut Vec<u8>, number: i64) -> Result<(), AllocError>
+    ensures { OnOk result (out.new.items ≡ out.old.items ++ signed_decimal number) }
+{
+    push(out, itoa::Buffer::new().format(number).as_bytes())
+}

@@ -1,0 +1,13 @@
+//! The printed text of formulas, parameter lists and values, and the binding of arguments.
+#![tactic(auto)]
+
+mod append;
+pub mod bind;
+mod expr;
+pub mod formula;
+pub mod line;
+pub mod locals;
+mod statement;
+#[cfg(test)]
+mod tests;
+pub mod value;
