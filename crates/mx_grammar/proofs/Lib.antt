@@ -1,0 +1,17 @@
+pub mod Exact
+pub mod Loops
+pub mod Meets
+pub mod Symbols
+pub mod Rules
+pub mod Lists
+pub mod LoopCode
+pub mod LiteralRules
+pub mod AddressRules
+pub mod Texts
+pub mod OpenCount
+pub mod Printable
+pub mod Decimals
+pub mod Answering
+pub mod Lines
+pub mod Languages
+pub mod Limited
