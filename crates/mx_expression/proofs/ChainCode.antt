@@ -1,0 +1,107 @@
+-- What the loops over chains rely on: each of their parts takes a token.
+use Rattle.std.proofs.Common.{◌≡◌, ℕ, ◌<◌, ◌≤◌, Bool, true, false, ◌||◌, List, [], ◌∷◌, length, Ok, Err, refl, sym, ap, ◌∙◌, arith}
+use Rattle.mx_syntax.specs.declared.expr.Expr.{Expr}
+use Rattle.mx_syntax.specs.declared.expr.Arm.{Arm}
+use Rattle.mx_grammar.specs.declared.word.Symbol.TheVariants as symbol
+use Rattle.mx_grammar.specs.declared.trouble.Trouble.{Trouble}
+use Rattle.mx_grammar.specs.Words.{is}
+use Rattle.mx_grammar.specs.Reading.{Words, Outcome, Parser, and_then, ◌>>=◌, ◌>>◌, pure, sees, expect, says}
+use Rattle.mx_grammar.proofs.Exact.{Kinds, Exists, bind_ok, ok_pair}
+use Rattle.mx_grammar.proofs.Meets.{Shorter, accept_shorter}
+use Rattle.mx_grammar.proofs.Lists.{exact_shorter}
+use Rattle.mx_grammar.proofs.LoopCode.{Within}
+use Rattle.mx_expression.specs.Operands.{SignedOf}
+use Rattle.mx_expression.specs.Chains.{Product, Sum, Compare, Not, And}
+use Rattle.mx_expression.specs.Expressions.{Ors, Expressions}
+use Rattle.mx_expression.specs.ChainParsers as spec
+use Rattle.mx_expression.specs.ChainParsers.{product_part, sum_part, comparison, and_part, or_part, Armed, choice, choice_of, armed, conditional_of}
+use Rattle.mx_expression.specs.ExpressionParsers.{ors, signed, products, sums, compares, negations, conjunctions}
+use Rattle.mx_expression.proofs.OperandRules.{signed_begins, some_signed}
+use Rattle.mx_expression.proofs.ChainRules.{product_part_rule, product_tail_begins, some_product, sum_part_rule, sum_tail_begins, some_sum, comparison_rule, compare_tail_begins, some_compare, and_part_rule, and_tail_begins, some_not, or_part_rule, or_tail_begins, some_and}
+use Rattle.mx_expression.proofs.Gather.{gather_more, gather_err, gather_done}
+use Rattle.mx_expression.proofs.ExpressionRules as rules
+use Rattle.mx_expression.proofs.ExpressionRules.{or_level, signed_level}
+
+module _ (d : ℕ) where
+  abbrev Operand : Words → Expr → Type 0
+  Operand = SignedOf (Expressions d) (Ors d)
+
+  some : Exists Operand
+  some = some_signed (Expressions d) (Ors d)
+
+  pub product_shorter : Shorter (product_part (signed d))
+  product_shorter = exact_shorter spec.is_product (product_part_rule some (signed_level d)).exact (product_tail_begins Operand)
+
+  pub sum_shorter : Shorter (sum_part (products d))
+  sum_shorter =
+      exact_shorter spec.is_sum (sum_part_rule (some_product Operand some) (rules.products some (signed_begins (Expressions d) (Ors d)) (signed_level d))).exact (sum_tail_begins (Product Operand))
+
+  pub comparison_shorter : Shorter (comparison (sums d))
+  comparison_shorter =
+      exact_shorter spec.is_compare (comparison_rule (some_sum (Product Operand) (some_product Operand some)) (rules.sums some (signed_begins (Expressions d) (Ors d)) (signed_level d))).exact
+      (compare_tail_begins (Sum (Product Operand)))
+
+  some_comparison : Exists (Compare (Sum (Product Operand)))
+  some_comparison = some_compare (Sum (Product Operand)) (some_sum (Product Operand) (some_product Operand some))
+
+  pub and_shorter : Shorter (and_part (negations d))
+  and_shorter =
+      exact_shorter (is symbol.And) (and_part_rule (some_not (Compare (Sum (Product Operand))) some_comparison) (rules.negations some (signed_begins (Expressions d) (Ors d)) (signed_level d))).exact
+      (and_tail_begins (Not (Compare (Sum (Product Operand)))))
+
+  pub or_shorter : Shorter (or_part (conjunctions d))
+  or_shorter =
+      exact_shorter (is symbol.Or)
+      (or_part_rule (some_and (Not (Compare (Sum (Product Operand)))) (some_not (Compare (Sum (Product Operand))) some_comparison)) (rules.boths some (signed_begins (Expressions d) (Ors d)) (signed_level d))).exact
+      (or_tail_begins (And (Not (Compare (Sum (Product Operand))))))
+
+pub not_shorter : Shorter (expect symbol.Not)
+not_shorter = accept_shorter (says (is symbol.Not))
+
+module _ (part : Parser Expr) where
+  abbrev behind_test : Expr → Parser (Expr × Expr)
+  behind_test test = expect symbol.Else >> (part >>= λ value. pure (choice_of test value))
+
+  pub choice_takes : Within part → Shorter (choice part)
+  unfolding choice
+  choice_takes within ts rest c e =
+      let o = bind_ok (expect symbol.If ts) (λ _. part >>= behind_test) c rest e in
+      let first = accept_shorter (says (is symbol.If)) ts o.1 o.0 o.2 in
+      let t = bind_ok (part o.1) behind_test c rest o.3 in
+      let second = within o.1 t.1 t.0 t.2 in
+      let l = bind_ok (expect symbol.Else t.1) (λ _. part >>= λ value. pure (choice_of t.0 value)) c rest t.3 in
+      let third = accept_shorter (says (is symbol.Else)) t.1 l.1 l.0 l.2 in
+      let v = bind_ok (part l.1) (λ value. pure (choice_of t.0 value)) c rest l.3 in
+      let fourth = within l.1 v.1 v.0 v.2 in
+      omega (arith, ap length (ok_pair v.3).1)
+
+pub choice_shorter : (d : ℕ) → Shorter (choice (ors d))
+choice_shorter d = choice_takes (ors d) (or_level d d (omega arith)).meets.within
+
+-- ---- the arms of a conditional
+
+abbrev pub finish : Armed → Parser Expr
+finish s = pure (conditional_of s.arms s.last)
+
+abbrev pub finished : ℕ → List Arm → Expr → Parser Expr
+finished d arms last = λ ts. and_then (armed (ors d) (record { arms = arms; last = last }) ts) finish
+
+module _ (d : ℕ) (arms : List Arm) (last : Expr) where
+  abbrev so_far : Armed
+  so_far = record { arms = arms; last = last }
+
+  pub arms_more : (c : Expr × Expr) (ts rest : Words) → sees (is symbol.If) ts ≡ true → choice (ors d) ts ≡ Ok (c, rest)
+      → finished d arms last ts ≡ and_then (armed (ors d) (spec.with_choice so_far c) rest) finish
+  arms_more c ts rest h k = ap (λ (o : Outcome Armed). and_then o finish) (gather_more (is symbol.If) (choice (ors d)) spec.with_choice (choice_shorter d) so_far c ts rest h k)
+
+  pub arms_fail : (ts : Words) (e : Trouble) → sees (is symbol.If) ts ≡ true → choice (ors d) ts ≡ Err e → finished d arms last ts ≡ Err e
+  arms_fail ts e h k = ap (λ (o : Outcome Armed). and_then o finish) (gather_err (is symbol.If) (choice (ors d)) spec.with_choice (choice_shorter d) so_far ts e h k)
+
+  pub arms_end : (ts : Words) → sees (is symbol.If) ts ≡ false → finished d arms last ts ≡ Ok (conditional_of arms last, ts)
+  arms_end ts h = ap (λ (o : Outcome Armed). and_then o finish) (gather_done (is symbol.If) (choice (ors d)) spec.with_choice (choice_shorter d) so_far ts h)
+
+-- ---- tests of the next token
+
+pub sees_or : (F G : Kinds) (ts : Words) → sees (λ t. F t || G t) ts ≡ (sees F ts || sees G ts)
+sees_or F G [] = refl
+sees_or F G (t ∷ ts) = refl

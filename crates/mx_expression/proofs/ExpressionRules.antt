@@ -1,0 +1,183 @@
+-- The parser of expressions is exact, with brackets in any number of levels.
+use Rattle.std.proofs.Common.{◌≡◌, ℕ, zero, suc, ◌<◌, ◌≤◌, Bool, true, false, [], ◌∷◌, ◌++◌, refl, arith}
+use Rattle.mx_syntax.specs.declared.expr.Expr.{Expr}
+use Rattle.mx_grammar.specs.declared.word.Symbol.TheVariants as symbol
+use Rattle.mx_grammar.specs.declared.word.Word.{Word}
+use Rattle.mx_grammar.specs.declared.word.Word.TheVariants.{Name, Int, Fix, Text, Symbol}
+use Rattle.mx_grammar.specs.Reading.{Words, Parser, line}
+use Rattle.mx_grammar.proofs.Exact.{Rel, Kinds, Stops, none, Exists, refuse_exact}
+use Rattle.mx_grammar.proofs.Meets.{none_meets}
+use Rattle.mx_grammar.proofs.Rules.{Knot, Rule, plain, stops_rule}
+use Rattle.mx_grammar.proofs.LoopCode.{Within as WithinText}
+use Rattle.mx_grammar.proofs.Lines.{line_rule, some_line}
+use Rattle.mx_grammar.proofs.Texts.{Exactly}
+use Rattle.mx_expression.specs.Operands.{SignedOf}
+use Rattle.mx_expression.specs.Chains.{Product, Sum, Compare, Not, And, Or, Conditional}
+use Rattle.mx_expression.specs.Expressions.{OrOf, Ors, Expressions, expression_text}
+use Rattle.mx_expression.specs.ChainParsers.{product, sum, compare, negated, both, either, or_from, conditional}
+use Rattle.mx_expression.specs.ExpressionParsers.{ors, expression, signed}
+use Rattle.mx_expression.proofs.TokenKinds as kinds
+use Rattle.mx_expression.proofs.TokenKinds.{after_signed, after_or}
+use Rattle.mx_expression.proofs.OperandAtoms.{between, Brackets}
+use Rattle.mx_expression.proofs.OperandRules.{signed_rule, signed_begins, some_signed}
+use Rattle.mx_expression.proofs.ChainRules.{Starts, Begins, after_product, after_sum, after_compare, after_and, after_either, product_rule, product_starts, some_product, sum_rule, sum_starts, some_sum, compare_rule, compare_starts, some_compare, not_rule, not_begins, some_not, and_rule, and_starts, some_and, or_rule, or_starts, some_or}
+use Rattle.mx_expression.proofs.ConditionalRules.{after_conditional, conditional_rule, conditional_begins, has_part, some_conditional}
+
+-- what may not follow an expression, and what begins one
+abbrev pub follows : Kinds
+follows = kinds.follows
+
+abbrev pub begins : Kinds
+begins = kinds.begins
+
+-- ---- tokens
+
+ends_or : (t : Word) → after_or t ≡ false → after_either t ≡ false
+ends_or (Symbol symbol.Times) h = absurd cc
+ends_or (Symbol symbol.Over) h = absurd cc
+ends_or (Symbol symbol.Floor) h = absurd cc
+ends_or (Symbol symbol.Rem) h = absurd cc
+ends_or (Symbol symbol.Plus) h = absurd cc
+ends_or (Symbol symbol.Minus) h = absurd cc
+ends_or (Symbol symbol.Lt) h = absurd cc
+ends_or (Symbol symbol.Le) h = absurd cc
+ends_or (Symbol symbol.Gt) h = absurd cc
+ends_or (Symbol symbol.Ge) h = absurd cc
+ends_or (Symbol symbol.Eq) h = absurd cc
+ends_or (Symbol symbol.Ne) h = absurd cc
+ends_or (Symbol symbol.In) h = absurd cc
+ends_or (Symbol symbol.Is) h = absurd cc
+ends_or (Symbol symbol.Not) h = absurd cc
+ends_or (Symbol symbol.And) h = absurd cc
+ends_or (Symbol symbol.Or) h = absurd cc
+ends_or (Symbol symbol.OpenRound) h = absurd cc
+ends_or (Symbol symbol.OpenSquare) h = absurd cc
+ends_or (Symbol symbol.Dot) h = absurd cc
+ends_or (Symbol symbol.Power) h = absurd cc
+ends_or (Symbol _) h = refl
+ends_or (Name n) h = refl
+ends_or (Int n) h = refl
+ends_or (Fix z) h = refl
+ends_or (Text t) h = refl
+
+or_stops : (ts : Words) → Stops after_or ts → Stops after_either ts
+or_stops [] h = refl
+or_stops (t ∷ ts) h = ends_or t h
+
+ends_conditional : (t : Word) → follows t ≡ false → after_conditional after_or t ≡ false
+ends_conditional (Symbol symbol.If) h = absurd cc
+ends_conditional (Symbol _) h = h
+ends_conditional (Name n) h = refl
+ends_conditional (Int n) h = refl
+ends_conditional (Fix z) h = refl
+ends_conditional (Text t) h = refl
+
+conditional_stops : (ts : Words) → Stops follows ts → Stops (after_conditional after_or) ts
+conditional_stops [] h = refl
+conditional_stops (t ∷ ts) h = ends_conditional t h
+
+-- ---- an `or` from its operands
+
+module _ {E : Type 0} {K : Knot E} {k : ℕ} {S : Rel Expr} {p : E → Parser Expr} (some : Exists S) (start : Starts S) (operand : Rule K k (plain after_signed) S p) where
+  pub products : Rule K k (plain after_product) (Product S) (λ i. product (p i))
+  products = product_rule some operand
+
+  pub sums : Rule K k (plain after_sum) (Sum (Product S)) (λ i. sum (product (p i)))
+  sums = sum_rule (some_product S some) products
+
+  pub compares : Rule K k (plain after_compare) (Compare (Sum (Product S))) (λ i. compare (sum (product (p i))))
+  compares = compare_rule (some_sum (Product S) (some_product S some)) sums
+
+  pub negations : Rule K k (plain after_compare) (Not (Compare (Sum (Product S)))) (λ i. negated (compare (sum (product (p i)))))
+  negations = not_rule (some_compare (Sum (Product S)) (some_sum (Product S) (some_product S some))) (compare_starts (Sum (Product S)) (sum_starts (Product S) (product_starts S start))) compares
+
+  pub boths : Rule K k (plain after_and) (And (Not (Compare (Sum (Product S))))) (λ i. both (negated (compare (sum (product (p i))))))
+  boths = and_rule (some_not (Compare (Sum (Product S))) (some_compare (Sum (Product S)) (some_sum (Product S) (some_product S some)))) negations
+
+  pub or_of_rule : Rule K k (plain after_or) (OrOf S) (λ i. or_from (p i))
+  or_of_rule =
+      stops_rule (λ u rest x h s. or_stops rest s)
+      (or_rule (some_and (Not (Compare (Sum (Product S)))) (some_not (Compare (Sum (Product S))) (some_compare (Sum (Product S)) (some_sum (Product S) (some_product S some))))) boths)
+
+or_begins : (S : Rel Expr) → Starts S → Begins (OrOf S)
+or_begins S start =
+    or_starts (And (Not (Compare (Sum (Product S))))) (and_starts (Not (Compare (Sum (Product S)))) (not_begins (Compare (Sum (Product S))) (compare_starts (Sum (Product S)) (sum_starts (Product S) (product_starts S start)))))
+
+some_or_of : (S : Rel Expr) → Exists S → Exists (OrOf S)
+some_or_of S some =
+    some_or (And (Not (Compare (Sum (Product S))))) (some_and (Not (Compare (Sum (Product S)))) (some_not (Compare (Sum (Product S))) (some_compare (Sum (Product S)) (some_sum (Product S) (some_product S some)))))
+
+-- ---- all levels
+
+abbrev pub between_expressions : ℕ → ℕ → Knot ℕ
+between_expressions = between
+
+ors_begin : (d : ℕ) → Begins (Ors d)
+ors_begin zero u rest x h = absurd h
+ors_begin (suc d) u rest x h = or_begins (SignedOf (Expressions d) (Ors d)) (signed_begins (Expressions d) (Ors d)) u rest x h
+
+pub expressions_begin : (d : ℕ) → Begins (Expressions d)
+expressions_begin d = conditional_begins after_or (Ors d) (ors_begin d)
+
+some_ors : (d : ℕ) → Exists (Ors (suc d))
+some_ors d = some_or_of (SignedOf (Expressions d) (Ors d)) (some_signed (Expressions d) (Ors d))
+
+pub some_expression : (d : ℕ) → Exists (Expressions (suc d))
+some_expression d = some_conditional after_or (Ors (suc d)) (some_ors d)
+
+some_at : (d : ℕ) → 0 < d → Exists (Expressions d)
+some_at zero h = absurd (omega arith)
+some_at (suc d) h = some_expression d
+
+has_or : (d : ℕ) (u : Words) (x : Expr) → Expressions d u x → Exists (Ors d)
+has_or d u x h = has_part after_or (Ors d) u x h
+
+none_at : (d : ℕ) → d ≡ 0 → Exists (Ors d) → ⊥
+none_at zero e h = h.spells
+none_at (suc d) e h = absurd (omega (arith, e))
+
+expression_rule : (d m : ℕ) → Rule (between d m) d (plain after_or) (Ors d) ors → Rule (between d m) d (plain follows) (Expressions d) expression
+unfolding expression
+expression_rule d m r = stops_rule (λ u rest x h s. conditional_stops rest s) (conditional_rule r refl refl)
+
+brackets_by : (d m : ℕ) → d ≤ m → Rule (between d m) d (plain after_or) (Ors d) ors → Brackets d m (Expressions d) (Ors d) expression ors
+brackets_by d m le r = record {
+  order = le;
+  expr = expression_rule d m r;
+  or = r;
+  begun = expressions_begin d;
+  has = has_or d;
+  some = some_at d;
+  never = λ e u x h. none_at d e (has_or d u x h);
+}
+
+pub or_level : (d m : ℕ) → d ≤ m → Rule (between d m) d (plain after_or) (Ors d) ors
+unfolding ors expression
+or_level zero m le = record { exact = refuse_exact (plain after_or); meets = none_meets (ors m) }
+or_level (suc d) zero le = absurd (omega arith)
+or_level (suc d) (suc m) le =
+    let r = or_of_rule (some_signed (Expressions d) (Ors d)) (signed_begins (Expressions d) (Ors d)) (signed_rule (brackets_by d m (omega arith) (or_level d m (omega arith)))) in
+    record { exact = r.exact; meets = r.meets }
+
+pub level : (d m : ℕ) → d ≤ m → Rule (between_expressions d m) d (plain follows) (Expressions d) expression
+level d m le = expression_rule d m (or_level d m le)
+
+pub expression_within : (d : ℕ) → WithinText (expression d)
+expression_within d = (level d d (omega arith)).meets.within
+
+-- ---- for the code's loops
+
+pub brackets : (d : ℕ) → Brackets d d (Expressions d) (Ors d) expression ors
+brackets d = brackets_by d d (omega arith) (or_level d d (omega arith))
+
+pub signed_level : (d : ℕ) → Rule (between d d) (suc d) (plain after_signed) (SignedOf (Expressions d) (Ors d)) signed
+signed_level d = signed_rule (brackets d)
+
+-- ---- whole texts
+
+pub expressions : Exactly expression_text (λ n. line (expression n))
+expressions = record {
+  exact = λ n. (line_rule refl (level n n (omega arith))).exact;
+  meets = λ n m le. (line_rule refl (level n m le)).meets;
+  some = λ n. some_line (some_expression n);
+}

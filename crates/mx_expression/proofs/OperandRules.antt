@@ -1,0 +1,227 @@
+-- The parsers of powers and signs are exact.
+use Rattle.std.proofs.Common.{◌≡◌, ℕ, suc, true, false, List, [], ◌∷◌, ◌++◌, Ok, length, ◌≤◌, refl, sym, ap, subst, ◌∙◌, append_assoc, inl, inr}
+use Rattle.std.proofs.lemmas.List.{append-nil}
+use Rattle.mx_syntax.specs.declared.expr.Expr.{Expr}
+use Rattle.mx_syntax.specs.declared.expr.Expr.TheVariants as expr
+use Rattle.mx_syntax.specs.declared.expr.Trailer.{Trailer}
+use Rattle.mx_syntax.specs.declared.expr.PowerPart.{PowerPart}
+use Rattle.mx_syntax.specs.declared.expr.Sign.{Sign}
+use Rattle.mx_syntax.specs.declared.expr.Sign.TheVariants as sign
+use Rattle.mx_grammar.specs.declared.word.Symbol.TheVariants as symbol
+use Rattle.mx_grammar.specs.declared.word.Word.{Word}
+use Rattle.mx_grammar.specs.declared.word.Word.TheVariants.{Name, Int, Fix, Text, Symbol}
+use Rattle.mx_grammar.specs.Words.{is}
+use Rattle.mx_grammar.specs.Grammar.{Parts}
+use Rattle.mx_grammar.specs.Reading.{Words, Parser, sees}
+use Rattle.mx_grammar.proofs.Exact.{Rel, Kinds, Stops, none, or, Exists, Nothing, Then, Either}
+use Rattle.mx_grammar.proofs.Symbols.{apart, at}
+use Rattle.mx_grammar.proofs.Rules.{Knot, Rule, plain, pure_rule, then_rule, iff_rule, stops_rule, map_rule, choose_rule, behind_rule, Behind, marked, mark, mapped, mapping, sees_mark, some_mapped, some_then}
+use Rattle.mx_grammar.proofs.Lists.{Chained, chain_rule, many_rule}
+use Rattle.mx_expression.specs.Operands.{Atom, Trailing, Post, OneSign, PowerTail, Power, SignedOf}
+use Rattle.mx_expression.specs.OperandParsers.{begins_trailer, is_sign, one_sign, post_of, power_of, signed_by, power_part_of, signs, post, power_part, power, signed_of}
+use Rattle.mx_expression.proofs.TokenKinds.{after_signed, begins_signed}
+use Rattle.mx_expression.proofs.OperandAtoms.{between, Brackets, begins_atom, atom_begins, atom_rule}
+use Rattle.mx_expression.proofs.OperandTrailers.{trailing_begins, trailer_rule}
+
+-- ---- tokens
+
+abbrev after_post : Kinds
+after_post = or begins_trailer none
+
+abbrev after_power : Kinds
+after_power = or (is symbol.Power) after_post
+
+no_sign : (t : Word) → begins_atom t ≡ true → or is_sign none t ≡ false
+no_sign (Symbol symbol.Plus) h = absurd cc
+no_sign (Symbol symbol.Minus) h = absurd cc
+no_sign (Symbol _) h = refl
+no_sign (Int n) h = refl
+no_sign (Fix z) h = refl
+no_sign (Text t) h = refl
+no_sign (Name n) h = refl
+
+atom_first : (t : Word) → begins_atom t ≡ true → begins_signed t ≡ true
+atom_first (Symbol symbol.None) h = refl
+atom_first (Symbol symbol.True) h = refl
+atom_first (Symbol symbol.False) h = refl
+atom_first (Symbol symbol.OpenRound) h = refl
+atom_first (Symbol _) h = absurd cc
+atom_first (Int n) h = refl
+atom_first (Fix z) h = refl
+atom_first (Text t) h = refl
+atom_first (Name n) h = refl
+
+-- what is of one kind is of another
+along : (F G : Kinds) → ((t : Word) → F t ≡ true → G t ≡ true) → (ts : Words) → sees F ts ≡ true → sees G ts ≡ true
+along F G to [] h = absurd cc
+along F G to (t ∷ ts) h = to t h
+
+ends_power : (t : Word) → after_signed t ≡ false → after_power t ≡ false
+ends_power (Symbol symbol.OpenRound) h = absurd cc
+ends_power (Symbol symbol.OpenSquare) h = absurd cc
+ends_power (Symbol symbol.Dot) h = absurd cc
+ends_power (Symbol symbol.Power) h = absurd cc
+ends_power (Symbol _) h = refl
+ends_power (Int n) h = refl
+ends_power (Fix z) h = refl
+ends_power (Text t) h = refl
+ends_power (Name n) h = refl
+
+power_stops : (ts : Words) → Stops after_signed ts → Stops after_power ts
+power_stops [] h = refl
+power_stops (t ∷ ts) h = ends_power t h
+
+-- ---- signs
+
+abbrev SignIs : Rel Sign
+SignIs = Either (Behind symbol.Plus (Nothing sign.Plus)) (Behind symbol.Minus (Nothing sign.Minus))
+
+to_sign : (u : Words) (s : Sign) → SignIs u s → OneSign u s
+to_sign u s (inl h) =
+    let m = marked symbol.Plus (Nothing sign.Plus) u s h in
+    subst (λ (v : Words). OneSign v s) (sym (m.1 ∙ ap (λ (v : Words). Symbol symbol.Plus ∷ v) m.2.0)) (subst (OneSign (Symbol symbol.Plus ∷ [])) (sym m.2.1) OneSign.plus)
+to_sign u s (inr h) =
+    let m = marked symbol.Minus (Nothing sign.Minus) u s h in
+    subst (λ (v : Words). OneSign v s) (sym (m.1 ∙ ap (λ (v : Words). Symbol symbol.Minus ∷ v) m.2.0)) (subst (OneSign (Symbol symbol.Minus ∷ [])) (sym m.2.1) OneSign.minus)
+
+from_sign : (u : Words) (s : Sign) → OneSign u s → SignIs u s
+from_sign _ _ OneSign.plus = inl (mark symbol.Plus (Nothing sign.Plus) [] sign.Plus (refl, refl))
+from_sign _ _ OneSign.minus = inr (mark symbol.Minus (Nothing sign.Minus) [] sign.Minus (refl, refl))
+
+pub sign_rule : {E : Type 0} {K : Knot E} {k : ℕ} → Rule K k (plain none) OneSign (λ _. one_sign)
+unfolding one_sign
+sign_rule =
+    iff_rule to_sign from_sign
+    (choose_rule (is symbol.Plus) (behind_rule symbol.Plus refl (record { tokens = []; tree = sign.Plus; spells = (refl, refl) }) (pure_rule (plain none) sign.Plus))
+    (behind_rule symbol.Minus refl (record { tokens = []; tree = sign.Minus; spells = (refl, refl) }) (pure_rule (plain none) sign.Minus))
+    (λ u rest s h t. sees_mark symbol.Plus (Nothing sign.Plus) (is symbol.Plus) true refl u rest s h)
+    (λ u rest s h t. sees_mark symbol.Minus (Nothing sign.Minus) (is symbol.Plus) false refl u rest s h))
+
+pub sign_begins : (u rest : Words) (s : Sign) → OneSign u s → sees is_sign (u ++ rest) ≡ true
+sign_begins _ rest _ OneSign.plus = refl
+sign_begins _ rest _ OneSign.minus = refl
+
+pub signs_rule : {E : Type 0} {K : Knot E} {k : ℕ} → Rule K k (plain (or is_sign none)) (Parts OneSign) (λ _. signs)
+signs_rule = many_rule is_sign sign_rule sign_begins (λ t h. refl)
+
+signs_begin : (u rest : Words) (ss : List Sign) (s : Sign) (others : List Sign) → Parts OneSign u ss → ss ≡ s ∷ others → sees begins_signed (u ++ rest) ≡ true
+signs_begin _ rest _ s others Parts.none e = absurd cc
+signs_begin _ rest _ s others (Parts.more OneSign.plus ps) e = refl
+signs_begin _ rest _ s others (Parts.more OneSign.minus ps) e = refl
+
+module _ (Inside In : Rel Expr) where
+  -- ---- calls, subscripts and attributes behind an atom
+
+  post_by : (u v : Words) (x : Expr) (ys : List Trailer) → Atom Inside u x → Parts (Trailing Inside In) v ys → Post Inside In (u ++ v) (post_of x ys)
+  post_by u _ x _ a Parts.none = subst (λ (w : Words). Post Inside In w x) (sym (append-nil u)) (Post.alone a)
+  post_by u _ x _ a (Parts.more h ps) = Post.chain a (Parts.more h ps)
+
+  to_post : (u : Words) (x : Expr) → Chained (Atom Inside) (Trailing Inside In) post_of u x → Post Inside In u x
+  to_post u x c = subst (λ (w : Words). Post Inside In w x) (sym c.parts) (subst (Post Inside In (c.left ++ c.right)) (sym c.tree) (post_by c.left c.right c.head c.others c.first c.rest))
+
+  from_post : (u : Words) (x : Expr) → Post Inside In u x → Chained (Atom Inside) (Trailing Inside In) post_of u x
+  from_post _ _ (Post.alone {u} {x} a) = record { left = u; right = []; head = x; others = []; parts = sym (append-nil u); first = a; rest = Parts.none; tree = refl }
+  from_post _ _ (Post.chain {u} {v} {x} {y} {ys} a ps) = record { left = u; right = v; head = x; others = y ∷ ys; parts = refl; first = a; rest = ps; tree = refl }
+
+  post_begins : (u rest : Words) (x : Expr) → Post Inside In u x → sees begins_atom (u ++ rest) ≡ true
+  post_begins _ rest _ (Post.alone {u} {x} a) = atom_begins Inside u rest x a
+  post_begins _ rest _ (Post.chain {u} {v} {x} a ps) = ap (sees begins_atom) (append_assoc u v rest) ∙ atom_begins Inside u (v ++ rest) x a
+
+  some_post : Exists (Post Inside In)
+  some_post = record { tokens = Name [] ∷ []; tree = expr.Name []; spells = Post.alone Atom.name }
+
+  -- ---- powers
+
+  abbrev PowerTailIs : Rel PowerPart
+  PowerTailIs = Then (Parts OneSign) (λ ss. Then (Post Inside In) (λ x. Nothing (power_part_of ss x)))
+
+  to_power_tail : (u : Words) (y : PowerPart) → Behind symbol.Power PowerTailIs u y → PowerTail Inside In u y
+  to_power_tail u y h =
+      let m = marked symbol.Power PowerTailIs u y h in
+      let t = m.2 in
+      let p = mapped (Post Inside In) (power_part_of t.tree) t.right y t.second in
+      subst (λ (w : Words). PowerTail Inside In w y) (sym (m.1 ∙ ap (λ (w : Words). Symbol symbol.Power ∷ w) t.parts)) (subst (PowerTail Inside In (Symbol symbol.Power ∷ t.left ++ t.right)) (sym p.2) (PowerTail.power t.first p.1))
+
+  from_power_tail : (u : Words) (y : PowerPart) → PowerTail Inside In u y → Behind symbol.Power PowerTailIs u y
+  from_power_tail _ _ (PowerTail.power {u} {v} {signs} {x} h p) =
+      mark symbol.Power PowerTailIs (u ++ v) (power_part_of signs x) (record { left = u; right = v; tree = signs; parts = refl; first = h; second = mapping (Post Inside In) (power_part_of signs) v x p })
+
+  pub tail_begins : (u rest : Words) (y : PowerPart) → PowerTail Inside In u y → sees (is symbol.Power) (u ++ rest) ≡ true
+  tail_begins _ rest _ (PowerTail.power h p) = refl
+
+  power_by : (u v : Words) (x : Expr) (ys : List PowerPart) → Post Inside In u x → Parts (PowerTail Inside In) v ys → Power Inside In (u ++ v) (power_of x ys)
+  power_by u _ x _ a Parts.none = subst (λ (w : Words). Power Inside In w x) (sym (append-nil u)) (Power.alone a)
+  power_by u _ x _ a (Parts.more h ps) = Power.chain a (Parts.more h ps)
+
+  to_power : (u : Words) (x : Expr) → Chained (Post Inside In) (PowerTail Inside In) power_of u x → Power Inside In u x
+  to_power u x c = subst (λ (w : Words). Power Inside In w x) (sym c.parts) (subst (Power Inside In (c.left ++ c.right)) (sym c.tree) (power_by c.left c.right c.head c.others c.first c.rest))
+
+  from_power : (u : Words) (x : Expr) → Power Inside In u x → Chained (Post Inside In) (PowerTail Inside In) power_of u x
+  from_power _ _ (Power.alone {u} {x} a) = record { left = u; right = []; head = x; others = []; parts = sym (append-nil u); first = a; rest = Parts.none; tree = refl }
+  from_power _ _ (Power.chain {u} {v} {x} {y} {ys} a ps) = record { left = u; right = v; head = x; others = y ∷ ys; parts = refl; first = a; rest = ps; tree = refl }
+
+  power_begins : (u rest : Words) (x : Expr) → Power Inside In u x → sees begins_atom (u ++ rest) ≡ true
+  power_begins _ rest _ (Power.alone {u} {x} a) = post_begins u rest x a
+  power_begins _ rest _ (Power.chain {u} {v} {x} a ps) = ap (sees begins_atom) (append_assoc u v rest) ∙ post_begins u (v ++ rest) x a
+
+  some_power : Exists (Power Inside In)
+  some_power = record { tokens = Name [] ∷ []; tree = expr.Name []; spells = Power.alone (Post.alone Atom.name) }
+
+  -- ---- signs before a power
+
+  abbrev SignedIs : Rel Expr
+  SignedIs = Then (Parts OneSign) (λ ss. Then (Power Inside In) (λ x. Nothing (signed_by ss x)))
+
+  signed_is : (u v : Words) (ss : List Sign) (x : Expr) → Parts OneSign u ss → Power Inside In v x → SignedOf Inside In (u ++ v) (signed_by ss x)
+  signed_is _ v _ x Parts.none p = SignedOf.alone p
+  signed_is _ v _ x (Parts.more h ps) p = SignedOf.signs (Parts.more h ps) p
+
+  to_signed : (u : Words) (y : Expr) → SignedIs u y → SignedOf Inside In u y
+  to_signed u y t =
+      let p = mapped (Power Inside In) (signed_by t.tree) t.right y t.second in
+      subst (λ (w : Words). SignedOf Inside In w y) (sym t.parts) (subst (SignedOf Inside In (t.left ++ t.right)) (sym p.2) (signed_is t.left t.right t.tree p.0 t.first p.1))
+
+  from_signed : (u : Words) (y : Expr) → SignedOf Inside In u y → SignedIs u y
+  from_signed _ _ (SignedOf.alone {u} {x} p) = record { left = []; right = u; tree = []; parts = refl; first = Parts.none; second = mapping (Power Inside In) (signed_by []) u x p }
+  from_signed _ _ (SignedOf.signs {u} {v} {s} {ss} {x} h p) = record { left = u; right = v; tree = s ∷ ss; parts = refl; first = h; second = mapping (Power Inside In) (signed_by (s ∷ ss)) v x p }
+
+  pub signed_begins : (u rest : Words) (x : Expr) → SignedOf Inside In u x → sees begins_signed (u ++ rest) ≡ true
+  signed_begins _ rest _ (SignedOf.alone {u} {x} p) = along begins_atom begins_signed atom_first (u ++ rest) (power_begins u rest x p)
+  signed_begins _ rest _ (SignedOf.signs {u} {v} {s} {ss} h p) = ap (sees begins_signed) (append_assoc u v rest) ∙ signs_begin u (v ++ rest) (s ∷ ss) s ss h refl
+
+  pub some_signed : Exists (SignedOf Inside In)
+  some_signed = record { tokens = Name [] ∷ []; tree = expr.Name []; spells = SignedOf.alone (Power.alone (Post.alone Atom.name)) }
+
+  -- no sign begins a part of a power, or what is made of it
+  part_stops : {A : Type 0} (R : Rel Expr) (build : Expr → A) → ((u rest : Words) (x : Expr) → R u x → sees begins_atom (u ++ rest) ≡ true)
+      → (v rest : Words) (y : A) → Then R (λ x. Nothing (build x)) v y → Stops (or is_sign none) (v ++ rest)
+  part_stops R build start v rest y h = let m = mapped R build v y h in apart begins_atom (or is_sign none) no_sign (v ++ rest) (start v rest m.0 m.1)
+
+-- ---- the rules
+
+module _ {d m : ℕ} {Inside In : Rel Expr} {inside inner : ℕ → Parser Expr} (b : Brackets d m Inside In inside inner) where
+  pub post_rule : Rule (between d m) (suc d) (plain after_post) (Post Inside In) (λ i. post i (inside i) (inner i))
+  unfolding post
+  post_rule = iff_rule (to_post Inside In) (from_post Inside In) (chain_rule begins_trailer post_of (atom_rule b) (trailer_rule b) (trailing_begins Inside In) (λ t h. refl))
+
+  pub power_part_rule : Rule (between d m) (suc d) (plain after_post) (PowerTail Inside In) (λ i. power_part i (inside i) (inner i))
+  unfolding power_part
+  power_part_rule =
+      iff_rule (to_power_tail Inside In) (from_power_tail Inside In)
+      (behind_rule symbol.Power refl (some_then (record { tokens = []; tree = []; spells = Parts.none }) (λ ss. some_mapped (power_part_of ss) (some_post Inside In)))
+      (then_rule signs_rule (λ ss. map_rule (power_part_of ss) post_rule) (λ ss v rest y h s. part_stops Inside In (Post Inside In) (power_part_of ss) (post_begins Inside In) v rest y h) (λ ss. some_mapped (power_part_of ss) (some_post Inside In))))
+
+  pub power_rule : Rule (between d m) (suc d) (plain after_power) (Power Inside In) (λ i. power i (inside i) (inner i))
+  unfolding power
+  power_rule = iff_rule (to_power Inside In) (from_power Inside In) (chain_rule (is symbol.Power) power_of post_rule power_part_rule (tail_begins Inside In) (at symbol.Power after_post false refl))
+
+  pub signed_rule : Rule (between d m) (suc d) (plain after_signed) (SignedOf Inside In) (λ i. signed_of i (inside i) (inner i))
+  unfolding signed_of
+  signed_rule =
+      stops_rule (λ u rest x h s. power_stops rest s)
+      (iff_rule (to_signed Inside In) (from_signed Inside In)
+      (then_rule signs_rule (λ ss. map_rule (signed_by ss) power_rule) (λ ss v rest y h s. part_stops Inside In (Power Inside In) (signed_by ss) (power_begins Inside In) v rest y h) (λ ss. some_mapped (signed_by ss) (some_power Inside In))))
+
+  -- no more tokens are left than before
+  pub signed_within : (ts rest : Words) (x : Expr) → signed_of d (inside d) (inner d) ts ≡ Ok (x, rest) → length rest ≤ length ts
+  signed_within = signed_rule.meets.within

@@ -1,0 +1,13 @@
+//! Expressions.
+#![tactic(auto)]
+
+mod chain;
+mod chain_tree;
+mod comparison;
+mod conditional;
+mod connective;
+pub mod expression;
+pub mod loops;
+mod operand;
+mod trailer;
+mod tree;
