@@ -1,20 +1,19 @@
 //! The parsers of the formula language.
 #![tactic(auto)]
 
-mod address;
-mod cursor;
+mod block;
+mod display;
+mod formula;
+#[cfg(test)]
+mod formula_tests;
 pub mod laws;
-mod literal;
-mod nesting;
+mod limits;
+mod loops;
+mod parameter;
 mod parse;
-mod refusal;
-mod source;
-mod symbol;
+mod statement;
 #[cfg(test)]
 mod tests;
-mod trouble;
-mod word;
-mod words;
 
-pub use parse::{parse_addr, parse_literal, parse_node};
-pub use refusal::ParseRefusal;
+pub use mx_grammar::refusal::ParseRefusal;
+pub use parse::{parse_addr, parse_expr, parse_formula, parse_literal, parse_node, parse_params};

@@ -4,35 +4,42 @@ ghost use Rattle.std.specs.Prelude.{◌≡◌, ◌≢◌, ◌+◌, length, List,
 ghost use Rattle.mx_value.specs.declared.value.Value.{Value};
 ghost use Rattle.mx_value.specs.declared.value.Segment.{Segment};
 ghost use Rattle.mx_value.specs.declared.node.Node.{Node};
-ghost use Rattle.mx_parse.specs.Reading.{Gives, parsed, line};
-ghost use Rattle.mx_parse.specs.LiteralParsers as spec;
-ghost use Rattle.mx_parse.specs.AddressParsers as address;
-ghost use Rattle.mx_parse.specs.Literals.{literal_text, addr_text, node_text};
-ghost use Rattle.mx_parse.specs.Spelling.{Answers, Unless, InText, Placed};
-ghost use Rattle.mx_parse.specs.declared.refusal.ParseRefusal.{ParseRefusal};
+ghost use Rattle.mx_grammar.specs.Reading.{Gives, parsed, line};
+ghost use Rattle.mx_grammar.specs.LiteralParsers as spec;
+ghost use Rattle.mx_grammar.specs.AddressParsers as address;
+ghost use Rattle.mx_grammar.specs.Literals.{literal_text, addr_text, node_text};
+ghost use Rattle.mx_grammar.specs.Spelling.{Answers, Unless, InText, Placed};
+ghost use Rattle.mx_grammar.specs.declared.refusal.ParseRefusal.{ParseRefusal};
+ghost use Rattle.mx_grammar.specs.Limits.{AnswersWithin};
+ghost use Rattle.mx_syntax.specs.declared.expr.Expr.{Expr};
+ghost use Rattle.mx_syntax.specs.declared.stmt.Formula.{Formula};
+ghost use Rattle.mx_syntax.specs.declared.stmt.Params.{Params};
+ghost use Rattle.mx_expression.specs.Expressions.{expression_text};
+ghost use Rattle.mx_expression.specs.ExpressionParsers as expressions;
+ghost use Rattle.mx_parse.specs.Insides.{formula_by, params_by};
+ghost use Rattle.mx_parse.specs.Formulas.{formula_text, params_text};
+ghost use Rattle.mx_parse.specs.FormulaLimits.{expression_limits, formula_limits, params_limits};
 
-use crate::cursor::Cursor;
-use crate::refusal::ParseRefusal;
-use crate::source::{open, place};
-use crate::trouble::Trouble;
-use crate::word::{Symbol, Word};
-use crate::{address, literal};
+use crate::formula::{formula, space_params};
+use crate::limits::is_long;
+use crate::loops::{expression_within, list_within, maybe_within};
+use crate::statement::Inside;
+use mx_expression::expression::expression;
+use mx_grammar::cursor::Cursor;
+use mx_grammar::refusal::ParseRefusal;
+use mx_grammar::source::{open, refusal};
+use mx_grammar::trouble::Trouble;
+use mx_grammar::word::{Symbol, Word};
+use mx_grammar::{address, literal};
 use mx_lex::Token;
+use mx_print::formula::{print, print_params};
+use mx_syntax::expr::Expr;
+use mx_syntax::stmt::{Formula, Params};
 use mx_value::node::Node;
 use mx_value::value::{Addr, Value};
 use std::alloc::Global;
 
-fn refusal(tokens: &[Token], trouble: Trouble) -> ParseRefusal
-    requires { InText (length tokens.now) trouble }
-    ensures { Placed tokens.now trouble result }
-{
-    match trouble {
-        Trouble::Unexpected(left) => ParseRefusal::Unexpected(place(tokens, left)),
-        Trouble::NoMemory => ParseRefusal::NoMemory,
-    }
-}
-
-#[tactic(auto, unfolding(crate::specs::Reading::line, crate::specs::Reading::text))]
+#[tactic(auto, unfolding(mx_grammar::specs::Reading::line, mx_grammar::specs::Reading::text))]
 fn literal_of(alloc: Global, words: &[Word]) -> Result<Value, Trouble>
     ensures { Gives (parsed (λ n. line (spec.literal n)) words.now) result }
 {
@@ -46,7 +53,7 @@ fn literal_of(alloc: Global, words: &[Word]) -> Result<Value, Trouble>
     Ok(value)
 }
 
-#[tactic(auto, unfolding(crate::specs::Reading::line, crate::specs::Reading::text))]
+#[tactic(auto, unfolding(mx_grammar::specs::Reading::line, mx_grammar::specs::Reading::text))]
 fn addr_of(alloc: Global, words: &[Word]) -> Result<Addr, Trouble>
     ensures { Gives (parsed (λ n. line (address.addr (spec.literal (n + 1)))) words.now) result }
 {
@@ -61,7 +68,7 @@ fn addr_of(alloc: Global, words: &[Word]) -> Result<Addr, Trouble>
     Ok(addr)
 }
 
-#[tactic(auto, unfolding(crate::specs::Reading::line, crate::specs::Reading::text))]
+#[tactic(auto, unfolding(mx_grammar::specs::Reading::line, mx_grammar::specs::Reading::text))]
 fn node_of(alloc: Global, words: &[Word]) -> Result<Node, Trouble>
     ensures { Gives (parsed (λ n. line (address.node_by (spec.literal (n + 1)))) words.now) result }
 {
@@ -74,6 +81,141 @@ fn node_of(alloc: Global, words: &[Word]) -> Result<Node, Trouble>
         return Err(Trouble::Unexpected(left.left()));
     }
     Ok(node)
+}
+
+/// How many loops may stand in one another.
+const MOST_LOOPS: u8 = 8;
+
+#[tactic(auto, unfolding(mx_grammar::specs::Reading::line, mx_grammar::specs::Reading::text))]
+fn expression_of(alloc: Global, words: &[Word]) -> Result<Expr, Trouble>
+    ensures { Gives (parsed (λ n. line (expressions.expression n)) words.now) result }
+{
+    let mut left = Cursor::new(words);
+    let expression = expression(alloc, &mut left, words.len() + 1)?;
+    left.expect(Symbol::Newline)?;
+    left.expect(Symbol::End)?;
+    if left.left() > 0 {
+        return Err(Trouble::Unexpected(left.left()));
+    }
+    Ok(expression)
+}
+
+#[tactic(auto, unfolding(mx_grammar::specs::Reading::text))]
+fn formula_of(alloc: Global, words: &[Word]) -> Result<Formula, Trouble>
+    ensures { Gives (parsed formula_by words.now) result }
+{
+    let mut left = Cursor::new(words);
+    let levels = words.len() + 1;
+    let inside = Inside {
+        brackets: levels + 1,
+        displays: false,
+    };
+    let formula = formula(alloc, &mut left, inside, levels + 1)?;
+    left.expect(Symbol::End)?;
+    if left.left() > 0 {
+        return Err(Trouble::Unexpected(left.left()));
+    }
+    Ok(formula)
+}
+
+#[tactic(auto, unfolding(mx_grammar::specs::Reading::text))]
+fn params_of(alloc: Global, words: &[Word]) -> Result<Params, Trouble>
+    ensures { Gives (parsed params_by words.now) result }
+{
+    let mut left = Cursor::new(words);
+    let levels = words.len() + 1;
+    let inside = Inside {
+        brackets: levels + 1,
+        displays: true,
+    };
+    let params = space_params(alloc, &mut left, inside, levels + 1)?;
+    left.expect(Symbol::End)?;
+    if left.left() > 0 {
+        return Err(Trouble::Unexpected(left.left()));
+    }
+    Ok(params)
+}
+
+fn read_expression(alloc: Global, source: &[u8]) -> Result<Expr, ParseRefusal>
+    ensures { result ≢ Err ParseRefusal.NoMemory → AnswersWithin expression_text expression_limits source.now result }
+{
+    let source = open(alloc, source)?;
+    let expression = match expression_of(alloc, source.words.as_slice()) {
+        Ok(expression) => expression,
+        Err(trouble) => return Err(refusal(source.tokens.as_slice(), trouble)),
+    };
+    if !expression_within(&expression, MOST_LOOPS) {
+        return Err(ParseRefusal::TooManyLoops);
+    }
+    Ok(expression)
+}
+
+fn read_formula(alloc: Global, source: &[u8]) -> Result<Formula, ParseRefusal>
+    ensures { result ≢ Err ParseRefusal.NoMemory → AnswersWithin formula_text formula_limits source.now result }
+{
+    let source = open(alloc, source)?;
+    let formula = match formula_of(alloc, source.words.as_slice()) {
+        Ok(formula) => formula,
+        Err(trouble) => return Err(refusal(source.tokens.as_slice(), trouble)),
+    };
+    if !list_within(formula.body.as_slice(), MOST_LOOPS) {
+        return Err(ParseRefusal::TooManyLoops);
+    }
+    let text = print(alloc, &formula)?;
+    if is_long(alloc, text.as_slice())? {
+        return Err(ParseRefusal::PrintsTooLong);
+    }
+    Ok(formula)
+}
+
+fn read_params(alloc: Global, source: &[u8]) -> Result<Params, ParseRefusal>
+    ensures { result ≢ Err ParseRefusal.NoMemory → AnswersWithin params_text params_limits source.now result }
+{
+    let source = open(alloc, source)?;
+    let params = match params_of(alloc, source.words.as_slice()) {
+        Ok(params) => params,
+        Err(trouble) => return Err(refusal(source.tokens.as_slice(), trouble)),
+    };
+    if !maybe_within(&params.body, MOST_LOOPS) {
+        return Err(ParseRefusal::TooManyLoops);
+    }
+    let text = print_params(alloc, &params)?;
+    if is_long(alloc, text.as_slice())? {
+        return Err(ParseRefusal::PrintsTooLong);
+    }
+    Ok(params)
+}
+
+/// The expression that the source spells on one line.
+pub fn parse_expr(alloc: Global, source: &[u8]) -> Result<Expr, ParseRefusal>
+    // The answer is what the source spells within the limits, or the first trouble.
+    ensures found { result ≢ Err ParseRefusal.NoMemory → AnswersWithin expression_text expression_limits source.now result }
+    // What is spelled is the answer, and so is the first trouble, unless memory runs out.
+    ensures only { (answer : Result Expr ParseRefusal) → AnswersWithin expression_text expression_limits source.now answer → Unless answer result }
+{
+    read_expression(alloc, source)
+}
+
+/// The formula of cells that the source spells: the parameters, and behind them `=` with an expression on the line or `:` with
+/// statements.
+pub fn parse_formula(alloc: Global, source: &[u8]) -> Result<Formula, ParseRefusal>
+    // The answer is what the source spells within the limits, or the first trouble.
+    ensures found { result ≢ Err ParseRefusal.NoMemory → AnswersWithin formula_text formula_limits source.now result }
+    // What is spelled is the answer, and so is the first trouble, unless memory runs out.
+    ensures only { (answer : Result Formula ParseRefusal) → AnswersWithin formula_text formula_limits source.now answer → Unless answer result }
+{
+    read_formula(alloc, source)
+}
+
+/// The parameters of a space that the source spells, at least one, maybe with the formula of its items behind them. That one may
+/// return a display.
+pub fn parse_params(alloc: Global, source: &[u8]) -> Result<Params, ParseRefusal>
+    // The answer is what the source spells within the limits, or the first trouble.
+    ensures found { result ≢ Err ParseRefusal.NoMemory → AnswersWithin params_text params_limits source.now result }
+    // What is spelled is the answer, and so is the first trouble, unless memory runs out.
+    ensures only { (answer : Result Params ParseRefusal) → AnswersWithin params_text params_limits source.now answer → Unless answer result }
+{
+    read_params(alloc, source)
 }
 
 /// The literal that the source spells: None, True, False, a number, a text or a tuple of literals, on one line. The number

@@ -1,5 +1,5 @@
-use Rattle.mx_parse.proofs.Languages.{addresses}
-use Rattle.mx_parse.proofs.Texts.{one_tree}
+use Rattle.mx_grammar.proofs.Languages.{addresses}
+use Rattle.mx_grammar.proofs.Texts.{one_tree}
 use Rattle.mx_parse.proofs.laws.one_addr.Goals as goal
 
 pub returns : goal.returns

@@ -1,5 +1,5 @@
-use Rattle.mx_parse.proofs.Languages.{literals}
-use Rattle.mx_parse.proofs.Texts.{one_tree}
+use Rattle.mx_grammar.proofs.Languages.{literals}
+use Rattle.mx_grammar.proofs.Texts.{one_tree}
 use Rattle.mx_parse.proofs.laws.one_literal.Goals as goal
 
 pub returns : goal.returns

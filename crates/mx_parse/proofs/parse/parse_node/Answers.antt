@@ -1,6 +1,6 @@
 use Rattle.std.proofs.lemmas.Result.{err_from_is_err_and}
-use Rattle.mx_parse.proofs.Answering.{only_unread, found_read, only_read, text_of_slice, found_refused, only_refused}
-use Rattle.mx_parse.proofs.Languages.{nodes}
+use Rattle.mx_grammar.proofs.Answering.{only_unread, found_read, only_read, text_of_slice, found_refused, only_refused}
+use Rattle.mx_grammar.proofs.Languages.{nodes}
 use Rattle.mx_parse.proofs.parse.parse_node.Goals as goal
 
 pub returns-in_err-source-clause-only : goal.returns-in_err-source-clause-only

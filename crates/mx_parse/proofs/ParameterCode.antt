@@ -1,0 +1,51 @@
+-- The steps of the code of parameter lists.
+use Rattle.std.proofs.Common.{◌≡◌, ℕ, Bool, true, false, List, Option, Some, None, Ok, Err, length, refl}
+use Rattle.mx_value.specs.declared.value.Value.{Value}
+use Rattle.mx_syntax.specs.declared.stmt.Param.{Param}
+use Rattle.mx_grammar.specs.declared.word.Symbol.TheVariants as symbol
+use Rattle.mx_grammar.specs.declared.word.Word.{Word}
+use Rattle.mx_grammar.specs.declared.word.Word.TheVariants.{Name}
+use Rattle.mx_grammar.specs.declared.trouble.Trouble.{Trouble}
+use Rattle.mx_grammar.specs.Words.{is}
+use Rattle.mx_grammar.specs.Reading.{Words, Parser, ◌>>=◌, pure, accept, taken}
+use Rattle.mx_grammar.specs.LiteralParsers.{literal}
+use Rattle.mx_grammar.specs.AddressParsers.{name_of}
+use Rattle.mx_grammar.proofs.Loops.{Shrinks}
+use Rattle.mx_grammar.proofs.Meets.{accept_shorter}
+use Rattle.mx_grammar.proofs.LoopCode.{Within}
+use Rattle.mx_grammar.proofs.LiteralRules.{literal_within}
+use Rattle.mx_parse.specs.Following.{unless}
+use Rattle.mx_parse.specs.ParameterParsers.{is_named, has_default, new_name, param_of, optional, param_rest, param, param_turn}
+use Rattle.mx_parse.proofs.StatementLengths.{shorter_within, pure_within, then_within, behind_shorter, choose_within}
+use Rattle.mx_parse.proofs.FollowingCode.{turn_shrinks, refined, accept_ok, accept_err}
+
+name_by : (before : List Param) (t : Word) → new_name before t ≡ refined (name_of t) (λ n. unless (is_named before n) n)
+name_by before (Name n) = refl
+name_by before _ = refl
+
+pub name_ok : (before : List Param) (ts rest : Words) (n : List ℕ) → accept name_of ts ≡ Ok (n, rest) → accept (new_name before) ts ≡ taken rest (length ts) (unless (is_named before n) n)
+name_ok before = accept_ok name_of (new_name before) (λ n. unless (is_named before n) n) (name_by before)
+
+pub name_err : (before : List Param) (ts : Words) (e : Trouble) → accept name_of ts ≡ Err e → accept (new_name before) ts ≡ Err e
+name_err before = accept_err name_of (new_name before) (λ n. unless (is_named before n) n) (name_by before)
+
+module _ (literals : Parser Value) (w : Within literals) where
+  optional_within : (n : List ℕ) → Within (optional literals n)
+  unfolding optional
+  optional_within n =
+      shorter_within (optional literals n)
+      (behind_shorter symbol.Assign (literals >>= λ v. pure (param_of n (Some v))) (then_within literals (λ v. pure (param_of n (Some v))) w (λ v. pure_within (param_of n (Some v)))))
+
+  rest_within : (must : Bool) (n : List ℕ) → Within (param_rest literals must n)
+  rest_within true n = optional_within n
+  rest_within false n = choose_within (is symbol.Assign) (optional literals n) (pure (param_of n None)) (optional_within n) (pure_within (param_of n None))
+
+  param_within : (before : List Param) → Within (param literals before)
+  unfolding param
+  param_within before = then_within (accept (new_name before)) (param_rest literals (has_default before)) (shorter_within (accept (new_name before)) (accept_shorter (new_name before))) (rest_within (has_default before))
+
+  pub param_shrinks : Shrinks (param_turn literals)
+  param_shrinks = turn_shrinks symbol.CloseRound (param literals) param_within
+
+pub param_shorter : (levels : ℕ) → Shrinks (param_turn (literal levels))
+param_shorter levels = param_shrinks (literal levels) (literal_within levels)

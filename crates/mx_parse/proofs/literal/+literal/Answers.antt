@@ -1,9 +1,0 @@
-use Rattle.std.proofs.Common.{arith}
-use Rattle.mx_parse.specs.Reading.{levels}
-use Rattle.mx_parse.specs.LiteralParsers.{literal}
-use Rattle.mx_parse.proofs.LoopCode.{deeper}
-use Rattle.mx_parse.proofs.literal.+literal.Goals as goal
-
-pub returns : goal.returns
-unfolding levels
-returns t c = rw (deeper (λ n. literal n c.args.tokens.now) c.args.levels (omega arith)) c.rule.ensures

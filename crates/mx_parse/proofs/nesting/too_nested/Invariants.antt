@@ -1,6 +1,0 @@
-use Rattle.std.proofs.Common.{drop, ◌≤◌}
-use Rattle.mx_parse.proofs.OpenCount.{Keeps}
-use Rattle.mx_parse.proofs.nesting.too_nested.Given as goal
-
-abbrev pub invariant-loop-i : goal.invariant-loop-i
-invariant-loop-i l = record { keeps : Keeps 64 l.count (drop l.i l.words) l.words; few : l.count ≤ 64 }

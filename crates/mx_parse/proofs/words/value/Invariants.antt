@@ -1,6 +1,0 @@
-use Rattle.std.proofs.Common.{◌≡◌, drop}
-use Rattle.mx_lex.specs.Spans.{digits_from}
-use Rattle.mx_parse.proofs.words.value.Given as goal
-
-abbrev pub invariant-loop-b : goal.invariant-loop-b
-invariant-loop-b l = digits_from l.value (drop l.b-index l.digits) ≡ digits_from 0 l.digits
