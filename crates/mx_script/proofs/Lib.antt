@@ -1,0 +1,5 @@
+pub mod Lists
+pub mod HeadRules
+pub mod HeadAnswers
+pub mod OneHead
+pub mod OneCommand
