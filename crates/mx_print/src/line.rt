@@ -64,8 +64,9 @@ pub fn arms_height(arms: &[IfArm]) -> u32
     total
 }
 
+/// How many lines an arm of an `if` takes, its test's among them, or the greatest u32 where that is passed.
 #[cycle(lines)]
-fn arm_height(arm: &IfArm) -> u32
+pub fn arm_height(arm: &IfArm) -> u32
     ensures { result ≡ min (spec.arm_height arm.now) (2 ^ 32 - 1) }
 {
     body_height(arm.body.as_slice()).saturating_add(1)

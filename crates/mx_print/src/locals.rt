@@ -20,6 +20,15 @@ pub fn locals_of(alloc: Global, formula: &Formula) -> Result<Vec<Label>, AllocEr
     Ok(names)
 }
 
+/// The names that the statements bind, each once, in the order in which they are bound first.
+pub fn names_bound(alloc: Global, body: &[Stmt]) -> Result<Vec<Label>, AllocError>
+    ensures { IfOk result (λ names. names.items ≡ add_all [] (flat (map bound_by body.now))) }
+{
+    let mut names = Vec::new(alloc);
+    add_body(&mut names, body)?;
+    Ok(names)
+}
+
 /// Adds a name where it is not among the names.
 fn add_name(names: &mut Vec<Label>, name: &Label) -> Result<(), AllocError>
     ensures { OnOk result (names.new.items ≡ add names.old.items name.now) }

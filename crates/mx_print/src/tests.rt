@@ -2,16 +2,17 @@
 use crate::bind::{BindRefusal, bind};
 use crate::formula::{print, print_params};
 use crate::line::{body_height, first_line};
-use crate::locals::locals_of;
+use crate::locals::{locals_of, names_bound};
 use crate::value::push_value;
 use mx_list::items::Items;
 use mx_list::list::List;
-use mx_syntax::first::{FirstCommand, read_first};
-use mx_syntax::stmt::{Formula, Param, Params};
+use mx_list::shared::Shared;
+use mx_syntax::expr::{Arm, Expr, SumOp, SumPart};
+use mx_syntax::stmt::{Formula, Param, Params, Stmt};
 use mx_value::fixed::Fixed;
 use mx_value::label::Label;
 use mx_value::value::Value;
-use std::alloc::{AllocError, Global};
+use std::alloc::Global;
 use std::test::Fail;
 
 fn value_text(alloc: Global, value: &Value) -> Result<Vec<u8>, Fail> {
@@ -132,92 +133,89 @@ fn a_wrong_count_does_not_bind(rt: HostRuntime) -> Result<(), Fail> {
     Ok(())
 }
 
-/// Formulas in odd spacing and parentheses, and their printed forms.
-const PRINTED: [(&str, &str); 24] = [
-    ("cells f(n)=n", "(n) = n\n"),
-    ("cells f( n ) = ((n))", "(n) = n\n"),
-    (
-        "cells fib(n) = n if n<2 else fib( n-1 )+fib(n-2)",
-        "(n) = n if n < 2 else fib(n - 1) + fib(n - 2)\n",
-    ),
-    ("cells f(n) = 1+2-3", "(n) = 1 + 2 - 3\n"),
-    ("cells f(n) = 1-(2-3)", "(n) = 1 - (2 - 3)\n"),
-    ("cells f(n) = (1-2)-3", "(n) = (1 - 2) - 3\n"),
-    ("cells f(n) = (2*n)+(3*n)", "(n) = 2 * n + 3 * n\n"),
-    ("cells f(n) = 2*(n+3)*n", "(n) = 2 * (n + 3) * n\n"),
-    ("cells f(n) = (2*3)*4", "(n) = (2 * 3) * 4\n"),
-    ("cells f(n) = 2*(3*4)", "(n) = 2 * (3 * 4)\n"),
-    ("cells f(n) = (1+2)+3", "(n) = (1 + 2) + 3\n"),
-    ("cells f(n) = g( n )", "(n) = g(n)\n"),
-    ("cells f(n) = g((n+1)*2)", "(n) = g((n + 1) * 2)\n"),
-    ("cells f(n) = g(h(n))*2", "(n) = g(h(n)) * 2\n"),
-    (
-        "cells f(x) = g(x if x<1 else 2)",
-        "(x) = g(x if x < 1 else 2)\n",
-    ),
-    (
-        "cells f(n) = 1 if n<=2 else 0",
-        "(n) = 1 if n <= 2 else 0\n",
-    ),
-    ("cells f(n) = 1 if n>2 else 0", "(n) = 1 if n > 2 else 0\n"),
-    (
-        "cells f(n) = 1 if n>=2 else 0",
-        "(n) = 1 if n >= 2 else 0\n",
-    ),
-    (
-        "cells f(n) = 1 if n==2 else 0",
-        "(n) = 1 if n == 2 else 0\n",
-    ),
-    (
-        "cells f(n) = 1 if n!=2 else 0",
-        "(n) = 1 if n != 2 else 0\n",
-    ),
-    (
-        "cells f(n) = 1 if n<2 else 2 if n<3 else 4",
-        "(n) = 1 if n < 2 else 2 if n < 3 else 4\n",
-    ),
-    (
-        "cells f(n) = 1 if n<2 else (2 if n<3 else 4)",
-        "(n) = 1 if n < 2 else (2 if n < 3 else 4)\n",
-    ),
-    (
-        "cells f(n) = (1 if n<2 else 2) if n<3 else 4",
-        "(n) = (1 if n < 2 else 2) if n < 3 else 4\n",
-    ),
-    (
-        "cells f(n) = (1 if n<2 else 2)+1",
-        "(n) = (1 if n < 2 else 2) + 1\n",
-    ),
-];
-
-fn formula(alloc: Global, source: &str) -> Result<Formula, AllocError> {
-    match read_first(alloc, source.as_bytes()) {
-        Ok(FirstCommand::Cells(_, formula)) => Ok(formula),
-        _ => Err(AllocError),
-    }
+fn name(alloc: Global, name: &str) -> Result<Expr, Fail> {
+    Ok(Expr::Name(Label::new(alloc, name.as_bytes())?))
 }
 
-fn printed(alloc: Global, source: &str) -> Result<Vec<u8>, AllocError> {
-    let formula = formula(alloc, source)?;
-    print(alloc, &formula)
+/// `n - (n - 1) if n else 1`, which needs parentheses.
+fn choice(alloc: Global) -> Result<Expr, Fail> {
+    let inner = Expr::Sum {
+        first: Shared::new(alloc, name(alloc, "n")?)?,
+        rest: List::from_vec(
+            alloc,
+            vec![in alloc;
+                SumPart {
+                    op: SumOp::Minus,
+                    of: Expr::Lit(Value::Int(1))
+                },
+            ]?,
+        )?,
+    };
+    let value = Expr::Sum {
+        first: Shared::new(alloc, name(alloc, "n")?)?,
+        rest: List::from_vec(
+            alloc,
+            vec![in alloc;
+                SumPart {
+                    op: SumOp::Minus,
+                    of: inner
+                },
+            ]?,
+        )?,
+    };
+    let test = name(alloc, "n")?;
+    Ok(Expr::Cond {
+        arms: List::from_vec(alloc, vec![in alloc; Arm { value, test }]?)?,
+        last: Shared::new(alloc, Expr::Lit(Value::Int(1)))?,
+    })
+}
+
+/// A formula of these statements with the one parameter `n`.
+fn formula(alloc: Global, body: Vec<Stmt>) -> Result<Formula, Fail> {
+    let params = vec![in alloc; param(alloc, "n", None)?]?;
+    Ok(Formula {
+        params: List::from_vec(alloc, params)?,
+        body: List::from_vec(alloc, body)?,
+    })
 }
 
 #[test]
-fn formulas_are_printed_in_one_form(rt: HostRuntime) -> Result<(), Fail> {
-    for (source, text) in PRINTED {
-        let out = printed(rt.alloc(), source)?;
-        assert_eq!(rt; out.as_slice(), text.as_bytes());
-    }
+fn a_formula_of_one_line(rt: HostRuntime) -> Result<(), Fail> {
+    let value = choice(rt.alloc())?;
+    let body = vec![in rt.alloc(); Stmt::Return(Some(value))]?;
+    let one = formula(rt.alloc(), body)?;
+    let text = print(rt.alloc(), &one)?;
+    assert_eq!(rt;
+        text.as_slice(),
+        b"(n) = n - (n - 1) if n else 1\n".as_slice()
+    );
+    assert_eq!(rt; locals_of(rt.alloc(), &one)?.len(), 1);
+    assert_eq!(rt; names_bound(rt.alloc(), one.body.as_slice())?.len(), 0);
+    assert_eq!(rt; first_line(one.body.as_slice()), 1);
+    assert_eq!(rt; body_height(one.body.as_slice()), 1);
     Ok(())
 }
 
+/// `m = n` and `return m`.
+fn two_statements(alloc: Global) -> Result<Vec<Stmt>, Fail> {
+    let mut body = Vec::new(alloc);
+    body.push(Stmt::Assign(Label::new(alloc, b"m")?, name(alloc, "n")?))?;
+    body.push(Stmt::Return(Some(name(alloc, "m")?)))?;
+    Ok(body)
+}
+
 #[test]
-fn a_parameter_is_a_local(rt: HostRuntime) -> Result<(), Fail> {
-    let square = formula(rt.alloc(), "cells f(n) = n * n")?;
-    let names = locals_of(rt.alloc(), &square)?;
-    assert_eq!(rt; names.len(), 1);
-    assert_eq!(rt; first_line(square.body.as_slice()), 1);
-    assert_eq!(rt; body_height(square.body.as_slice()), 1);
+fn statements_have_a_line_each(rt: HostRuntime) -> Result<(), Fail> {
+    let two = formula(rt.alloc(), two_statements(rt.alloc())?)?;
+    let text = print(rt.alloc(), &two)?;
+    assert_eq!(rt;
+        text.as_slice(),
+        b"(n):\n    m = n\n    return m\n".as_slice()
+    );
+    assert_eq!(rt; locals_of(rt.alloc(), &two)?.len(), 2);
+    assert_eq!(rt; names_bound(rt.alloc(), two.body.as_slice())?.len(), 1);
+    assert_eq!(rt; first_line(two.body.as_slice()), 2);
+    assert_eq!(rt; body_height(two.body.as_slice()), 2);
     Ok(())
 }
 

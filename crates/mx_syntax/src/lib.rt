@@ -1,6 +1,5 @@
-//! The trees of formulas, and the reader of the first forms of a command.
+//! The trees of formulas.
 #![tactic(auto)]
 
 pub mod expr;
-pub mod first;
 pub mod stmt;
