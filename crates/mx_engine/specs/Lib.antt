@@ -1,4 +1,2 @@
-pub mod Tasks
 pub mod Items
 pub mod Edits
-pub mod Frames

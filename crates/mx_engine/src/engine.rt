@@ -1,16 +1,18 @@
 //! The engine: a model text, and what is held for it.
 ghost use Rattle.std.specs.Prelude.{◌≡◌, ◌-◌, [], length, IfOk, OnOk, OnErr};
 ghost use Rattle.mx_meaning.specs.Answers.{Answer};
+ghost use Rattle.mx_meaning.specs.Meaning.{bound_node};
 ghost use Rattle.mx_meaning.specs.Model.{define};
 ghost use Rattle.mx_meaning.specs.State.{State, IsRightState, most_held};
 ghost use Rattle.mx_engine.specs.Edits.{applied, refusal_of, IsRefusedBy, first_limit};
 ghost use Rattle.mx_engine.specs.declared.edit.Edit.TheVariants.{SetCells};
 
 use crate::edit::{Edit, EditRefusal, Limit, holds_item};
-use crate::machine::{Held, eval};
-use crate::steps::Steps;
-use crate::text::ModelText;
 use indexmap::IndexMap;
+use mx_machine::binding::bound_form;
+use mx_machine::machine::{Held, eval};
+use mx_machine::steps::Steps;
+use mx_model::text::ModelText;
 use mx_syntax::stmt::Formula;
 use mx_value::label::Label;
 use mx_value::name::is_name;
@@ -122,22 +124,23 @@ impl Engine {
         Ok(dropped)
     }
 
-    /// The value of a node. It is held from then on, with the values of all nodes that it rests on.
+    /// The value of a node, whose arguments are bound first. It is held from then on, with the values of all nodes that it rests on.
     pub fn eval<L: Ledger>(
         &mut self,
         node: &Node,
         steps: &mut Steps<L>,
     ) -> Result<Value, EvalRefusal>
         ensures right { IsRightState self.new }
-        ensures answer { Answer self.old.text self.old.held self.old.limit most_held node.now result self.new.held (steps.new - steps.old) }
+        ensures answer { Answer self.old.text self.old.held self.old.limit most_held (bound_node self.old.text node.now) result self.new.held (steps.new - steps.old) }
         ensures same { self.new ≡ record self.old { held = self.new.held } }
     {
+        let form = bound_form(self.alloc, &self.text, node)?;
         eval(
             self.alloc,
             &self.text,
             self.limit,
             MOST_HELD,
-            node,
+            &form,
             &mut self.held,
             steps,
         )

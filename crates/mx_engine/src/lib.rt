@@ -1,15 +1,11 @@
-//! The engine: cells by name, values that are kept, and evaluation on an explicit stack.
+//! The engine: a model text, its edits, and the values that are kept for it.
 #![tactic(auto)]
 
-mod arithmetic;
-mod at_hand;
-mod copies;
 pub mod edit;
 pub mod engine;
-mod formula;
-pub mod frame;
-mod machine;
-pub mod steps;
 #[cfg(test)]
 mod tests;
-pub mod text;
+#[cfg(test)]
+mod trees;
+
+pub use mx_machine::steps;

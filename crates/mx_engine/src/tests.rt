@@ -3,13 +3,14 @@ ghost use Rattle.std.specs.Prelude.{◌≡◌, ◌<◌};
 
 use crate::edit::{Edit, EditRefusal};
 use crate::engine::Engine;
-use crate::steps::Steps;
-use mx_list::list::List;
-use mx_syntax::first::{FirstCommand, read_first};
-use mx_syntax::stmt::Formula;
+use crate::trees::{
+    call, call_before, choice, formula, int, label, name, node, of_n, param, path, product, sum,
+};
+use mx_machine::steps::Steps;
+use mx_syntax::expr::{CmpOp, ProductOp, SumOp};
+use mx_syntax::stmt::{Formula, Stmt};
 use mx_value::fault::FaultKind;
-use mx_value::label::Label;
-use mx_value::node::{Node, Path};
+use mx_value::node::Node;
 use mx_value::refusal::EvalRefusal;
 use mx_value::value::Value;
 use std::alloc::{AllocError, Global};
@@ -18,53 +19,21 @@ use std::process::Abort;
 use std::sync::ledger::{Blank, Ledger};
 use std::test::Fail;
 
-fn label(alloc: Global, name: &str) -> Result<Label, AllocError> {
-    match Label::new(alloc, name.as_bytes()) {
-        Ok(label) => Ok(label),
-        Err(_) => Err(AllocError),
-    }
-}
-
-fn path(alloc: Global, name: &str) -> Result<Path, AllocError> {
-    let mut names = Vec::new(alloc);
-    names.push(label(alloc, name)?)?;
-    Ok(List::from_vec(alloc, names)?)
-}
-
-fn formula(alloc: Global, text: &[u8]) -> Result<Formula, AllocError> {
-    match read_first(alloc, text) {
-        Ok(FirstCommand::Cells(_, formula)) => Ok(formula),
-        _ => Err(AllocError),
-    }
-}
-
-fn node(alloc: Global, text: &[u8]) -> Result<Node, AllocError> {
-    match read_first(alloc, text) {
-        Ok(FirstCommand::Eval(node)) => Ok(node),
-        _ => Err(AllocError),
-    }
-}
-
-fn cells(alloc: Global, space: &str, name: &str, text: &[u8]) -> Result<Edit, AllocError> {
-    let path = path(alloc, space)?;
-    let name = label(alloc, name)?;
-    let formula = formula(alloc, text)?;
-    Ok(Edit::SetCells {
-        path,
-        name,
-        formula,
-    })
-}
-
 /// The edit is accepted and drops so many.
 fn drops(
     alloc: Global,
     engine: &mut Engine,
     name: &str,
-    text: &[u8],
+    formula: Formula,
     dropped: u32,
 ) -> Result<bool, AllocError> {
-    let edit = cells(alloc, "Main", name, text)?;
+    let path = path(alloc, "Main")?;
+    let name = label(alloc, name)?;
+    let edit = Edit::SetCells {
+        path,
+        name,
+        formula,
+    };
     Ok(engine.edit(&edit) == Ok(dropped))
 }
 
@@ -75,73 +44,80 @@ fn refuses(
     name: &str,
     why: EditRefusal,
 ) -> Result<bool, AllocError> {
-    let edit = cells(alloc, space, name, b"cells f(n) = 1")?;
+    let path = path(alloc, space)?;
+    let name = label(alloc, name)?;
+    let formula = of_n(alloc, int(1))?;
+    let edit = Edit::SetCells {
+        path,
+        name,
+        formula,
+    };
     Ok(engine.edit(&edit) == Err(why))
 }
 
 /// The node has this value.
-fn answers<L: Ledger>(
-    alloc: Global,
-    engine: &mut Engine,
-    steps: &mut Steps<L>,
-    text: &[u8],
-    value: i64,
-) -> Result<bool, AllocError> {
-    let asked = node(alloc, text)?;
-    match engine.eval(&asked, steps) {
-        Ok(Value::Int(n)) => Ok(n == value),
-        _ => Ok(false),
+fn answers<L: Ledger>(engine: &mut Engine, steps: &mut Steps<L>, asked: &Node, value: i64) -> bool {
+    match engine.eval(asked, steps) {
+        Ok(Value::Int(n)) => n == value,
+        _ => false,
     }
 }
 
 /// The chain of the node is too deep, at this node.
 fn is_too_deep<L: Ledger>(
-    alloc: Global,
     engine: &mut Engine,
     steps: &mut Steps<L>,
-    text: &[u8],
-    at: &[u8],
-) -> Result<bool, AllocError> {
-    let asked = node(alloc, text)?;
-    let deep = node(alloc, at)?;
-    match engine.eval(&asked, steps) {
-        Err(EvalRefusal::TooDeep(node)) => Ok(node == deep),
-        _ => Ok(false),
+    asked: &Node,
+    deep: &Node,
+) -> bool {
+    match engine.eval(asked, steps) {
+        Err(EvalRefusal::TooDeep(node)) => node == *deep,
+        _ => false,
     }
 }
 
-/// The node itself is the fault Overflow, in line 1.
-fn overflows<L: Ledger>(
-    alloc: Global,
+/// The run of a node met a fault, in a line of its formula.
+fn faults<L: Ledger>(
     engine: &mut Engine,
     steps: &mut Steps<L>,
-    text: &[u8],
-) -> Result<bool, AllocError> {
-    let asked = node(alloc, text)?;
-    match engine.eval(&asked, steps) {
-        Err(
-            EvalRefusal::Fault {
-                kind: FaultKind::Overflow,
-                node,
-                line: 1,
-            },
-        ) => Ok(node == asked),
-        _ => Ok(false),
+    asked: &Node,
+    why: FaultKind,
+    by: &Node,
+    at: u32,
+) -> bool {
+    match engine.eval(asked, steps) {
+        Err(EvalRefusal::Fault { kind, node, line }) => kind == why && node == *by && line == at,
+        _ => false,
     }
 }
 
-/// There are no such cells.
-fn is_missing<L: Ledger>(
-    alloc: Global,
+/// The evaluation is refused so.
+fn is_refused<L: Ledger>(
     engine: &mut Engine,
     steps: &mut Steps<L>,
-    text: &[u8],
-) -> Result<bool, AllocError> {
-    let asked = node(alloc, text)?;
-    match engine.eval(&asked, steps) {
-        Err(EvalRefusal::NoSuch) => Ok(true),
-        _ => Ok(false),
+    asked: &Node,
+    why: &EvalRefusal,
+) -> bool {
+    match engine.eval(asked, steps) {
+        Err(refusal) => refusal == *why,
+        Ok(_) => false,
     }
+}
+
+/// `(n) = n if n < least else fib(n - 1) + fib(n - 2)`.
+fn fib(alloc: Global, least: i64) -> Result<Formula, AllocError> {
+    let one = call_before(alloc, "fib", "n", 1)?;
+    let two = call_before(alloc, "fib", "n", 2)?;
+    let both = sum(alloc, one, SumOp::Plus, two)?;
+    let value = choice(
+        alloc,
+        name(alloc, "n")?,
+        name(alloc, "n")?,
+        CmpOp::Lt,
+        int(least),
+        both,
+    )?;
+    of_n(alloc, value)
 }
 
 fn fib_rows<L: Ledger>(
@@ -150,17 +126,23 @@ fn fib_rows<L: Ledger>(
     engine: &mut Engine,
     steps: &mut Steps<L>,
 ) -> Result<(), Fail> {
-    let first = b"cells fib(n) = n if n < 2 else fib(n - 1) + fib(n - 2)";
-    assert!(rt; drops(alloc, engine, "fib", first, 0)?);
-    assert!(rt; answers(alloc, engine, steps, b"eval fib(30)", 832040)?);
+    let asked = node(alloc, "fib", &[30])?;
+    assert!(rt; drops(alloc, engine, "fib", fib(alloc, 2)?, 0)?);
+    assert!(rt; answers(engine, steps, &asked, 832040));
     assert_eq!(rt; engine.held_count(), 31);
-    assert!(rt; answers(alloc, engine, steps, b"eval fib(30)", 832040)?);
+    assert!(rt; answers(engine, steps, &asked, 832040));
     assert_eq!(rt; engine.held_count(), 31);
-    let second = b"cells fib(n) = n if n < 3 else fib(n - 1) + fib(n - 2)";
-    assert!(rt; drops(alloc, engine, "fib", second, 31)?);
-    assert!(rt; answers(alloc, engine, steps, b"eval fib(30)", 1346269)?);
+    assert!(rt; drops(alloc, engine, "fib", fib(alloc, 3)?, 31)?);
+    assert!(rt; answers(engine, steps, &asked, 1346269));
     assert_eq!(rt; engine.held_count(), 30);
     Ok(())
+}
+
+/// `(n) = 0 if n == 0 else f(n - 1)`.
+fn countdown(alloc: Global) -> Result<Formula, AllocError> {
+    let next = call_before(alloc, "f", "n", 1)?;
+    let value = choice(alloc, int(0), name(alloc, "n")?, CmpOp::Eq, int(0), next)?;
+    of_n(alloc, value)
 }
 
 fn deep_rows<L: Ledger>(
@@ -169,12 +151,13 @@ fn deep_rows<L: Ledger>(
     engine: &mut Engine,
     steps: &mut Steps<L>,
 ) -> Result<(), Fail> {
-    let f = b"cells f(n) = 0 if n == 0 else f(n - 1)";
-    assert!(rt; drops(alloc, engine, "f", f, 0)?);
-    assert!(rt; is_too_deep(alloc, engine, steps, b"eval f(200)", b"eval f(0)")?);
+    let least = node(alloc, "f", &[0])?;
+    let last = node(alloc, "f", &[200])?;
+    assert!(rt; drops(alloc, engine, "f", countdown(alloc)?, 0)?);
+    assert!(rt; is_too_deep(engine, steps, &last, &least));
     assert_eq!(rt; engine.held_count(), 0);
-    assert!(rt; answers(alloc, engine, steps, b"eval f(199)", 0)?);
-    assert!(rt; answers(alloc, engine, steps, b"eval f(200)", 0)?);
+    assert!(rt; answers(engine, steps, &node(alloc, "f", &[199])?, 0));
+    assert!(rt; answers(engine, steps, &last, 0));
     assert_eq!(rt; engine.held_count(), 201);
     Ok(())
 }
@@ -185,12 +168,80 @@ fn fault_rows<L: Ledger>(
     engine: &mut Engine,
     steps: &mut Steps<L>,
 ) -> Result<(), Fail> {
-    let h = b"cells h(n) = n * 9223372036854775807";
-    assert!(rt; drops(alloc, engine, "h", h, 0)?);
-    assert!(rt; overflows(alloc, engine, steps, b"eval h(2)")?);
-    assert!(rt; answers(alloc, engine, steps, b"eval h(1)", 9223372036854775807)?);
+    let value = product(alloc, name(alloc, "n")?, ProductOp::Times, int(i64::MAX))?;
+    let one = node(alloc, "h", &[1])?;
+    let two = node(alloc, "h", &[2])?;
+    let missing = node(alloc, "k", &[1])?;
+    assert!(rt; drops(alloc, engine, "h", of_n(alloc, value)?, 0)?);
+    assert!(rt; faults(engine, steps, &two, FaultKind::Overflow, &two, 1));
+    assert!(rt; answers(engine, steps, &one, i64::MAX));
     assert_eq!(rt; engine.held_count(), 1);
-    assert!(rt; is_missing(alloc, engine, steps, b"eval k(1)")?);
+    assert!(rt; is_refused(engine, steps, &missing, &EvalRefusal::NoSuch));
+    Ok(())
+}
+
+/// `def f(n):`, `    x = g(n)`, `    return x // by`.
+fn quotient(alloc: Global, by: i64) -> Result<Formula, AllocError> {
+    let params = vec![in alloc; param(alloc, "n", None)?]?;
+    let given = call(alloc, "g", name(alloc, "n")?)?;
+    let value = product(alloc, name(alloc, "x")?, ProductOp::Floor, int(by))?;
+    let body = vec![in alloc;
+        Stmt::Assign(label(alloc, "x")?, given),
+        Stmt::Return(Some(value)),
+    ]?;
+    formula(alloc, params, body)
+}
+
+/// `() = f(4)`.
+fn top(alloc: Global) -> Result<Formula, AllocError> {
+    let value = call(alloc, "f", int(4))?;
+    let body = vec![in alloc; Stmt::Return(Some(value))]?;
+    formula(alloc, Vec::new(alloc), body)
+}
+
+fn statement_rows<L: Ledger>(
+    rt: &impl Abort,
+    alloc: Global,
+    engine: &mut Engine,
+    steps: &mut Steps<L>,
+) -> Result<(), Fail> {
+    let asked = node(alloc, "top", &[])?;
+    let inner = node(alloc, "f", &[4])?;
+    let one_too_many = node(alloc, "top", &[1])?;
+    assert!(rt; drops(alloc, engine, "f", quotient(alloc, 0)?, 0)?);
+    assert!(rt; drops(alloc, engine, "g", of_n(alloc, name(alloc, "n")?)?, 0)?);
+    assert!(rt; drops(alloc, engine, "top", top(alloc)?, 0)?);
+    assert!(rt; faults(engine, steps, &asked, FaultKind::ZeroDivision, &inner, 3));
+    assert_eq!(rt; engine.held_count(), 1);
+    assert!(rt; drops(alloc, engine, "f", quotient(alloc, 2)?, 1)?);
+    assert!(rt; answers(engine, steps, &asked, 2));
+    assert_eq!(rt; engine.held_count(), 3);
+    assert!(rt; is_refused(engine, steps, &one_too_many, &EvalRefusal::WrongCount));
+    Ok(())
+}
+
+/// `(x, y=2) = x + y`.
+fn with_default(alloc: Global) -> Result<Formula, AllocError> {
+    let params = vec![in alloc;
+        param(alloc, "x", None)?,
+        param(alloc, "y", Some(Value::Int(2)))?,
+    ]?;
+    let value = sum(alloc, name(alloc, "x")?, SumOp::Plus, name(alloc, "y")?)?;
+    formula(alloc, params, vec![in alloc; Stmt::Return(Some(value))]?)
+}
+
+fn bound_rows<L: Ledger>(
+    rt: &impl Abort,
+    alloc: Global,
+    engine: &mut Engine,
+    steps: &mut Steps<L>,
+) -> Result<(), Fail> {
+    assert!(rt; drops(alloc, engine, "p", with_default(alloc)?, 0)?);
+    assert!(rt; answers(engine, steps, &node(alloc, "p", &[1])?, 3));
+    assert!(rt; answers(engine, steps, &node(alloc, "p", &[1, 2])?, 3));
+    assert_eq!(rt; engine.held_count(), 1);
+    assert!(rt; answers(engine, steps, &node(alloc, "p", &[1, 3])?, 4));
+    assert_eq!(rt; engine.held_count(), 2);
     Ok(())
 }
 
@@ -230,7 +281,7 @@ fn a_chain_past_200_calls_is_too_deep_but_held_nodes_break_it(rt: HostRuntime) -
     deep::<Brand>(&rt, rt.alloc(), Blank::new(1))
 }
 
-fn faults<L: Ledger>(rt: &impl Abort, alloc: Global, blank: Blank) -> Result<(), Fail>
+fn refused<L: Ledger>(rt: &impl Abort, alloc: Global, blank: Blank) -> Result<(), Fail>
     requires name { blank.name ≡ L.name }
     requires parts { blank.parts ≡ L.parts }
     requires some { 0 < blank.parts }
@@ -242,7 +293,37 @@ fn faults<L: Ledger>(rt: &impl Abort, alloc: Global, blank: Blank) -> Result<(),
 
 #[test]
 fn an_overflow_and_a_missing_name_are_refused(rt: HostRuntime) -> Result<(), Fail> {
-    faults::<Brand>(&rt, rt.alloc(), Blank::new(1))
+    refused::<Brand>(&rt, rt.alloc(), Blank::new(1))
+}
+
+fn stated<L: Ledger>(rt: &impl Abort, alloc: Global, blank: Blank) -> Result<(), Fail>
+    requires name { blank.name ≡ L.name }
+    requires parts { blank.parts ≡ L.parts }
+    requires some { 0 < blank.parts }
+{
+    let mut steps = Steps::<L>::new(blank);
+    let mut engine = Engine::new(alloc)?;
+    statement_rows(rt, alloc, &mut engine, &mut steps)
+}
+
+#[test]
+fn a_fault_has_the_line_of_its_statement(rt: HostRuntime) -> Result<(), Fail> {
+    stated::<Brand>(&rt, rt.alloc(), Blank::new(1))
+}
+
+fn bound<L: Ledger>(rt: &impl Abort, alloc: Global, blank: Blank) -> Result<(), Fail>
+    requires name { blank.name ≡ L.name }
+    requires parts { blank.parts ≡ L.parts }
+    requires some { 0 < blank.parts }
+{
+    let mut steps = Steps::<L>::new(blank);
+    let mut engine = Engine::new(alloc)?;
+    bound_rows(rt, alloc, &mut engine, &mut steps)
+}
+
+#[test]
+fn a_node_without_its_default_is_held_with_it(rt: HostRuntime) -> Result<(), Fail> {
+    bound::<Brand>(&rt, rt.alloc(), Blank::new(1))
 }
 
 #[test]

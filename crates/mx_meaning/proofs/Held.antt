@@ -4,7 +4,8 @@ use Rattle.std.proofs.lemmas.List.{map-append, append_assoc}
 use Rattle.mx_value.specs.declared.node.Node.{Node}
 use Rattle.mx_meaning.specs.Model.{Text}
 use Rattle.mx_meaning.specs.Lists.{Has, Distinct}
-use Rattle.mx_meaning.specs.Meaning.{Ends, Gives, body, Means, Leads}
+use Rattle.mx_meaning.specs.Runs.{Ends, Gives}
+use Rattle.mx_meaning.specs.Meaning.{body, Means, Leads}
 use Rattle.mx_meaning.specs.Chains.{asks_of, DoesAsk, Reaches, HasValue}
 use Rattle.mx_meaning.specs.Held.{Entry, nodes_of, IsRight, HaveRuns, IsMemo, Grown}
 use Rattle.mx_meaning.proofs.Lists.{has_left, has_right, has_cases, has_push_cases, distinct_push, has_map_from}

@@ -7,7 +7,8 @@ use Rattle.mx_meaning.specs.declared.event.Reply.{Reply}
 use Rattle.mx_meaning.specs.declared.event.Event.{Event}
 use Rattle.mx_meaning.specs.declared.event.Event.TheVariants.{Looked, Asked, Noted}
 use Rattle.mx_meaning.specs.Model.{Text, KeyResult, key_result}
-use Rattle.mx_meaning.specs.Meaning.{Outcome, Gives, Faults, NoSuch, WrongCount, NoLevel, Run, Ends, Looks, Asks, Notes, ending, answered, level, body, IsReached, Means, Leads}
+use Rattle.mx_meaning.specs.Runs.{Outcome, Gives, Faults, NoSuch, WrongCount, NoLevel, Run, Ends, Looks, Asks, Notes}
+use Rattle.mx_meaning.specs.Meaning.{ending, answered, level, body, IsReached, Means, Leads}
 
 -- the second answers what the first does, wherever the first is reached
 abbrev pub Extends : (Node → Outcome) → (Node → Outcome) → Type 0

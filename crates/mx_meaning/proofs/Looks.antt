@@ -6,7 +6,8 @@ use Rattle.mx_meaning.specs.declared.event.Event.{Event}
 use Rattle.mx_meaning.specs.declared.event.Event.TheVariants.{Looked, Asked, Noted}
 use Rattle.mx_meaning.specs.Model.{Text, KeyResult, key_result}
 use Rattle.mx_meaning.specs.Lists.{Has}
-use Rattle.mx_meaning.specs.Meaning.{Outcome, Run, Ends, Looks, Asks, Notes, body, Leads}
+use Rattle.mx_meaning.specs.Runs.{Outcome, Run, Ends, Looks, Asks, Notes}
+use Rattle.mx_meaning.specs.Meaning.{body, Leads}
 use Rattle.mx_meaning.specs.Chains.{keys_of, DoesAsk, Reaches, Itself, Through}
 use Rattle.mx_meaning.specs.Support.{LooksUp, Supports}
 use Rattle.mx_meaning.proofs.Lists.{has_right}

@@ -6,7 +6,8 @@ use Rattle.mx_meaning.specs.declared.event.Event.{Event}
 use Rattle.mx_meaning.specs.declared.event.Event.TheVariants.{Looked, Asked, Noted}
 use Rattle.mx_meaning.specs.Model.{Text, key_result}
 use Rattle.mx_meaning.specs.Lists.{Has}
-use Rattle.mx_meaning.specs.Meaning.{Outcome, Gives, Faults, NoSuch, WrongCount, NoLevel, Run, Ends, Looks, Asks, Notes, ending, answered, level, body, IsReached, Means, Leads}
+use Rattle.mx_meaning.specs.Runs.{Outcome, Gives, Faults, NoSuch, WrongCount, NoLevel, Run, Ends, Looks, Asks, Notes}
+use Rattle.mx_meaning.specs.Meaning.{ending, answered, level, body, IsReached, Means, Leads}
 use Rattle.mx_meaning.proofs.Levels.{level_more, ending_more, one_meaning}
 use Rattle.mx_meaning.specs.Chains.{DoesAsk, HasValue, MeansNothing}
 

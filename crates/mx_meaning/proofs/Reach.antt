@@ -6,7 +6,8 @@ use Rattle.mx_meaning.specs.declared.event.Event.{Event}
 use Rattle.mx_meaning.specs.declared.event.Event.TheVariants.{Looked, Asked, Noted}
 use Rattle.mx_meaning.specs.Model.{Text, key_result}
 use Rattle.mx_meaning.specs.Lists.{Has}
-use Rattle.mx_meaning.specs.Meaning.{Run, Looks, Asks, Notes, body, Leads}
+use Rattle.mx_meaning.specs.Runs.{Run, Looks, Asks, Notes}
+use Rattle.mx_meaning.specs.Meaning.{body, Leads}
 use Rattle.mx_meaning.specs.Chains.{asks_of, DoesAsk, Reaches, Itself, Through, ReachedFrom}
 
 -- what is closed under asks has all that its nodes reach

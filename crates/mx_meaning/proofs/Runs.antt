@@ -6,7 +6,8 @@ use Rattle.mx_meaning.specs.declared.event.Event.{Event}
 use Rattle.mx_meaning.specs.declared.event.Event.TheVariants.{Looked, Asked, Noted}
 use Rattle.mx_meaning.specs.Model.{Text, key_result}
 use Rattle.mx_meaning.specs.Lists.{Has}
-use Rattle.mx_meaning.specs.Meaning.{Outcome, Gives, Run, Ends, Looks, Asks, Notes, Means, Leads}
+use Rattle.mx_meaning.specs.Runs.{Outcome, Gives, Run, Ends, Looks, Asks, Notes}
+use Rattle.mx_meaning.specs.Meaning.{Means, Leads}
 use Rattle.std.proofs.lemmas.List.{append-nil}
 use Rattle.mx_meaning.proofs.Lists.{has_right}
 use Rattle.mx_meaning.proofs.Levels.{one_meaning}

@@ -7,7 +7,8 @@ use Rattle.mx_meaning.specs.declared.event.Event.{Event}
 use Rattle.mx_meaning.specs.declared.event.Event.TheVariants.{Looked, Asked, Noted}
 use Rattle.mx_meaning.specs.Model.{Text, key_result}
 use Rattle.mx_meaning.specs.Lists.{Has, Distinct}
-use Rattle.mx_meaning.specs.Meaning.{Outcome, Gives, Faults, NoSuch, WrongCount, Run, Ends, Looks, Asks, Notes, ending, level, body, Means, Leads}
+use Rattle.mx_meaning.specs.Runs.{Outcome, Gives, Faults, NoSuch, WrongCount, Run, Ends, Looks, Asks, Notes}
+use Rattle.mx_meaning.specs.Meaning.{ending, level, body, Means, Leads}
 use Rattle.mx_meaning.proofs.Levels.{one_meaning}
 use Rattle.mx_meaning.specs.Chains.{asks_of, HasValue, MeansNothing, DoesAsk, LastAsk, StuckChain, IsRing, first_or}
 use Rattle.mx_meaning.specs.Support.{IsUnchanged}

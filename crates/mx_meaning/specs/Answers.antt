@@ -7,7 +7,8 @@ use Rattle.mx_value.specs.declared.refusal.EvalRefusal.{EvalRefusal}
 use Rattle.mx_value.specs.declared.refusal.EvalRefusal.TheVariants as refusal
 use Rattle.mx_meaning.specs.Lists.{Has, Distinct, Disjoint}
 use Rattle.mx_meaning.specs.Model.{Text}
-use Rattle.mx_meaning.specs.Meaning.{Means, Gives, Faults, NoSuch, WrongCount}
+use Rattle.mx_meaning.specs.Runs.{Gives, Faults, NoSuch, WrongCount}
+use Rattle.mx_meaning.specs.Meaning.{Means}
 use Rattle.mx_meaning.specs.Chains.{Reaches, HasValue, IsFirstChain, IsRing, MeansNothing, first_or}
 use Rattle.mx_meaning.specs.Held.{Entry, nodes_of, HoldsMore}
 

@@ -7,7 +7,8 @@ use Rattle.mx_meaning.specs.declared.event.Event.{Event}
 use Rattle.mx_meaning.specs.declared.event.Event.TheVariants.{Looked, Asked, Noted}
 use Rattle.mx_meaning.specs.Lists.{Has, Distinct}
 use Rattle.mx_meaning.specs.Model.{Text}
-use Rattle.mx_meaning.specs.Meaning.{Run, Asks, Outcome, Gives, body, Means, Leads}
+use Rattle.mx_meaning.specs.Runs.{Run, Asks, Outcome, Gives}
+use Rattle.mx_meaning.specs.Meaning.{body, Means, Leads}
 
 -- the nodes that a run has asked, in order
 abbrev pub asks_of : List Event → List Node

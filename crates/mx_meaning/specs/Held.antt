@@ -4,7 +4,8 @@ use Rattle.mx_value.specs.declared.node.Node.{Node}
 use Rattle.mx_meaning.specs.declared.kept.Kept.{Kept}
 use Rattle.mx_meaning.specs.Lists.{Has, Distinct}
 use Rattle.mx_meaning.specs.Model.{Text}
-use Rattle.mx_meaning.specs.Meaning.{Ends, Gives, body, Means, Leads}
+use Rattle.mx_meaning.specs.Runs.{Ends, Gives}
+use Rattle.mx_meaning.specs.Meaning.{body, Means, Leads}
 use Rattle.mx_meaning.specs.Chains.{asks_of, DoesAsk, Reaches, HasValue}
 
 -- a held node, with what it gives and the run that gave it

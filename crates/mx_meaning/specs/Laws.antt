@@ -8,7 +8,8 @@ use Rattle.mx_meaning.specs.declared.event.Event.{Event}
 use Rattle.mx_value.specs.declared.refusal.EvalRefusal.{EvalRefusal}
 use Rattle.mx_value.specs.declared.refusal.EvalRefusal.TheVariants as refusal
 use Rattle.mx_meaning.specs.Model.{Text}
-use Rattle.mx_meaning.specs.Meaning.{Outcome, Run, Gives, body, Means, Leads}
+use Rattle.mx_meaning.specs.Runs.{Outcome, Run, Gives}
+use Rattle.mx_meaning.specs.Meaning.{body, Means, Leads}
 use Rattle.mx_meaning.specs.Chains.{LastAsk, IsRing, MeansNothing}
 use Rattle.mx_meaning.specs.Held.{Entry}
 use Rattle.mx_meaning.specs.Support.{IsUnchanged}

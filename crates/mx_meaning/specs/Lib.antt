@@ -1,5 +1,9 @@
 pub mod Lists
 pub mod Model
+pub mod Runs
+pub mod Operators
+pub mod Expressions
+pub mod Statements
 pub mod Meaning
 pub mod Chains
 pub mod Held

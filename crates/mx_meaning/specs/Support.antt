@@ -4,7 +4,8 @@ use Rattle.mx_value.specs.declared.node.Node.{Node}
 use Rattle.mx_meaning.specs.declared.key.Key.{Key}
 use Rattle.mx_meaning.specs.declared.event.Event.{Event}
 use Rattle.mx_meaning.specs.Model.{Text, KeyResult, key_result}
-use Rattle.mx_meaning.specs.Meaning.{Run, Looks, body, Leads}
+use Rattle.mx_meaning.specs.Runs.{Run, Looks}
+use Rattle.mx_meaning.specs.Meaning.{body, Leads}
 use Rattle.mx_meaning.specs.Chains.{Reaches}
 
 -- n's run comes to look a key up

@@ -1,0 +1,121 @@
+//! The formulas and the nodes that the tests ask about.
+use mx_list::items::Items;
+use mx_list::list::List;
+use mx_list::shared::Shared;
+use mx_syntax::expr::{
+    Args, Arm, CmpOp, Comparison, Expr, ProductOp, ProductPart, SumOp, SumPart, Trailer,
+};
+use mx_syntax::stmt::{Formula, Param, Stmt};
+use mx_value::label::Label;
+use mx_value::node::{Node, Path};
+use mx_value::value::{Segment, Value};
+use std::alloc::{AllocError, Global};
+
+pub fn label(alloc: Global, name: &str) -> Result<Label, AllocError> {
+    match Label::new(alloc, name.as_bytes()) {
+        Ok(label) => Ok(label),
+        Err(_) => Err(AllocError),
+    }
+}
+
+pub fn path(alloc: Global, name: &str) -> Result<Path, AllocError> {
+    let names = vec![in alloc; label(alloc, name)?]?;
+    Ok(List::from_vec(alloc, names)?)
+}
+
+pub fn name(alloc: Global, name: &str) -> Result<Expr, AllocError> {
+    Ok(Expr::Name(label(alloc, name)?))
+}
+
+pub fn int(n: i64) -> Expr {
+    Expr::Lit(Value::Int(n))
+}
+
+/// `first op of`, of a sum.
+pub fn sum(alloc: Global, first: Expr, op: SumOp, of: Expr) -> Result<Expr, AllocError> {
+    let parts = vec![in alloc; SumPart { op, of }]?;
+    Ok(Expr::Sum {
+        first: Shared::new(alloc, first)?,
+        rest: List::from_vec(alloc, parts)?,
+    })
+}
+
+/// `first op of`, of a product.
+pub fn product(alloc: Global, first: Expr, op: ProductOp, of: Expr) -> Result<Expr, AllocError> {
+    let parts = vec![in alloc; ProductPart { op, of }]?;
+    Ok(Expr::Product {
+        first: Shared::new(alloc, first)?,
+        rest: List::from_vec(alloc, parts)?,
+    })
+}
+
+/// `value if left op right else last`.
+pub fn choice(
+    alloc: Global,
+    value: Expr,
+    left: Expr,
+    op: CmpOp,
+    right: Expr,
+    last: Expr,
+) -> Result<Expr, AllocError> {
+    let parts = vec![in alloc; Comparison::Op(op, right)]?;
+    let test = Expr::Compare {
+        first: Shared::new(alloc, left)?,
+        rest: List::from_vec(alloc, parts)?,
+    };
+    let arms = vec![in alloc; Arm { value, test }]?;
+    Ok(Expr::Cond {
+        arms: List::from_vec(alloc, arms)?,
+        last: Shared::new(alloc, last)?,
+    })
+}
+
+/// `function(argument)`.
+pub fn call(alloc: Global, function: &str, argument: Expr) -> Result<Expr, AllocError> {
+    let arguments = vec![in alloc; argument]?;
+    let trailers = vec![in alloc; Trailer::Call(Args::List(List::from_vec(alloc, arguments)?))]?;
+    Ok(Expr::Post {
+        of: Shared::new(alloc, name(alloc, function)?)?,
+        trailers: List::from_vec(alloc, trailers)?,
+    })
+}
+
+/// `function(name - less)`.
+pub fn call_before(alloc: Global, function: &str, of: &str, less: i64) -> Result<Expr, AllocError> {
+    let argument = sum(alloc, name(alloc, of)?, SumOp::Minus, int(less))?;
+    call(alloc, function, argument)
+}
+
+pub fn param(alloc: Global, name: &str, default: Option<Value>) -> Result<Param, AllocError> {
+    Ok(Param {
+        name: label(alloc, name)?,
+        default,
+    })
+}
+
+pub fn formula(alloc: Global, params: Vec<Param>, body: Vec<Stmt>) -> Result<Formula, AllocError> {
+    Ok(Formula {
+        params: List::from_vec(alloc, params)?,
+        body: List::from_vec(alloc, body)?,
+    })
+}
+
+/// `(n) = value`.
+pub fn of_n(alloc: Global, value: Expr) -> Result<Formula, AllocError> {
+    let params = vec![in alloc; param(alloc, "n", None)?]?;
+    formula(alloc, params, vec![in alloc; Stmt::Return(Some(value))]?)
+}
+
+/// The node `Main.cells(arguments)`.
+pub fn node(alloc: Global, cells: &str, arguments: &[i64]) -> Result<Node, AllocError> {
+    let segments = vec![in alloc; Segment::Name(label(alloc, "Main")?)]?;
+    let mut values = Items::new(alloc);
+    for argument in arguments {
+        values.push(Value::Int(*argument))?;
+    }
+    Ok(Node::Cell(
+        List::from_vec(alloc, segments)?,
+        label(alloc, cells)?,
+        values,
+    ))
+}

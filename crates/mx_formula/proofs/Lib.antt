@@ -1,0 +1,9 @@
+pub mod Alone
+pub mod Readings
+pub mod Stack
+pub mod Given
+pub mod Unset
+pub mod CellCalls
+pub mod Doings
+pub mod Loops
+pub mod Arms

@@ -1,0 +1,10 @@
+pub mod Standing
+pub mod Waiting
+pub mod Deep
+pub mod Tops
+pub mod Places
+pub mod Evals
+pub mod Moves
+pub mod Begins
+pub mod Rings
+pub mod Maps

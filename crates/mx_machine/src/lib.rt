@@ -1,0 +1,6 @@
+//! Evaluation on an explicit stack: the runs in flight, and what is held.
+#![tactic(auto)]
+
+pub mod binding;
+pub mod machine;
+pub mod steps;
