@@ -1,5 +1,6 @@
 -- A line after a command that could go on.
 use Rattle.std.proofs.Common.{◌≡◌, ℕ, false, List, [], ◌∷◌, ◌++◌, Option, Some, Result, Err, refl, sym, ap, ◌∙◌, subst}
+use Rattle.std.specs.Option.{option_to_list}
 use Rattle.mx_outside.specs.declared.sink.WriteFailure.{WriteFailure}
 use Rattle.mx_cli.specs.Script.{Command, Taken, started, taken, goes_on, without_cr}
 use Rattle.mx_cli.specs.Answer.{State}
@@ -34,3 +35,13 @@ module _ (number : ℕ) (state : State) (p : Option Pending) (c : Pending) (text
   takes_stop e new old middle first =
       subst (λ (t : Taken). Wrote old middle (TakesLine state t (Err e) new)) (sym whole)
       (record { written = first.written; taken = first.taken; holds = begins_less state (record { number = c.number; text = text } ∷ []) _ first.written first.holds })
+
+-- the command that could go on, at the script's end
+abbrev last : ℕ → List ℕ → List Command
+last number text = record { number = number; text = text } ∷ []
+
+pub takes_last : (state : State) (p : Option Pending) (c : Pending) (text : List ℕ) → p ≡ Some c → text ≡ c.text.items → (new : State) (old middle : Option (List ℕ))
+    → Wrote old middle (λ b. Runs state (last c.number text) b new) → Wrote old middle (λ b. Runs state (option_to_list (pending_of p)) b new)
+takes_last state p c text is same new old middle first =
+    let alone : option_to_list (pending_of p) ≡ last c.number text = ap (λ (q : Option Pending). option_to_list (pending_of q)) is ∙ ap (λ (t : List ℕ). last c.number t) (sym same) in
+    subst (λ (cs : List Command). Wrote old middle (λ b. Runs state cs b new)) (sym alone) first

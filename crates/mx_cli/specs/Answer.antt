@@ -5,11 +5,12 @@ use Rattle.mx_value.specs.declared.node.Node.{Node}
 use Rattle.mx_value.specs.declared.refusal.EvalRefusal.{EvalRefusal}
 use Rattle.mx_value.specs.declared.refusal.EvalRefusal.TheVariants as refusal
 use Rattle.mx_syntax.specs.declared.stmt.Formula.{Formula}
-use Rattle.mx_syntax.specs.declared.first.FirstCommand.{FirstCommand}
-use Rattle.mx_syntax.specs.declared.first.FirstCommand.TheVariants as first
-use Rattle.mx_syntax.specs.First.{Spells}
-use Rattle.mx_meaning.specs.Model.{main_path}
+use Rattle.mx_script.specs.declared.command.Command.TheVariants as command
+use Rattle.mx_script.specs.declared.command.FormRefusal.{FormRefusal}
+use Rattle.mx_script.specs.declared.command.FormRefusal.TheVariants as form
+use Rattle.mx_script.specs.Commands.{ReadsAs}
 use Rattle.mx_meaning.specs.Answers.{Answer}
+use Rattle.mx_meaning.specs.Meaning.{bound_node}
 use Rattle.mx_meaning.specs.State.{State as EngineState, most_held}
 use Rattle.mx_engine.specs.declared.edit.Edit.{Edit}
 use Rattle.mx_engine.specs.declared.edit.Edit.TheVariants.{SetCells}
@@ -17,7 +18,8 @@ use Rattle.mx_engine.specs.declared.edit.EditRefusal.{EditRefusal}
 use Rattle.mx_engine.specs.declared.edit.EditRefusal.TheVariants as edit
 use Rattle.mx_engine.specs.Edits.{applied, refusal_of, IsRefusedBy, first_limit}
 use Rattle.mx_cli.specs.Script.{Command}
-use Rattle.mx_cli.specs.Text.{eval_block, edit_block, not_built_block}
+use Rattle.mx_cli.specs.Text.{eval_block, edit_block}
+use Rattle.mx_cli.specs.Refusals.{refused_block}
 
 -- what stands between two commands: the model text, what is held, and the chain limit
 abbrev pub State : Type 0
@@ -45,14 +47,14 @@ pub record Edits (s : State) (e : Edit) (block : List ℕ) (new : State) : Type 
 pub record Evaluates (s : State) (n : Node) (block : List ℕ) (new : State) : Type 0 where
   pub outcome : Result Value EvalRefusal
   pub ticks : ℕ
-  pub answer : Answer s.text s.held s.limit most_held n outcome new.held ticks
+  pub answer : Answer s.text s.held s.limit most_held (bound_node s.text n) outcome new.held ticks
   pub memory : outcome ≢ Err refusal.NoMemory
   pub text : block ≡ eval_block outcome (length new.held - length s.held)
   pub state : new ≡ record s { held = new.held }
 
 -- One command from a state writes its block and leaves the next state.
 pub data Step (s : State) (c : Command) (block : List ℕ) (new : State) : Type 0 where
-  -- a text that is no command of the forms that are built changes nothing
-  not_built : ((f : FirstCommand) → Spells c.text f → ⊥) → block ≡ not_built_block c.number → new ≡ s → Step s c block new
-  cells : (name : List ℕ) (formula : Formula) → Spells c.text (first.Cells name formula) → Edits s (SetCells main_path name formula) block new → Step s c block new
-  eval : (n : Node) → Spells c.text (first.Eval n) → Evaluates s n block new → Step s c block new
+  -- a text that is refused changes nothing
+  refused : (e : FormRefusal) → e ≢ form.NoMemory → ReadsAs c.text (Err e) → block ≡ refused_block c.number e → new ≡ s → Step s c block new
+  cells : (path : List (List ℕ)) (name : List ℕ) (formula : Formula) → ReadsAs c.text (Ok (command.Cells path name formula)) → Edits s (SetCells path name formula) block new → Step s c block new
+  eval : (n : Node) → ReadsAs c.text (Ok (command.Eval n)) → Evaluates s n block new → Step s c block new

@@ -1,5 +1,6 @@
 pub mod Script
 pub mod Text
+pub mod Refusals
 pub mod Answer
 pub mod Transcript
 pub mod Session

@@ -149,7 +149,3 @@ eval_block (Err r) runs = refusal_text r ++ 10 ∷ []
 abbrev pub edit_block : Result ℕ EditRefusal → Text
 edit_block (Ok dropped) = codes "ok" ++ 10 ∷ []
 edit_block (Err r) = codes "refused: " ++ (edit_refusal_text r ++ 10 ∷ [])
-
--- the block of a command that begins in this line and is of no form that is built
-abbrev pub not_built_block : ℕ → Text
-not_built_block number = codes "line " ++ (decimal number ++ (codes ": not built" ++ 10 ∷ []))

@@ -2,18 +2,15 @@
 ghost use Rattle.std.specs.Prelude.{◌≡◌, ◌≤◌, ◌∷◌, [], MatchResult, IfOk, OnOk, IsErrOf};
 ghost use Rattle.mx_outside.specs.Outside.{Rose};
 ghost use Rattle.mx_cli.specs.Answer.{Step, Edits, Evaluates, first_state};
-ghost use Rattle.mx_meaning.specs.Model.{main_path};
 ghost use Rattle.mx_cli.specs.Transcript.{Runs, Begins, Wrote};
 
-use crate::text::{
-    push_accepted, push_not_built, push_refusal_block, push_refused, push_value_block,
-};
+use crate::refusal::push_refused_command;
+use crate::text::{push_accepted, push_refusal_block, push_refused, push_value_block};
 use mx_engine::edit::Edit;
 use mx_engine::engine::Engine;
 use mx_engine::steps::Steps;
-use mx_list::list::List;
 use mx_outside::{Sink, WriteFailure, write_whole};
-use mx_syntax::first::{FirstCommand, FirstRefusal, read_first};
+use mx_script::{Command, read_command};
 use mx_syntax::stmt::Formula;
 use mx_value::label::Label;
 use mx_value::node::{Node, Path};
@@ -84,37 +81,35 @@ fn step<L: Ledger>(
     requires { block.old.items ≡ [] }
     ensures { OnOk result (Step engine.old (record { number = number; text = text.now }) block.new.items engine.new) }
 {
-    match read_first(alloc, text) {
-        Ok(FirstCommand::Cells(name, formula)) => {
-            if let Err(failure) = define(alloc, engine, block, name, formula) {
-                return Err(failure);
-            }
+    match read_command(alloc, text) {
+        Ok(Command::Cells(path, name, formula)) => {
+            define(engine, block, path, name, formula)?;
             return Ok(());
         }
-        Ok(FirstCommand::Eval(node)) => {
-            if let Err(failure) = evaluate(engine, block, &node, steps) {
-                return Err(failure);
-            }
+        Ok(Command::Eval(node)) => {
+            evaluate(engine, block, &node, steps)?;
             return Ok(());
         }
-        Err(FirstRefusal::NotBuilt) => return push_not_built(block, number),
-        Err(FirstRefusal::NoMemory) => return Err(AllocError),
+        Err(refusal) => {
+            push_refused_command(block, number, refusal)?;
+            return Ok(());
+        }
     }
 }
 
-/// Defines cells in the space Main.
+/// Defines cells.
 fn define(
-    alloc: Global,
     engine: &mut Engine,
     block: &mut Vec<u8>,
+    path: Path,
     name: Label,
     formula: Formula,
 ) -> Result<(), AllocError>
     requires { block.old.items ≡ [] }
-    ensures { OnOk result (Edits engine.old (Edit.SetCells main_path name formula) block.new.items engine.new) }
+    ensures { OnOk result (Edits engine.old (Edit.SetCells path name formula) block.new.items engine.new) }
 {
     let edit = Edit::SetCells {
-        path: main_path(alloc)?,
+        path,
         name,
         formula,
     };
@@ -122,18 +117,6 @@ fn define(
         Ok(_) => return push_accepted(block),
         Err(refusal) => return push_refused(block, refusal),
     }
-}
-
-/// The path of the space Main.
-fn main_path(alloc: Global) -> Result<Path, AllocError>
-    ensures { IfOk result (λ path. path ≡ main_path) }
-{
-    let Ok(main) = Label::new(alloc, b"Main") else {
-        return Err(AllocError);
-    };
-    let mut names = Vec::new(alloc);
-    names.push(main)?;
-    List::from_vec(alloc, names)
 }
 
 /// Evaluates a node.

@@ -7,6 +7,7 @@ mod guide;
 mod host;
 mod laws;
 mod line;
+mod refusal;
 mod script;
 mod session;
 mod status;
@@ -17,6 +18,8 @@ mod take;
 mod tests;
 mod text;
 mod top;
+#[cfg(test)]
+mod worked;
 
 use host::{HostSink, HostSource};
 pub use laws::{complete_commands_stay, lines_give_the_script};

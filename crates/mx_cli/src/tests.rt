@@ -80,7 +80,7 @@ fn overflow_missing_cells_and_other_forms_are_answered(rt: HostRuntime) -> Resul
         &rt,
         rt.alloc(),
         b"cells h(n) = n * 9223372036854775807\neval h(2)\neval h(1)\neval k(1)\nevall h(1)\n",
-        b"ok\nfault Overflow at Main.h(2) line 1\n= 9223372036854775807 runs 1\nno such node\nline 5: not built\n",
+        b"ok\nfault Overflow at Main.h(2) line 1\n= 9223372036854775807 runs 1\nno such node\nline 5: unknown word\n",
     )?)
 }
 
@@ -90,7 +90,7 @@ fn lines_end_go_on_and_are_skipped_as_a_script_says(rt: HostRuntime) -> Result<(
         &rt,
         rt.alloc(),
         b"# policies in force\r\n\n  cells f(n) = n\r\n# a note in the command\r\n\r\n  \r\n  eval f(3)\neval f(2)\ncells g(n) = f(n)\n 1\n   eval f(4)",
-        b"line 3: not built\nno such node\nline 9: not built\n",
+        b"line 3: formula: unexpected at 38\nno such node\nline 9: formula: unexpected at 12\n",
     )?)
 }
 
@@ -100,7 +100,7 @@ fn the_last_line_needs_no_line_end(rt: HostRuntime) -> Result<(), Fail> {
         &rt,
         rt.alloc(),
         b"cells f(n) = n * n\r\n   eval f(5)\r\neval f(-4)\ncells g(n) = 1",
-        b"line 1: not built\nno such node\nok\n",
+        b"line 1: formula: unexpected at 15\nno such node\nok\n",
     )?)
 }
 

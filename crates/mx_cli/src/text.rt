@@ -14,7 +14,7 @@ use mx_value::value::{CellsAt, Segment, Value};
 use std::alloc::AllocError;
 
 /// Adds bytes as they stand.
-fn push(out: &mut Vec<u8>, bytes: &[u8]) -> Result<(), AllocError>
+pub fn push(out: &mut Vec<u8>, bytes: &[u8]) -> Result<(), AllocError>
     ensures { OnOk result (out.new.items ≡ out.old.items ++ bytes.now) }
 {
     out.extend_from_slice(bytes)
@@ -354,13 +354,4 @@ pub fn push_refused(out: &mut Vec<u8>, refusal: EditRefusal) -> Result<(), Alloc
     push(out, b"refused: ")?;
     push_edit_refusal(out, refusal)?;
     push(out, b"\n")
-}
-
-/// Adds the block of a command of no form that is built, which begins in this line.
-pub fn push_not_built(out: &mut Vec<u8>, number: u64) -> Result<(), AllocError>
-    ensures { OnOk result (out.new.items ≡ out.old.items ++ spec.not_built_block number) }
-{
-    push(out, b"line ")?;
-    push_number(out, number)?;
-    push(out, b": not built\n")
 }
