@@ -11,7 +11,7 @@ use std::alloc::Global;
 use std::test::Fail;
 
 /// Formulas of cells.
-const FORMULAS: [(&str, &str); 97] = [
+const FORMULAS: [(&str, &str); 74] = [
     ("() = 1", "() = 1\n"),
     ("(t) = t", "(t) = t\n"),
     ("(t,) = t", "(t) = t\n"),
@@ -61,38 +61,6 @@ const FORMULAS: [(&str, &str); 97] = [
     ("() = a is 1", "unexpected 10"),
     ("() = x[]", "unexpected 7"),
     ("() = (a,,)", "unexpected 8"),
-    ("(n)=n", "(n) = n\n"),
-    ("( n ) = ((n))", "(n) = n\n"),
-    (
-        "(n) = n if n<2 else fib( n-1 )+fib(n-2)",
-        "(n) = n if n < 2 else fib(n - 1) + fib(n - 2)\n",
-    ),
-    ("(n) = 1+2-3", "(n) = 1 + 2 - 3\n"),
-    ("(n) = 1-(2-3)", "(n) = 1 - (2 - 3)\n"),
-    ("(n) = (1-2)-3", "(n) = (1 - 2) - 3\n"),
-    ("(n) = (2*n)+(3*n)", "(n) = 2 * n + 3 * n\n"),
-    ("(n) = 2*(n+3)*n", "(n) = 2 * (n + 3) * n\n"),
-    ("(n) = (2*3)*4", "(n) = (2 * 3) * 4\n"),
-    ("(n) = 2*(3*4)", "(n) = 2 * (3 * 4)\n"),
-    ("(n) = g((n+1)*2)", "(n) = g((n + 1) * 2)\n"),
-    ("(n) = g(h(n))*2", "(n) = g(h(n)) * 2\n"),
-    ("(x) = g(x if x<1 else 2)", "(x) = g(x if x < 1 else 2)\n"),
-    (
-        "(n) = 1 if n<2 else (2 if n<3 else 4)",
-        "(n) = 1 if n < 2 else (2 if n < 3 else 4)\n",
-    ),
-    (
-        "(n) = (1 if n<2 else 2)+1",
-        "(n) = (1 if n < 2 else 2) + 1\n",
-    ),
-    ("(n) = (a or b) and c", "(n) = (a or b) and c\n"),
-    ("(n) = not (a and b)", "(n) = not (a and b)\n"),
-    ("(n) = (not a) == b", "(n) = (not a) == b\n"),
-    ("(n) = (a < b) < c", "(n) = (a < b) < c\n"),
-    ("(n) = - - n", "(n) = --n\n"),
-    ("(n) = 2 ** -n ** 3", "(n) = 2 ** -n ** 3\n"),
-    ("(n) = (2 ** n) ** 3", "(n) = (2 ** n) ** 3\n"),
-    ("(n) = (a + b).c[1](2)", "(n) = (a + b).c[1](2)\n"),
     ("(): return 1", "() = 1\n"),
     ("():\n  return 1", "() = 1\n"),
     ("(): return", "():\n    return\n"),
@@ -145,6 +113,42 @@ const FORMULAS: [(&str, &str); 97] = [
     ("():\n  x = {}", "unexpected 10"),
     ("():\n  lambda", "unexpected 6"),
     ("():\n  pass\n\n  # c\n  pass", "():\n    pass\n    pass\n"),
+];
+
+/// Formulas in odd spacing and parentheses, with their printed forms.
+const PRINTED: [(&str, &str); 23] = [
+    ("(n)=n", "(n) = n\n"),
+    ("( n ) = ((n))", "(n) = n\n"),
+    (
+        "(n) = n if n<2 else fib( n-1 )+fib(n-2)",
+        "(n) = n if n < 2 else fib(n - 1) + fib(n - 2)\n",
+    ),
+    ("(n) = 1+2-3", "(n) = 1 + 2 - 3\n"),
+    ("(n) = 1-(2-3)", "(n) = 1 - (2 - 3)\n"),
+    ("(n) = (1-2)-3", "(n) = (1 - 2) - 3\n"),
+    ("(n) = (2*n)+(3*n)", "(n) = 2 * n + 3 * n\n"),
+    ("(n) = 2*(n+3)*n", "(n) = 2 * (n + 3) * n\n"),
+    ("(n) = (2*3)*4", "(n) = (2 * 3) * 4\n"),
+    ("(n) = 2*(3*4)", "(n) = 2 * (3 * 4)\n"),
+    ("(n) = g((n+1)*2)", "(n) = g((n + 1) * 2)\n"),
+    ("(n) = g(h(n))*2", "(n) = g(h(n)) * 2\n"),
+    ("(x) = g(x if x<1 else 2)", "(x) = g(x if x < 1 else 2)\n"),
+    (
+        "(n) = 1 if n<2 else (2 if n<3 else 4)",
+        "(n) = 1 if n < 2 else (2 if n < 3 else 4)\n",
+    ),
+    (
+        "(n) = (1 if n<2 else 2)+1",
+        "(n) = (1 if n < 2 else 2) + 1\n",
+    ),
+    ("(n) = (a or b) and c", "(n) = (a or b) and c\n"),
+    ("(n) = not (a and b)", "(n) = not (a and b)\n"),
+    ("(n) = (not a) == b", "(n) = (not a) == b\n"),
+    ("(n) = (a < b) < c", "(n) = (a < b) < c\n"),
+    ("(n) = - - n", "(n) = --n\n"),
+    ("(n) = 2 ** -n ** 3", "(n) = 2 ** -n ** 3\n"),
+    ("(n) = (2 ** n) ** 3", "(n) = (2 ** n) ** 3\n"),
+    ("(n) = (a + b).c[1](2)", "(n) = (a + b).c[1](2)\n"),
 ];
 
 /// Parameters of spaces.
@@ -243,6 +247,15 @@ mod tests {
         for (source, wanted) in FORMULAS {
             let found = formula(rt.alloc(), source.as_bytes())?;
             assert!(rt; found.as_slice() == wanted.as_bytes(), "at {source}");
+        }
+        Ok(())
+    }
+
+    #[test]
+    fn prints_formulas_in_one_form(rt: HostRuntime) -> Result<(), Fail> {
+        for (source, text) in PRINTED {
+            let found = formula(rt.alloc(), source.as_bytes())?;
+            assert!(rt; found.as_slice() == text.as_bytes(), "at {source}");
         }
         Ok(())
     }

@@ -12,7 +12,7 @@ use std::alloc::{AllocError, Global};
 use std::test::Fail;
 
 /// A definition is shown as its path, its name and its printed formula, and a question as its node.
-const ROWS: [(&str, &str); 80] = [
+const COMMANDS: [(&str, &str); 23] = [
     ("cells f(x) = x", "Main.f (x) = x\n"),
     ("  cells f(x) = x", "Main.f (x) = x\n"),
     ("cells   f  (x) = x", "Main.f (x) = x\n"),
@@ -23,7 +23,6 @@ const ROWS: [(&str, &str); 80] = [
         "cells f(x, k=2, on=True) = x*k",
         "Main.f (x, k=2, on=True) = x * k\n",
     ),
-    ("cells f(x) = g(x)(1)", "not built"),
     ("cells f(x) = g(x, 1)", "Main.f (x) = g(x, 1)\n"),
     ("cells abs(x) = x", "Main.abs (x) = x\n"),
     ("cells cells(x) = x", "Main.cells (x) = x\n"),
@@ -45,6 +44,11 @@ const ROWS: [(&str, &str); 80] = [
     ("eval f() # a note", "Main.f()"),
     ("eval A[1, 2].f(3)", "A[1, 2].f(3)"),
     ("eval A[1]", "A[1]"),
+    ("def f(x):\n    return", "Main.f (x):\n    return\n"),
+];
+
+/// Unknown words, and tokens that no form of a head allows.
+const MISPLACED: [(&str, &str); 20] = [
     ("", "unknown word"),
     ("evall f(1)", "unknown word"),
     ("eval(f)", "unknown word"),
@@ -65,6 +69,10 @@ const ROWS: [(&str, &str); 80] = [
     ("cells\n f(x) = x", "bad form 5"),
     ("cells f\n g(x) = x", "bad form 9"),
     ("cells f.(x) = x +", "bad form 8"),
+];
+
+/// Heads, formulas and nodes that are refused.
+const TROUBLES: [(&str, &str); 24] = [
     ("cells f$(x) = x", "bad byte 7"),
     ("  cells f$(x) = x +", "bad byte 9"),
     (" cells 07(x) = x", "bad number 7"),
@@ -91,6 +99,12 @@ const ROWS: [(&str, &str); 80] = [
     ("eval f(1) 2", "unexpected 5"),
     ("eval f(07)", "bad number 2"),
     ("eval f(1)$", "bad byte 4"),
+    ("cells f(x) = {}", "unexpected 6"),
+];
+
+/// Forms that are not run yet.
+const LATER: [(&str, &str); 13] = [
+    ("cells f(x) = g(x)(1)", "not built"),
     ("cells f(x) = x / 2", "not built"),
     ("cells f(x) = x ** 2", "not built"),
     ("cells f(x) = abs(x)", "not built"),
@@ -99,9 +113,7 @@ const ROWS: [(&str, &str); 80] = [
     ("cells f(x) = x is None", "not built"),
     ("cells f(x) = x in x", "not built"),
     ("cells f(x, k='a') = x", "not built"),
-    ("cells f(x) = {}", "unexpected 6"),
     ("def f(x):\n    for i in x:\n        return i", "not built"),
-    ("def f(x):\n    return", "Main.f (x):\n    return\n"),
     ("eval f(1.5)", "not built"),
     ("eval f('a')", "not built"),
     ("eval A[None]", "not built"),
@@ -229,8 +241,35 @@ fn in_parentheses(alloc: Global, depth: usize) -> Result<Vec<u8>, AllocError> {
 }
 
 #[test]
-fn a_text_says_a_command_or_its_first_trouble(rt: HostRuntime) -> Result<(), Fail> {
-    for (text, wanted) in ROWS {
+fn a_text_says_a_command(rt: HostRuntime) -> Result<(), Fail> {
+    for (text, wanted) in COMMANDS {
+        let found = said(rt.alloc(), text.as_bytes())?;
+        assert!(rt; found.as_slice() == wanted.as_bytes(), "at {text}");
+    }
+    Ok(())
+}
+
+#[test]
+fn a_word_and_a_head_are_refused_at_their_places(rt: HostRuntime) -> Result<(), Fail> {
+    for (text, wanted) in MISPLACED {
+        let found = said(rt.alloc(), text.as_bytes())?;
+        assert!(rt; found.as_slice() == wanted.as_bytes(), "at {text}");
+    }
+    Ok(())
+}
+
+#[test]
+fn a_formula_is_refused_at_its_first_trouble(rt: HostRuntime) -> Result<(), Fail> {
+    for (text, wanted) in TROUBLES {
+        let found = said(rt.alloc(), text.as_bytes())?;
+        assert!(rt; found.as_slice() == wanted.as_bytes(), "at {text}");
+    }
+    Ok(())
+}
+
+#[test]
+fn what_is_not_run_yet_is_refused_last(rt: HostRuntime) -> Result<(), Fail> {
+    for (text, wanted) in LATER {
         let found = said(rt.alloc(), text.as_bytes())?;
         assert!(rt; found.as_slice() == wanted.as_bytes(), "at {text}");
     }
