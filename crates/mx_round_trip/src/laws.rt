@@ -1,0 +1,46 @@
+//! What holds of printed texts, for those who parse them again.
+
+ghost use Rattle.std.specs.Prelude.{ℕ, List};
+ghost use Rattle.mx_value.specs.declared.value.Value.{Value};
+ghost use Rattle.mx_grammar.specs.Literals.{literal_text};
+ghost use Rattle.mx_print.specs.Values.{value_text};
+ghost use Rattle.mx_syntax.specs.declared.expr.Expr.{Expr};
+ghost use Rattle.mx_syntax.specs.declared.stmt.Formula.{Formula};
+ghost use Rattle.mx_syntax.specs.declared.stmt.Params.{Params};
+ghost use Rattle.mx_expression.specs.Expressions.{expression_text};
+ghost use Rattle.mx_print.specs.Expressions.{at, printed};
+ghost use Rattle.mx_print.specs.Statements.{print, print_params};
+ghost use Rattle.mx_parse.specs.Formulas.{formula_text, params_text};
+ghost use Rattle.mx_parse.specs.FormulaLimits.{formula_limits, params_limits};
+ghost use Rattle.mx_round_trip.specs.ReadBack.{ReadsBack, ReadsBackWithin, GivenAgain};
+
+/// The printed text of a literal spells it again, unless it is longer than a source may be.
+pub fn literals_read_back()
+    ensures { (source : List ℕ) (v : Value) → ReadsBack literal_text source v (value_text v) }
+{}
+
+/// The printed text of an expression spells it again, unless it is past a limit of sources.
+pub fn expressions_read_back()
+    ensures { (source : List ℕ) (x : Expr) → ReadsBackWithin expression_text source x (at 0 (printed x)) }
+{}
+
+/// The printed text of a formula spells it again, unless it is past a limit of sources.
+pub fn formulas_read_back()
+    ensures { (source : List ℕ) (f : Formula) → ReadsBackWithin formula_text source f (print f) }
+{}
+
+/// The printed text of a space's parameters spells them again, unless it is past a limit of sources.
+pub fn params_read_back()
+    ensures { (source : List ℕ) (p : Params) → ReadsBackWithin params_text source p (print_params p) }
+{}
+
+/// Of each formula that is given for a source, the printed text is a source for which that formula is given. So the parser, of which
+/// each source has one answer, gives it again.
+pub fn formula_round_trip()
+    ensures { (source : List ℕ) (f : Formula) → GivenAgain formula_text formula_limits source f (print f) }
+{}
+
+/// The same of the parameters of a space.
+pub fn params_round_trip()
+    ensures { (source : List ℕ) (p : Params) → GivenAgain params_text params_limits source p (print_params p) }
+{}
