@@ -3,11 +3,9 @@ ghost use Rattle.std.specs.Prelude.{◌≡◌, ◌<◌};
 
 use crate::edit::{Edit, EditRefusal};
 use crate::engine::Engine;
-use crate::trees::{
-    call, call_before, choice, formula, int, label, name, node, of_n, param, path, product, sum,
-};
+use crate::trees::{formula, int, label, name, node, of_n, param, path, product, sum};
 use mx_machine::steps::Steps;
-use mx_syntax::expr::{CmpOp, ProductOp, SumOp};
+use mx_syntax::expr::{ProductOp, SumOp};
 use mx_syntax::stmt::{Formula, Stmt};
 use mx_value::fault::FaultKind;
 use mx_value::node::Node;
@@ -63,19 +61,6 @@ fn answers<L: Ledger>(engine: &mut Engine, steps: &mut Steps<L>, asked: &Node, v
     }
 }
 
-/// The chain of the node is too deep, at this node.
-fn is_too_deep<L: Ledger>(
-    engine: &mut Engine,
-    steps: &mut Steps<L>,
-    asked: &Node,
-    deep: &Node,
-) -> bool {
-    match engine.eval(asked, steps) {
-        Err(EvalRefusal::TooDeep(node)) => node == *deep,
-        _ => false,
-    }
-}
-
 /// The run of a node met a fault, in a line of its formula.
 fn faults<L: Ledger>(
     engine: &mut Engine,
@@ -104,64 +89,6 @@ fn is_refused<L: Ledger>(
     }
 }
 
-/// `(n) = n if n < least else fib(n - 1) + fib(n - 2)`.
-fn fib(alloc: Global, least: i64) -> Result<Formula, AllocError> {
-    let one = call_before(alloc, "fib", "n", 1)?;
-    let two = call_before(alloc, "fib", "n", 2)?;
-    let both = sum(alloc, one, SumOp::Plus, two)?;
-    let value = choice(
-        alloc,
-        name(alloc, "n")?,
-        name(alloc, "n")?,
-        CmpOp::Lt,
-        int(least),
-        both,
-    )?;
-    of_n(alloc, value)
-}
-
-fn fib_rows<L: Ledger>(
-    rt: &impl Abort,
-    alloc: Global,
-    engine: &mut Engine,
-    steps: &mut Steps<L>,
-) -> Result<(), Fail> {
-    let asked = node(alloc, "fib", &[30])?;
-    assert!(rt; drops(alloc, engine, "fib", fib(alloc, 2)?, 0)?);
-    assert!(rt; answers(engine, steps, &asked, 832040));
-    assert_eq!(rt; engine.held_count(), 31);
-    assert!(rt; answers(engine, steps, &asked, 832040));
-    assert_eq!(rt; engine.held_count(), 31);
-    assert!(rt; drops(alloc, engine, "fib", fib(alloc, 3)?, 31)?);
-    assert!(rt; answers(engine, steps, &asked, 1346269));
-    assert_eq!(rt; engine.held_count(), 30);
-    Ok(())
-}
-
-/// `(n) = 0 if n == 0 else f(n - 1)`.
-fn countdown(alloc: Global) -> Result<Formula, AllocError> {
-    let next = call_before(alloc, "f", "n", 1)?;
-    let value = choice(alloc, int(0), name(alloc, "n")?, CmpOp::Eq, int(0), next)?;
-    of_n(alloc, value)
-}
-
-fn deep_rows<L: Ledger>(
-    rt: &impl Abort,
-    alloc: Global,
-    engine: &mut Engine,
-    steps: &mut Steps<L>,
-) -> Result<(), Fail> {
-    let least = node(alloc, "f", &[0])?;
-    let last = node(alloc, "f", &[200])?;
-    assert!(rt; drops(alloc, engine, "f", countdown(alloc)?, 0)?);
-    assert!(rt; is_too_deep(engine, steps, &last, &least));
-    assert_eq!(rt; engine.held_count(), 0);
-    assert!(rt; answers(engine, steps, &node(alloc, "f", &[199])?, 0));
-    assert!(rt; answers(engine, steps, &last, 0));
-    assert_eq!(rt; engine.held_count(), 201);
-    Ok(())
-}
-
 fn fault_rows<L: Ledger>(
     rt: &impl Abort,
     alloc: Global,
@@ -177,46 +104,6 @@ fn fault_rows<L: Ledger>(
     assert!(rt; answers(engine, steps, &one, i64::MAX));
     assert_eq!(rt; engine.held_count(), 1);
     assert!(rt; is_refused(engine, steps, &missing, &EvalRefusal::NoSuch));
-    Ok(())
-}
-
-/// `def f(n):`, `    x = g(n)`, `    return x // by`.
-fn quotient(alloc: Global, by: i64) -> Result<Formula, AllocError> {
-    let params = vec![in alloc; param(alloc, "n", None)?]?;
-    let given = call(alloc, "g", name(alloc, "n")?)?;
-    let value = product(alloc, name(alloc, "x")?, ProductOp::Floor, int(by))?;
-    let body = vec![in alloc;
-        Stmt::Assign(label(alloc, "x")?, given),
-        Stmt::Return(Some(value)),
-    ]?;
-    formula(alloc, params, body)
-}
-
-/// `() = f(4)`.
-fn top(alloc: Global) -> Result<Formula, AllocError> {
-    let value = call(alloc, "f", int(4))?;
-    let body = vec![in alloc; Stmt::Return(Some(value))]?;
-    formula(alloc, Vec::new(alloc), body)
-}
-
-fn statement_rows<L: Ledger>(
-    rt: &impl Abort,
-    alloc: Global,
-    engine: &mut Engine,
-    steps: &mut Steps<L>,
-) -> Result<(), Fail> {
-    let asked = node(alloc, "top", &[])?;
-    let inner = node(alloc, "f", &[4])?;
-    let one_too_many = node(alloc, "top", &[1])?;
-    assert!(rt; drops(alloc, engine, "f", quotient(alloc, 0)?, 0)?);
-    assert!(rt; drops(alloc, engine, "g", of_n(alloc, name(alloc, "n")?)?, 0)?);
-    assert!(rt; drops(alloc, engine, "top", top(alloc)?, 0)?);
-    assert!(rt; faults(engine, steps, &asked, FaultKind::ZeroDivision, &inner, 3));
-    assert_eq!(rt; engine.held_count(), 1);
-    assert!(rt; drops(alloc, engine, "f", quotient(alloc, 2)?, 1)?);
-    assert!(rt; answers(engine, steps, &asked, 2));
-    assert_eq!(rt; engine.held_count(), 3);
-    assert!(rt; is_refused(engine, steps, &one_too_many, &EvalRefusal::WrongCount));
     Ok(())
 }
 
@@ -245,6 +132,22 @@ fn bound_rows<L: Ledger>(
     Ok(())
 }
 
+fn kept_rows<L: Ledger>(
+    rt: &impl Abort,
+    alloc: Global,
+    engine: &mut Engine,
+    steps: &mut Steps<L>,
+) -> Result<(), Fail> {
+    let asked = node(alloc, "g", &[7])?;
+    assert!(rt; drops(alloc, engine, "g", of_n(alloc, name(alloc, "n")?)?, 0)?);
+    assert!(rt; answers(engine, steps, &asked, 7));
+    assert!(rt; answers(engine, steps, &asked, 7));
+    assert_eq!(rt; engine.held_count(), 1);
+    assert!(rt; drops(alloc, engine, "g", of_n(alloc, int(5))?, 1)?);
+    assert!(rt; answers(engine, steps, &asked, 5));
+    Ok(())
+}
+
 fn refused_rows(rt: &impl Abort, alloc: Global, engine: &mut Engine) -> Result<(), Fail> {
     assert!(rt; refuses(alloc, engine, "Main", "not", EditRefusal::BadName)?);
     assert!(rt; refuses(alloc, engine, "Other", "f", EditRefusal::NoSuchSpace)?);
@@ -258,27 +161,12 @@ fn kept<L: Ledger>(rt: &impl Abort, alloc: Global, blank: Blank) -> Result<(), F
 {
     let mut steps = Steps::<L>::new(blank);
     let mut engine = Engine::new(alloc)?;
-    fib_rows(rt, alloc, &mut engine, &mut steps)
+    kept_rows(rt, alloc, &mut engine, &mut steps)
 }
 
 #[test]
 fn values_are_kept_until_an_edit(rt: HostRuntime) -> Result<(), Fail> {
     kept::<Brand>(&rt, rt.alloc(), Blank::new(1))
-}
-
-fn deep<L: Ledger>(rt: &impl Abort, alloc: Global, blank: Blank) -> Result<(), Fail>
-    requires name { blank.name ≡ L.name }
-    requires parts { blank.parts ≡ L.parts }
-    requires some { 0 < blank.parts }
-{
-    let mut steps = Steps::<L>::new(blank);
-    let mut engine = Engine::new(alloc)?;
-    deep_rows(rt, alloc, &mut engine, &mut steps)
-}
-
-#[test]
-fn a_chain_past_200_calls_is_too_deep_but_held_nodes_break_it(rt: HostRuntime) -> Result<(), Fail> {
-    deep::<Brand>(&rt, rt.alloc(), Blank::new(1))
 }
 
 fn refused<L: Ledger>(rt: &impl Abort, alloc: Global, blank: Blank) -> Result<(), Fail>
@@ -294,21 +182,6 @@ fn refused<L: Ledger>(rt: &impl Abort, alloc: Global, blank: Blank) -> Result<()
 #[test]
 fn an_overflow_and_a_missing_name_are_refused(rt: HostRuntime) -> Result<(), Fail> {
     refused::<Brand>(&rt, rt.alloc(), Blank::new(1))
-}
-
-fn stated<L: Ledger>(rt: &impl Abort, alloc: Global, blank: Blank) -> Result<(), Fail>
-    requires name { blank.name ≡ L.name }
-    requires parts { blank.parts ≡ L.parts }
-    requires some { 0 < blank.parts }
-{
-    let mut steps = Steps::<L>::new(blank);
-    let mut engine = Engine::new(alloc)?;
-    statement_rows(rt, alloc, &mut engine, &mut steps)
-}
-
-#[test]
-fn a_fault_has_the_line_of_its_statement(rt: HostRuntime) -> Result<(), Fail> {
-    stated::<Brand>(&rt, rt.alloc(), Blank::new(1))
 }
 
 fn bound<L: Ledger>(rt: &impl Abort, alloc: Global, blank: Blank) -> Result<(), Fail>

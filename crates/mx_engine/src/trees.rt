@@ -2,9 +2,7 @@
 use mx_list::items::Items;
 use mx_list::list::List;
 use mx_list::shared::Shared;
-use mx_syntax::expr::{
-    Args, Arm, CmpOp, Comparison, Expr, ProductOp, ProductPart, SumOp, SumPart, Trailer,
-};
+use mx_syntax::expr::{Expr, ProductOp, ProductPart, SumOp, SumPart};
 use mx_syntax::stmt::{Formula, Param, Stmt};
 use mx_value::label::Label;
 use mx_value::node::{Node, Path};
@@ -47,43 +45,6 @@ pub fn product(alloc: Global, first: Expr, op: ProductOp, of: Expr) -> Result<Ex
         first: Shared::new(alloc, first)?,
         rest: List::from_vec(alloc, parts)?,
     })
-}
-
-/// `value if left op right else last`.
-pub fn choice(
-    alloc: Global,
-    value: Expr,
-    left: Expr,
-    op: CmpOp,
-    right: Expr,
-    last: Expr,
-) -> Result<Expr, AllocError> {
-    let parts = vec![in alloc; Comparison::Op(op, right)]?;
-    let test = Expr::Compare {
-        first: Shared::new(alloc, left)?,
-        rest: List::from_vec(alloc, parts)?,
-    };
-    let arms = vec![in alloc; Arm { value, test }]?;
-    Ok(Expr::Cond {
-        arms: List::from_vec(alloc, arms)?,
-        last: Shared::new(alloc, last)?,
-    })
-}
-
-/// `function(argument)`.
-pub fn call(alloc: Global, function: &str, argument: Expr) -> Result<Expr, AllocError> {
-    let arguments = vec![in alloc; argument]?;
-    let trailers = vec![in alloc; Trailer::Call(Args::List(List::from_vec(alloc, arguments)?))]?;
-    Ok(Expr::Post {
-        of: Shared::new(alloc, name(alloc, function)?)?,
-        trailers: List::from_vec(alloc, trailers)?,
-    })
-}
-
-/// `function(name - less)`.
-pub fn call_before(alloc: Global, function: &str, of: &str, less: i64) -> Result<Expr, AllocError> {
-    let argument = sum(alloc, name(alloc, of)?, SumOp::Minus, int(less))?;
-    call(alloc, function, argument)
 }
 
 pub fn param(alloc: Global, name: &str, default: Option<Value>) -> Result<Param, AllocError> {
