@@ -36,3 +36,4 @@ pub mod LineTexts
 pub mod Statements
 pub mod Formulas
 pub mod SpaceParameters
+pub mod Addresses

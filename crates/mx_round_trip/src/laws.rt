@@ -2,8 +2,9 @@
 
 ghost use Rattle.std.specs.Prelude.{ℕ, List};
 ghost use Rattle.mx_value.specs.declared.value.Value.{Value};
-ghost use Rattle.mx_grammar.specs.Literals.{literal_text};
-ghost use Rattle.mx_print.specs.Values.{value_text};
+ghost use Rattle.mx_value.specs.declared.value.Segment.{Segment};
+ghost use Rattle.mx_grammar.specs.Literals.{literal_text, addr_text};
+ghost use Rattle.mx_print.specs.Values.{value_text, address_text};
 ghost use Rattle.mx_syntax.specs.declared.expr.Expr.{Expr};
 ghost use Rattle.mx_syntax.specs.declared.stmt.Formula.{Formula};
 ghost use Rattle.mx_syntax.specs.declared.stmt.Params.{Params};
@@ -17,6 +18,11 @@ ghost use Rattle.mx_round_trip.specs.ReadBack.{ReadsBack, ReadsBackWithin, Given
 /// The printed text of a literal spells it again, unless it is longer than a source may be.
 pub fn literals_read_back()
     ensures { (source : List ℕ) (v : Value) → ReadsBack literal_text source v (value_text v) }
+{}
+
+/// The printed text of an address spells it again, unless it is longer than a source may be.
+pub fn addresses_read_back()
+    ensures { (source : List ℕ) (a : List Segment) → ReadsBack addr_text source a (address_text a) }
 {}
 
 /// The printed text of an expression spells it again, unless it is past a limit of sources.
