@@ -1,7 +1,7 @@
 mod BindLemmas
 mod ExprLemmas
 mod LineLemmas
-mod ListLemmas
+pub mod ListLemmas
 mod LocalLemmas
 mod StatementLemmas
-mod TextLemmas
+pub mod TextLemmas

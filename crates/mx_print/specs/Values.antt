@@ -1,4 +1,4 @@
--- The texts of values.
+-- The texts of values and nodes.
 use Rattle.std.specs.Prelude.{ℕ, zero, suc, ◌+◌, ◌/◌, ◌%◌, ◌^◌, ◌==◌, ◌||◌, ◌&&◌, nat_lt, List, [], ◌∷◌, ◌++◌, map, if◌then◌else◌, codes, ℤ, unsigned_abs}
 use Rattle.std.specs.List.{concat}
 use Rattle.std.specs.Int.{is_negative}
@@ -7,6 +7,8 @@ use Rattle.mx_value.specs.declared.value.Value.{Value, fold-Value}
 use Rattle.mx_value.specs.declared.value.Segment.{Segment, fold-Segment}
 use Rattle.mx_value.specs.declared.value.CellsAt.{CellsAt, fold-CellsAt}
 use Rattle.mx_value.specs.declared.value.Segment.TheOpen.{Segment-F, Value-F, CellsAt-F}
+use Rattle.mx_value.specs.declared.node.Node.{Node}
+use Rattle.mx_value.specs.declared.node.Node.TheVariants as node
 use Rattle.mx_print.specs.Texts.{Text, commas}
 
 -- the digits of a number, as many as are asked, with zeros in front
@@ -73,3 +75,8 @@ cells_text = fold-CellsAt Text Text Text segment_step value_step cells_step
 
 abbrev pub address_text : List Segment → Text
 address_text at = address_of (map segment_text at)
+
+-- a node: its address, its name behind a dot and its arguments; an item node has them in brackets
+abbrev pub node_text : Node → Text
+node_text (node.Cell at name arguments) = address_text at ++ (codes "." ++ (name ++ (codes "(" ++ (commas (map value_text arguments) ++ codes ")"))))
+node_text (node.Item at arguments) = address_text at ++ (codes "[" ++ (commas (map value_text arguments) ++ codes "]"))

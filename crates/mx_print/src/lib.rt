@@ -1,7 +1,7 @@
-//! The printed text of formulas, parameter lists and values, and the binding of arguments.
+//! The printed text of formulas, parameter lists, values and nodes, and the binding of arguments.
 #![tactic(auto)]
 
-mod append;
+pub mod append;
 pub mod bind;
 mod expr;
 pub mod formula;

@@ -1,12 +1,13 @@
-//! The texts of values, each added behind the bytes of a buffer.
+//! The texts of values and nodes, each added behind the bytes of a buffer.
 ghost use Rattle.std.specs.Prelude.{◌≡◌, ◌++◌, map, if◌then◌else◌, OnOk};
 ghost use Rattle.std.specs.List.{concat};
 ghost use Rattle.mx_print.specs.Texts.{commas};
 ghost use Rattle.mx_print.specs.Values as spec;
-ghost use Rattle.mx_print.specs.Values.{value_text, segment_text};
+ghost use Rattle.mx_print.specs.Values.{value_text, segment_text, node_text};
 
 use crate::append::{push, push_int, push_number};
 use mx_value::fixed::Fixed;
+use mx_value::node::Node;
 use mx_value::value::{CellsAt, Segment, Value};
 use std::alloc::AllocError;
 
@@ -183,6 +184,28 @@ fn push_segment(out: &mut Vec<u8>, segment: &Segment, first: bool) -> Result<(),
         Segment::Item(items) => {
             push(out, b"[")?;
             push_commas(out, items.as_slice())?;
+            push(out, b"]")
+        }
+    }
+}
+
+/// Adds a node: its address, its name behind a dot, and its arguments; an item node has them in brackets.
+pub fn push_node(out: &mut Vec<u8>, node: &Node) -> Result<(), AllocError>
+    ensures { OnOk result (out.new.items ≡ out.old.items ++ node_text node.now) }
+{
+    match node {
+        Node::Cell(at, name, arguments) => {
+            push_address(out, at.as_slice())?;
+            push(out, b".")?;
+            push(out, name.as_slice())?;
+            push(out, b"(")?;
+            push_commas(out, arguments.as_slice())?;
+            push(out, b")")
+        }
+        Node::Item(at, arguments) => {
+            push_address(out, at.as_slice())?;
+            push(out, b"[")?;
+            push_commas(out, arguments.as_slice())?;
             push(out, b"]")
         }
     }
