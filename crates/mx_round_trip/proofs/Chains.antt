@@ -1,5 +1,5 @@
 -- Chains of operators, read as they are printed.
-use Rattle.std.proofs.Common.{◌≡◌, ℕ, ◌<◌, suc, List, [], ◌∷◌, ◌++◌, false, map, sym, ap, ◌∙◌, subst, arith}
+use Rattle.std.proofs.Common.{◌≡◌, ℕ, ◌<◌, suc, List, [], ◌∷◌, ◌++◌, false, map, refl, sym, ap, ◌∙◌, subst, arith}
 use Rattle.std.specs.Prelude.{codes}
 use Rattle.mx_lex.specs.Bytes.{first_passes}
 use Rattle.mx_syntax.specs.declared.expr.Expr.{Expr, fold-roll-Expr}
@@ -133,7 +133,7 @@ abbrev Compares : ℕ → Spelling Comparisons
 Compares e = CompareTail (Sum (Product (Signeds e)))
 
 flat_keyword_none : Flat glues (codes "None") (Symbol symbol.None ∷ [])
-flat_keyword_none = flat_more (record { reads = reads_none }) (stops_glues false)
+flat_keyword_none = flat_more (record { reads = reads_none; plain = refl }) (stops_glues false)
 
 -- a test for None, which has no part behind it
 closed_tail : (d : ℕ) (y : Comparisons) (words : List Word) (text : Text) → comparison_text y ≡ 32 ∷ text → ((e : ℕ) → Compares e words y) → Flat glues (32 ∷ text) words → TailSays Compares d glues comparison_text y

@@ -83,10 +83,10 @@ headed Item d c params ps s others flat h short =
 
 -- ---- formulas of cells
 
-no_items : (d : ℕ) (u : List Word) (entries : List ItemEntry) → AreSaid u → Never u entries → Says (λ k. Never) d none entries (display_text entries)
+pub no_items : (d : ℕ) (u : List Word) (entries : List ItemEntry) → AreSaid u → Never u entries → Says (λ k. Never) d none entries (display_text entries)
 no_items d u entries are h = absurd h
 
-abbrev Cells : Items
+abbrev pub Cells : Items
 Cells k = Never
 
 formula_value : (levels : ℕ) (params : List Param) (x : Expr) → Says (λ e. Parameters (Within Literal e)) (levels + 1) none params (params_text params) → Says Expressions (levels + 1) glues x (whole x)

@@ -6,6 +6,7 @@ pub mod Numbers
 pub mod Decimals
 pub mod Quoted
 pub mod Counts
+pub mod Plain
 pub mod Flat
 pub mod Printed
 pub mod Sources
@@ -36,4 +37,6 @@ pub mod LineTexts
 pub mod Statements
 pub mod Formulas
 pub mod SpaceParameters
+pub mod Within
+pub mod ParsedLines
 pub mod Addresses

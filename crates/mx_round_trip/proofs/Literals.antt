@@ -21,6 +21,7 @@ use Rattle.mx_round_trip.proofs.Spans.{is_equals, reads_minus, reads_none, reads
 use Rattle.mx_round_trip.proofs.Numbers.{glues}
 use Rattle.mx_round_trip.proofs.NumberTexts.{flat_int, flat_fix, decimal_begins}
 use Rattle.mx_round_trip.proofs.Quoted.{reads_quoted}
+use Rattle.mx_round_trip.proofs.Plain.{quoted_plain}
 use Rattle.mx_round_trip.proofs.Counts.{IsClosed, IsNoDeeper, closed_append, no_deeper_both, same_depth, closed_round, no_deeper_round}
 use Rattle.mx_round_trip.proofs.Flat.{Flat, flat_both, flat_more, flat_nothing, flat_round, flat_comma_behind}
 use Rattle.mx_round_trip.proofs.Printed.{Again, AllAgain, with_commas, again_none, again_one, again_more, starts, comma_closed, none_closed}
@@ -78,19 +79,19 @@ in_round : (inner text : List ℕ) (ws vs : List Word) → inner ++ 41 ∷ [] �
 in_round inner text ws vs e g = flat_more (subst (λ l. Flat none (40 ∷ l) (around ws vs)) e (flat_round g refl)) less_none
 
 flat_minus : Flat is_equals (45 ∷ []) (word.Symbol symbol.Minus ∷ [])
-flat_minus = record { reads = reads_minus }
+flat_minus = record { reads = reads_minus; plain = refl }
 
 pub flat_quoted : (t : List ℕ) → list_all is_printable t ≡ true → Flat none (quoted t) (word.Text t ∷ [])
-flat_quoted t h = record { reads = λ number brackets stack. reads_quoted t number brackets stack h }
+flat_quoted t h = record { reads = λ number brackets stack. reads_quoted t number brackets stack h; plain = quoted_plain t h }
 
 pub flat_none : Flat continues_name (codes "None") (word.Symbol symbol.None ∷ [])
-flat_none = record { reads = reads_none }
+flat_none = record { reads = reads_none; plain = refl }
 
 pub flat_true : Flat continues_name (codes "True") (word.Symbol symbol.True ∷ [])
-flat_true = record { reads = reads_true }
+flat_true = record { reads = reads_true; plain = refl }
 
 pub flat_false : Flat continues_name (codes "False") (word.Symbol symbol.False ∷ [])
-flat_false = record { reads = reads_false }
+flat_false = record { reads = reads_false; plain = refl }
 
 -- a decimal number from 0 on
 abbrev pub fixed_by : ℕ → List ℕ

@@ -15,6 +15,7 @@ use Rattle.mx_grammar.specs.declared.word.Symbol.TheVariants as symbol
 use Rattle.mx_round_trip.proofs.Goes.{Reads, then_reads, none, none_first}
 use Rattle.mx_round_trip.proofs.Pieces.{inside, BeginsToken, reads_token}
 use Rattle.mx_round_trip.proofs.Spans.{name_span, is_equals}
+use Rattle.mx_round_trip.proofs.Plain.{plain_both, name_plain}
 use Rattle.mx_round_trip.proofs.Flat.{Flat}
 use Rattle.mx_round_trip.proofs.ExpressionRules.{begins}
 
@@ -43,6 +44,7 @@ flat_name_by b bs first all free = record {
       let kind : cond (is_keyword (b ∷ bs)) Keyword Name ≡ Name = rw free refl in
       subst (λ n. Reads continues_name (inside number brackets stack) (b ∷ bs) (word.Name (b ∷ bs) ∷ []) (inside number n stack)) count
       (reads_token continues_name Name b bs number brackets stack h.begins (λ at rest stops. name_span at b bs rest first all stops ∙ ap (λ k. found k (length (b ∷ bs))) kind));
+  plain = name_plain (b ∷ bs) all;
 }
 
 pub flat_name : (n : List ℕ) → IsName n → Flat continues_name n (word.Name n ∷ [])
@@ -65,7 +67,7 @@ dot_span at [] h = refl
 dot_span at (b ∷ bs) h = rw h refl
 
 pub flat_dot : Flat is_ascii_digit (46 ∷ []) (word.Symbol symbol.Dot ∷ [])
-flat_dot = record { reads = λ number brackets stack. reads_token is_ascii_digit Mark 46 [] number brackets stack (record { space = refl; line_end = refl; comment = refl }) (λ at rest stops. dot_span at rest stops) }
+flat_dot = record { reads = λ number brackets stack. reads_token is_ascii_digit Mark 46 [] number brackets stack (record { space = refl; line_end = refl; comment = refl }) (λ at rest stops. dot_span at rest stops); plain = refl }
 
 open_span : (at : ℕ) (rest : List ℕ) → span_at at (91 ∷ rest) ≡ found Mark 1
 unfolding span_at mark_at
@@ -90,4 +92,5 @@ flat_square {F} {u} {ws} g stops = record {
       then_reads (reads_open number brackets stack)
       (then_reads (g.reads number (brackets + 1) stack) (reads_close number brackets stack) (λ rest _. stops))
       (λ rest _. none_first ((u ++ 93 ∷ []) ++ rest));
+  plain = plain_both u (93 ∷ []) g.plain refl;
 }

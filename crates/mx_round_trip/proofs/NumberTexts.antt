@@ -19,6 +19,7 @@ use Rattle.mx_round_trip.proofs.Spans.{prefix_of_all, is_equals}
 use Rattle.mx_round_trip.proofs.Digits.{IsDecimal, decimal_is, decimal_whole, digit_byte}
 use Rattle.mx_round_trip.proofs.Numbers.{glues, int_span, fix_span}
 use Rattle.mx_round_trip.proofs.Decimals.{AreDecimals, are_decimals, some_decimals}
+use Rattle.mx_round_trip.proofs.Plain.{plain_both, digits_plain}
 use Rattle.mx_round_trip.proofs.Flat.{Flat}
 use Rattle.mx_round_trip.proofs.Printed.{starts}
 
@@ -36,6 +37,7 @@ flat_int_by n (b ∷ bs) most h =
           subst (λ m. Reads glues (inside number brackets stack) (b ∷ bs) (word.Int m ∷ []) (inside number brackets stack)) h.value
           (subst (λ m. Reads glues (inside number brackets stack) (b ∷ bs) (word_by kind.Int (b ∷ bs) ∷ []) (inside number m stack)) (digit_count b brackets digit)
           (reads_token glues kind.Int b bs number brackets stack (digit_byte b digit).begins (λ at rest stops. int_span at b bs rest h.digits (decimal_whole n (b ∷ bs) h) bound stops)));
+      plain = digits_plain (b ∷ bs) h.digits;
     }
 
 pub flat_int : (n : ℕ) → n ≤ 9223372036854775808 → Flat glues (decimal n) (word.Int n ∷ [])
@@ -74,6 +76,7 @@ flat_fix_by m (b ∷ bs) ds most w d some =
           subst (λ n. Reads glues (inside number brackets stack) u (word.Fix (pos n) ∷ []) (inside number brackets stack)) says
           (subst (λ n. Reads glues (inside number brackets stack) u (word_by kind.Fix u ∷ []) (inside number n stack)) (digit_count b brackets digit)
           (reads_token glues kind.Fix b (bs ++ 46 ∷ ds) number brackets stack (digit_byte b digit).begins (λ at rest stops. fix_span at b bs ds rest w.digits (decimal_whole (m / 10 ^ 9) (b ∷ bs) w) bound d.digits some d.few stops)));
+      plain = plain_both (b ∷ bs) (46 ∷ ds) (digits_plain (b ∷ bs) w.digits) (digits_plain ds d.digits);
     }
 
 pub flat_fix : (m : ℕ) → m ≤ 10 ^ 19 → Flat glues (decimal (m / 10 ^ 9) ++ 46 ∷ decimals 9 (m % 10 ^ 9)) (word.Fix (pos m) ∷ [])

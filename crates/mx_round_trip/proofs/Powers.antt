@@ -38,8 +38,8 @@ plus_span at [] h = refl
 plus_span at (b ∷ bs) h = rw h refl
 
 flat_sign : (u : List Word) (s : Sign) → OneSign u s → Flat is_equals (sign_byte s ∷ []) u
-flat_sign _ _ OneSign.plus = record { reads = λ number brackets stack. reads_token is_equals Mark 43 [] number brackets stack (record { space = refl; line_end = refl; comment = refl }) (λ at rest stops. plus_span at rest stops) }
-flat_sign _ _ OneSign.minus = record { reads = reads_minus }
+flat_sign _ _ OneSign.plus = record { reads = λ number brackets stack. reads_token is_equals Mark 43 [] number brackets stack (record { space = refl; line_end = refl; comment = refl }) (λ at rest stops. plus_span at rest stops); plain = refl }
+flat_sign _ _ OneSign.minus = record { reads = reads_minus; plain = refl }
 
 no_equals_sign : (s : Sign) → is_equals (sign_byte s) ≡ false
 no_equals_sign sign.Plus = refl

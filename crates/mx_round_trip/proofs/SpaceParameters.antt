@@ -33,7 +33,7 @@ use Rattle.mx_round_trip.proofs.Statements.{Items, BlockSays, in_block, body_say
 use Rattle.mx_round_trip.proofs.Blocks.{blocked}
 use Rattle.mx_round_trip.proofs.Formulas.{Again, spells_in, one_line_lexed, assigned, headed}
 
-abbrev Spaces : Items
+abbrev pub Spaces : Items
 Spaces k = Display (Expressions k)
 
 abbrev ParamsSay : ℕ → List Param → Type 0

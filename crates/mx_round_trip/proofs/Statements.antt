@@ -20,6 +20,7 @@ use Rattle.mx_expression.specs.Expressions.{Expressions}
 use Rattle.mx_parse.specs.Statements.{Simple, Elif, Else, Statement, Body, Block, Blocks, Bodies}
 use Rattle.mx_round_trip.proofs.Goes.{none, none_first}
 use Rattle.mx_round_trip.proofs.Numbers.{glues}
+use Rattle.mx_round_trip.proofs.Plain.{is_plain, are_plain, plain_both, line_plain_before, lines_plain_both, inward_plain}
 use Rattle.mx_round_trip.proofs.Flat.{Flat, flat_both}
 use Rattle.mx_round_trip.proofs.Operators as sign_text
 use Rattle.mx_round_trip.proofs.Printed.{starts}
@@ -41,11 +42,12 @@ BodyAt Item k e = Bodies (Expressions k) (Item k) e
 abbrev pub StmtAt : Items → ℕ → ℕ → Spelling Stmt
 StmtAt Item k e = Statement (Expressions k) (Item k) (BodyAt Item k e)
 
--- a statement, and what its lines give at each margin
+-- a statement, and what its lines give at each margin. Their bytes are printable.
 pub record StmtSays (Item : Items) (d c : ℕ) (s : Stmt) : Type 0 where
   pub words : List Word
   pub spelled : (k e : ℕ) → d ≤ k → c ≤ e → StmtAt Item k e words s
   pub runs : (m : ℕ) → Runs m (lines_text m (stmt_lines s)) words
+  pub plain : are_plain (stmt_lines s) ≡ true
   pub returns : Returns Item d s
 
 -- statements behind others
@@ -53,12 +55,14 @@ record RestSays (Item : Items) (d c : ℕ) (ss : List Stmt) : Type 0 where
   words : List Word
   spelled : (k e : ℕ) → d ≤ k → c ≤ e → Parts (StmtAt Item k e) words ss
   runs : (m : ℕ) → MayRun m (lines_text m (body_lines ss)) words
+  plain : are_plain (body_lines ss) ≡ true
 
 -- the statements of a block
 pub record BlockSays (Item : Items) (d c : ℕ) (s : Stmt) (others : List Stmt) : Type 0 where
   pub words : List Word
   pub spelled : (k e : ℕ) → d ≤ k → c ≤ e → Parts (StmtAt Item k e) words (s ∷ others)
   pub runs : (m : ℕ) → Runs m (lines_text m (body_lines (s ∷ others))) words
+  pub plain : are_plain (body_lines (s ∷ others)) ≡ true
   pub returns : Returns Item d s
 
 pub record BodySays (Item : Items) (d c : ℕ) (body : List Stmt) : Type 0 where
@@ -88,12 +92,16 @@ if_is arms (Some body) = ap stmt_lines (sym (stmt.rolls-If arms (Some body))) �
 arm_is : (test : Expr) (body : List Stmt) → arm_lines (roll-IfArm (record { test = test; body = body })) ≡ (whole test ++ codes ":") ∷ block (map stmt_lines body)
 arm_is test body = fold-roll-IfArm (List Text) (List Text) stmt_step arm_step (record { test = test; body = body })
 
-for_returns : (n : List ℕ) (over : Expr) (body : List Stmt) → returned (stmt.For n over body) ≡ None
+pub for_returns : (n : List ℕ) (over : Expr) (body : List Stmt) → returned (stmt.For n over body) ≡ None
 for_returns n over body = ap returned (sym (stmt.rolls-For n over body)) ∙ fold-roll-Stmt (Option Text) (Unit {0}) returned_step any_arm (Stmt-F.For n over body)
 
-if_returns : (arms : List IfArm) (other : Option (List Stmt)) → returned (stmt.If arms other) ≡ None
+pub if_returns : (arms : List IfArm) (other : Option (List Stmt)) → returned (stmt.If arms other) ≡ None
 if_returns arms None = ap returned (sym (stmt.rolls-If arms None)) ∙ fold-roll-Stmt (Option Text) (Unit {0}) returned_step any_arm (Stmt-F.If arms None)
 if_returns arms (Some body) = ap returned (sym (stmt.rolls-If arms (Some body))) ∙ fold-roll-Stmt (Option Text) (Unit {0}) returned_step any_arm (Stmt-F.If arms (Some body))
+
+-- the lines of a block are those of its statements, further in
+pub block_plain : (body : List Stmt) → are_plain (body_lines body) ≡ true → are_plain (block (map stmt_lines body)) ≡ true
+block_plain body h = inward_plain (body_lines body) ∙ h
 
 module _ (Item : Items) (d : ℕ) (items : (u : List Word) (entries : List ItemEntry) → AreSaid u → Item d u entries → Says Item d none entries (display_text entries)) where
   simple_stmt : (c : ℕ) (s : Stmt) → SimpleSays Item d s → StmtSays Item d c s
@@ -103,6 +111,7 @@ module _ (Item : Items) (d : ℕ) (items : (u : List Word) (entries : List ItemE
         words = words;
         spelled = λ k e le more. Statement.simple (Line.line (h.spelled k le));
         runs = λ m. subst (λ ls. Runs m (lines_text m ls) words) (sym h.is) (subst (λ t. Runs m t words) (sym (append-nil (line_text m h.text))) (line_runs m h.text h.words h.flat refl h.starts));
+        plain = subst (λ ls. are_plain ls ≡ true) (sym h.is) (line_plain_before h.text [] h.flat.plain refl);
         returns = h.returns;
       }
 
@@ -114,11 +123,12 @@ module _ (Item : Items) (d : ℕ) (items : (u : List Word) (entries : List ItemE
     words = g.words ++ h.words;
     spelled = λ k e le more. Parts.more (g.spelled k e le more) (h.spelled k e le more);
     runs = λ m. subst (λ t. Runs m t (g.words ++ h.words)) (sym (lines_both m (stmt_lines s) (body_lines ss))) (then_may m (lines_text m (stmt_lines s)) (lines_text m (body_lines ss)) g.words h.words (g.runs m) (h.runs m));
+    plain = lines_plain_both (stmt_lines s) (body_lines ss) g.plain h.plain;
     returns = g.returns;
   }
 
   no_rest : (c : ℕ) → RestSays Item d c []
-  no_rest c = record { words = []; spelled = λ k e le more. Parts.none; runs = λ m. MayRun.nothing }
+  no_rest c = record { words = []; spelled = λ k e le more. Parts.none; runs = λ m. MayRun.nothing; plain = refl }
 
   -- a line before a block, with what it says
   head_runs : (c m : ℕ) (t : Text) (ws : List Word) (s : Stmt) (others : List Stmt) → Flat none t ws → first_passes starts t ≡ true → (h : BlockSays Item d c s others) → Runs m (lines_text m (t ∷ block (map stmt_lines (s ∷ others)))) (ws ++ blocked h.words)
@@ -144,6 +154,7 @@ module _ (Item : Items) (d : ℕ) (items : (u : List Word) (entries : List ItemE
         words = words;
         spelled = λ k e le more. Statement.each (g.spelled k le) (in_block Item d c s others h k e le more);
         runs = λ m. subst (λ ls. Runs m (lines_text m ls) words) (sym (for_is n over (s ∷ others))) (subst (Runs m (lines_text m (for_text n over ∷ block (map stmt_lines (s ∷ others))))) same (head_runs c m (for_text n over) head s others flat refl h));
+        plain = subst (λ ls. are_plain ls ≡ true) (sym (for_is n over (s ∷ others))) (line_plain_before (for_text n over) (block (map stmt_lines (s ∷ others))) flat.plain (block_plain (s ∷ others) h.plain));
         returns = Returns.otherwise (stmt.For n over (s ∷ others)) (for_returns n over (s ∷ others));
       }
 
@@ -161,6 +172,11 @@ module _ (Item : Items) (d : ℕ) (items : (u : List Word) (entries : List ItemE
       subst (λ ls. Runs m (lines_text m (front keyword ls)) words) (sym (arm_is test (s ∷ others)))
       (subst (Runs m (lines_text m ((keyword ++ test_text) ∷ block (map stmt_lines (s ∷ others))))) same (head_runs c m (keyword ++ test_text) head s others flat first h))
 
+  arm_plain : (c : ℕ) (keyword : Text) (test : Expr) (s : Stmt) (others : List Stmt) → is_plain keyword ≡ true → Says Expressions d glues test (whole test) → BlockSays Item d c s others → are_plain (front keyword (arm_lines (roll-IfArm (record { test = test; body = s ∷ others })))) ≡ true
+  arm_plain c keyword test s others kw g h =
+      let head : is_plain (keyword ++ (whole test ++ codes ":")) ≡ true = plain_both keyword (whole test ++ codes ":") kw (plain_both (whole test) (codes ":") g.flat.plain refl) in
+      subst (λ ls. are_plain (front keyword ls) ≡ true) (sym (arm_is test (s ∷ others))) (line_plain_before (keyword ++ (whole test ++ codes ":")) (block (map stmt_lines (s ∷ others))) head (block_plain (s ∷ others) h.plain))
+
   abbrev elif_lines : List IfArm → List Text
   elif_lines arms = flat (map (front (codes "elif ")) (map arm_lines arms))
 
@@ -168,14 +184,16 @@ module _ (Item : Items) (d : ℕ) (items : (u : List Word) (entries : List ItemE
     words : List Word
     spelled : (k e : ℕ) → d ≤ k → suc c ≤ e → Parts (Elif (Expressions k) (BodyAt Item k e)) words arms
     runs : (m : ℕ) → MayRun m (lines_text m (elif_lines arms)) words
+    plain : are_plain (elif_lines arms) ≡ true
 
   record ElseSays (c : ℕ) (other : Option (List Stmt)) : Type 0 where
     words : List Word
     spelled : (k e : ℕ) → d ≤ k → suc c ≤ e → Else (BodyAt Item k e) words other
     runs : (m : ℕ) → MayRun m (lines_text m (other_lines other)) words
+    plain : are_plain (other_lines other) ≡ true
 
   no_elifs : (c : ℕ) → ElifsSay c []
-  no_elifs c = record { words = []; spelled = λ k e le more. Parts.none; runs = λ m. MayRun.nothing }
+  no_elifs c = record { words = []; spelled = λ k e le more. Parts.none; runs = λ m. MayRun.nothing; plain = refl }
 
   elif_with : (c : ℕ) (test : Expr) (s : Stmt) (others : List Stmt) (xs : List IfArm) → Says Expressions d glues test (whole test) → BlockSays Item d c s others → ElifsSay c xs → ElifsSay c (roll-IfArm (record { test = test; body = s ∷ others }) ∷ xs)
   elif_with c test s others xs g h rest =
@@ -187,6 +205,7 @@ module _ (Item : Items) (d : ℕ) (items : (u : List Word) (entries : List ItemE
         spelled = λ k e le more. Parts.more (Elif.elif (g.spelled k le) (in_block Item d c s others h k e le more)) (rest.spelled k e le more);
         runs = λ m. MayRun.some (subst (λ t. Runs m t words) (sym (lines_both m (front (codes "elif ") (arm_lines arm)) (elif_lines xs)))
             (then_may m (lines_text m (front (codes "elif ") (arm_lines arm))) (lines_text m (elif_lines xs)) own rest.words (arm_runs c m (codes "elif ") (word.Symbol symbol.Elif) test s others line.flat_elif refl g h) (rest.runs m)));
+        plain = lines_plain_both (front (codes "elif ") (arm_lines arm)) (elif_lines xs) (arm_plain c (codes "elif ") test s others refl g h) rest.plain;
       }
 
   else_with : (c : ℕ) (s : Stmt) (others : List Stmt) → BlockSays Item d c s others → ElseSays c (Some (s ∷ others))
@@ -194,6 +213,7 @@ module _ (Item : Items) (d : ℕ) (items : (u : List Word) (entries : List ItemE
     words = word.Symbol symbol.Else ∷ word.Symbol symbol.Colon ∷ blocked h.words;
     spelled = λ k e le more. Else.other (in_block Item d c s others h k e le more);
     runs = λ m. MayRun.some (head_runs c m (codes "else:") (word.Symbol symbol.Else ∷ word.Symbol symbol.Colon ∷ []) s others line.flat_else_colon refl h);
+    plain = line_plain_before (codes "else:") (block (map stmt_lines (s ∷ others))) refl (block_plain (s ∷ others) h.plain);
   }
 
   if_with : (c : ℕ) (test : Expr) (s : Stmt) (others : List Stmt) (arms : List IfArm) (other : Option (List Stmt)) → Says Expressions d glues test (whole test) → BlockSays Item d c s others → ElifsSay c arms → ElseSays c other
@@ -215,6 +235,7 @@ module _ (Item : Items) (d : ℕ) (items : (u : List Word) (entries : List ItemE
             (then_may m (lines_text m a ++ lines_text m b) (lines_text m (other_lines other)) (first ++ es.words) el.words
             (then_may m (lines_text m a) (lines_text m b) first es.words (arm_runs c m (codes "if ") (word.Symbol symbol.If) test s others line.flat_where refl g h) (es.runs m))
             (el.runs m))));
+        plain = subst (λ ls. are_plain ls ≡ true) (sym (if_is (arm ∷ arms) other)) (lines_plain_both (a ++ b) (other_lines other) (lines_plain_both a b (arm_plain c (codes "if ") test s others refl g h) es.plain) el.plain);
         returns = Returns.otherwise (stmt.If (arm ∷ arms) other) (if_returns (arm ∷ arms) other);
       }
 
@@ -232,7 +253,7 @@ module _ (Item : Items) (d : ℕ) (items : (u : List Word) (entries : List ItemE
         one_elif u x parts.0 h xs (elifs_say v xs parts.1 k)
 
     else_says : (u : List Word) (other : Option (List Stmt)) → AreSaid u → Else (BodyAt Item d b) u other → ElseSays b other
-    else_says _ _ said Else.none = record { words = []; spelled = λ k e le more. Else.none; runs = λ m. MayRun.nothing }
+    else_says _ _ said Else.none = record { words = []; spelled = λ k e le more. Else.none; runs = λ m. MayRun.nothing; plain = refl }
     else_says _ _ said (Else.other {u} {body} h) =
         let i = inner u body said.1.1 h in
         subst (λ l. ElseSays b (Some l)) i.is (else_with b i.first i.others i.block)
@@ -256,7 +277,7 @@ module _ (Item : Items) (d : ℕ) (items : (u : List Word) (entries : List ItemE
     rest_says _ _ said (Parts.more {u} {v} {x} {xs} h k) =
         let parts = said_split u v said in
         let all = first_block (suc b) x xs (stmt_says u x parts.0 h) (rest_says v xs parts.1 k) in
-        record { words = all.words; spelled = all.spelled; runs = λ m. MayRun.some (all.runs m) }
+        record { words = all.words; spelled = all.spelled; runs = λ m. MayRun.some (all.runs m); plain = all.plain }
 
     block_says : (u : List Word) (s : Stmt) (others : List Stmt) → AreSaid u → Parts (StmtAt Item d b) u (s ∷ others) → BlockSays Item d (suc b) s others
     block_says _ _ _ said (Parts.more {u} {v} {x} {xs} h k) =

@@ -1,1 +1,2 @@
+pub mod ParsedLines
 pub mod ReadBack

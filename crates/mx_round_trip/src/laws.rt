@@ -1,11 +1,12 @@
 //! What holds of printed texts, for those who parse them again.
 
-ghost use Rattle.std.specs.Prelude.{ℕ, List};
+ghost use Rattle.std.specs.Prelude.{◌≡◌, ℕ, List, Some, Ok};
 ghost use Rattle.mx_value.specs.declared.value.Value.{Value};
 ghost use Rattle.mx_value.specs.declared.value.Segment.{Segment};
 ghost use Rattle.mx_grammar.specs.Literals.{literal_text, addr_text};
 ghost use Rattle.mx_print.specs.Values.{value_text, address_text};
 ghost use Rattle.mx_syntax.specs.declared.expr.Expr.{Expr};
+ghost use Rattle.mx_syntax.specs.declared.stmt.Stmt.{Stmt};
 ghost use Rattle.mx_syntax.specs.declared.stmt.Formula.{Formula};
 ghost use Rattle.mx_syntax.specs.declared.stmt.Params.{Params};
 ghost use Rattle.mx_expression.specs.Expressions.{expression_text};
@@ -13,7 +14,11 @@ ghost use Rattle.mx_print.specs.Expressions.{at, printed};
 ghost use Rattle.mx_print.specs.Statements.{print, print_params};
 ghost use Rattle.mx_parse.specs.Formulas.{formula_text, params_text};
 ghost use Rattle.mx_parse.specs.FormulaLimits.{formula_limits, params_limits};
+ghost use Rattle.mx_grammar.specs.Limits.{AnswersWithin};
 ghost use Rattle.mx_round_trip.specs.ReadBack.{ReadsBack, ReadsBackWithin, GivenAgain};
+ghost use Rattle.mx_round_trip.specs.ParsedLines.{HasItsLines};
+
+use mx_print::line::line_laws;
 
 /// The printed text of a literal spells it again, unless it is longer than a source may be.
 pub fn literals_read_back()
@@ -50,3 +55,18 @@ pub fn formula_round_trip()
 pub fn params_round_trip()
     ensures { (source : List ℕ) (p : Params) → GivenAgain params_text params_limits source p (print_params p) }
 {}
+
+/// Of each formula that is given for a source, the printed text, cut at its line feeds, is the formula's lines. Each statement and each
+/// test of an `if` or `elif` stands in it at the line that the heights above it give.
+pub fn parsed_lines()
+    ensures { (source : List ℕ) (f : Formula) → AnswersWithin formula_text formula_limits source (Ok f) → HasItsLines (print f) f.params f.body }
+{
+    line_laws();
+}
+
+/// The same of the parameters of a space and the formula behind them.
+pub fn parsed_params_lines()
+    ensures { (source : List ℕ) (p : Params) (body : List Stmt) → AnswersWithin params_text params_limits source (Ok p) → p.body ≡ Some body → HasItsLines (print_params p) p.params body }
+{
+    line_laws();
+}
