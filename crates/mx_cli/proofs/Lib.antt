@@ -1,5 +1,4 @@
 pub mod Words
-pub mod TextLemmas
 pub mod RunLemmas
 pub mod TakeLemmas
 pub mod ScriptLemmas

@@ -1,13 +1,13 @@
 -- The texts of commands that are refused.
 use Rattle.std.specs.Prelude.{ℕ, List, [], ◌∷◌, ◌++◌, codes}
 use Rattle.std.specs.Fmt.{decimal}
+use Rattle.mx_print.specs.Texts.{Text}
 use Rattle.mx_lex.specs.declared.LexRefusal.{LexRefusal}
 use Rattle.mx_lex.specs.declared.LexRefusal.TheVariants as lexing
 use Rattle.mx_grammar.specs.declared.refusal.ParseRefusal.{ParseRefusal}
 use Rattle.mx_grammar.specs.declared.refusal.ParseRefusal.TheVariants as parsing
 use Rattle.mx_script.specs.declared.command.FormRefusal.{FormRefusal}
 use Rattle.mx_script.specs.declared.command.FormRefusal.TheVariants as form
-use Rattle.mx_cli.specs.Text.{Text}
 
 -- why a source has no tokens; want of memory has no text
 abbrev pub lex_refusal_text : LexRefusal → Text

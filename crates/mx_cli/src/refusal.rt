@@ -3,9 +3,9 @@ ghost use Rattle.std.specs.Prelude.{◌≡◌, ◌≢◌, ◌++◌, codes, OnOk}
 ghost use Rattle.std.specs.Fmt.{decimal};
 ghost use Rattle.mx_cli.specs.Refusals.{lex_refusal_text, parse_refusal_text, form_refusal_text, refused_block};
 
-use crate::text::{push, push_number};
 use mx_lex::LexRefusal;
 use mx_parse::ParseRefusal;
+use mx_print::append::{push, push_number};
 use mx_script::FormRefusal;
 use std::alloc::AllocError;
 

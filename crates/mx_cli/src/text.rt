@@ -1,231 +1,17 @@
-//! The texts that the program writes, each added behind the bytes of a buffer.
-ghost use Rattle.std.specs.Prelude.{◌≡◌, ◌≢◌, ◌++◌, map, codes, if◌then◌else◌, OnOk};
-ghost use Rattle.std.specs.List.{concat};
-ghost use Rattle.std.specs.Fmt.{decimal};
+//! The texts of what evaluations and edits answer, each added behind the bytes of a buffer.
+ghost use Rattle.std.specs.Prelude.{◌≡◌, ◌≢◌, ◌++◌, map, codes, OnOk};
+ghost use Rattle.mx_print.specs.Texts.{separated};
+ghost use Rattle.mx_print.specs.Values.{node_text};
 ghost use Rattle.mx_cli.specs.Text as spec;
-ghost use Rattle.mx_cli.specs.Text.{value_text, segment_text, node_text};
 
 use mx_engine::edit::{EditRefusal, Limit};
+use mx_print::append::{push, push_number};
+use mx_print::value::{push_node, push_value};
 use mx_value::fault::FaultKind;
-use mx_value::fixed::Fixed;
 use mx_value::node::Node;
 use mx_value::refusal::EvalRefusal;
-use mx_value::value::{CellsAt, Segment, Value};
+use mx_value::value::Value;
 use std::alloc::AllocError;
-
-/// Adds bytes as they stand.
-pub fn push(out: &mut Vec<u8>, bytes: &[u8]) -> Result<(), AllocError>
-    ensures { OnOk result (out.new.items ≡ out.old.items ++ bytes.now) }
-{
-    out.extend_from_slice(bytes)
-}
-
-/// Adds a number in decimal.
-pub fn push_number(out: &mut Vec<u8>, number: u64) -> Result<(), AllocError>
-    ensures { OnOk result (out.new.items ≡ out.old.items ++ decimal number) }
-{
-    push(out, itoa::Buffer::new().format(number).as_bytes())
-}
-
-/// Adds so many digits of a number, with zeros in front.
-fn push_padded(out: &mut Vec<u8>, digits: u8, number: u64) -> Result<(), AllocError>
-    ensures { OnOk result (out.new.items ≡ out.old.items ++ spec.padded digits number) }
-{
-    if digits == 0 {
-        return Ok(());
-    }
-    if let Err(failure) = push_padded(out, digits - 1, number / 10) {
-        return Err(failure);
-    }
-    if let Err(failure) = push(out, &[b'0' + (number % 10) as u8]) {
-        return Err(failure);
-    }
-    return Ok(());
-}
-
-/// Adds so many decimals, without the zeros at their end but for the first decimal.
-fn push_decimals(out: &mut Vec<u8>, digits: u8, number: u64) -> Result<(), AllocError>
-    ensures { OnOk result (out.new.items ≡ out.old.items ++ spec.decimals digits number) }
-{
-    if digits <= 1 {
-        return push_padded(out, digits, number);
-    }
-    if number % 10 != 0 {
-        return push_padded(out, digits, number);
-    }
-    return push_decimals(out, digits - 1, number / 10);
-}
-
-/// Adds a decimal number: a point with 1 to 9 decimals, and no zero at the end but the first decimal.
-fn push_fixed(out: &mut Vec<u8>, number: Fixed) -> Result<(), AllocError>
-    ensures { OnOk result (out.new.items ≡ out.old.items ++ spec.fixed_text number) }
-{
-    let raw = number.raw();
-    let size = raw.unsigned_abs();
-    if raw < 0 {
-        push(out, b"-")?;
-    }
-    push_number(out, (size / 1_000_000_000) as u64)?;
-    push(out, b".")?;
-    push_decimals(out, 9, (size % 1_000_000_000) as u64)
-}
-
-/// Adds a text in quotes.
-fn push_quoted(out: &mut Vec<u8>, text: &[u8]) -> Result<(), AllocError>
-    ensures { OnOk result (out.new.items ≡ out.old.items ++ spec.quoted text.now) }
-{
-    push(out, b"\"")?;
-    push_escaped(out, text)?;
-    push(out, b"\"")
-}
-
-/// Adds a text with a backslash in front of each quote and backslash.
-fn push_escaped(out: &mut Vec<u8>, text: &[u8]) -> Result<(), AllocError>
-    ensures { OnOk result (out.new.items ≡ out.old.items ++ concat (map spec.escaped text.now)) }
-{
-    for byte in text {
-        push_escaped_byte(out, *byte)?;
-    }
-    Ok(())
-}
-
-fn push_escaped_byte(out: &mut Vec<u8>, byte: u8) -> Result<(), AllocError>
-    ensures { OnOk result (out.new.items ≡ out.old.items ++ spec.escaped byte) }
-{
-    if byte == b'"' {
-        return push(out, b"\\\"");
-    }
-    if byte == b'\\' {
-        return push(out, b"\\\\");
-    }
-    return push(out, &[byte]);
-}
-
-/// Adds a value: None, True, a number, a text in quotes, a tuple, or what a space, cells or a table is called.
-#[cycle(text)]
-pub fn push_value(out: &mut Vec<u8>, value: &Value) -> Result<(), AllocError>
-    ensures { OnOk result (out.new.items ≡ out.old.items ++ value_text value.now) }
-{
-    match value {
-        Value::Nothing => push(out, b"None"),
-        Value::Flag(flag) => {
-            if *flag {
-                push(out, b"True")
-            } else {
-                push(out, b"False")
-            }
-        }
-        Value::Int(n) => push(out, itoa::Buffer::new().format(*n).as_bytes()),
-        Value::Fix(number) => push_fixed(out, *number),
-        Value::Text(text) => push_quoted(out, text.as_slice()),
-        Value::Tup(items) => push_tuple(out, items.as_slice()),
-        Value::Space(at) => {
-            push(out, b"<space ")?;
-            push_address(out, at.as_slice())?;
-            push(out, b">")
-        }
-        Value::Cells(at) => {
-            push(out, b"<cells ")?;
-            push_cells(out, at)?;
-            push(out, b">")
-        }
-        Value::Table(name) => {
-            push(out, b"<table ")?;
-            push(out, name.as_slice())?;
-            push(out, b">")
-        }
-    }
-}
-
-/// Adds the address of cells and, behind a dot, their name.
-#[cycle(text)]
-fn push_cells(out: &mut Vec<u8>, at: &CellsAt) -> Result<(), AllocError>
-    ensures { OnOk result (out.new.items ≡ out.old.items ++ spec.cells_text at.now) }
-{
-    push_address(out, at.space.as_slice())?;
-    push(out, b".")?;
-    push(out, at.name.as_slice())
-}
-
-/// Adds values with commas between them.
-#[cycle(text)]
-fn push_commas(out: &mut Vec<u8>, items: &[Value]) -> Result<(), AllocError>
-    ensures { OnOk result (out.new.items ≡ out.old.items ++ spec.commas (map value_text items.now)) }
-{
-    for (i, item) in items.iter().enumerate() {
-        if i > 0 {
-            push(out, b", ")?;
-        }
-        push_value(out, item)?;
-    }
-    Ok(())
-}
-
-/// Adds a tuple. One of a single item has a comma behind it.
-#[cycle(text)]
-fn push_tuple(out: &mut Vec<u8>, items: &[Value]) -> Result<(), AllocError>
-    ensures { OnOk result (out.new.items ≡ out.old.items ++ spec.tuple_text (map value_text items.now)) }
-{
-    push(out, b"(")?;
-    push_commas(out, items)?;
-    if items.len() == 1 {
-        push(out, b",")?;
-    }
-    push(out, b")")
-}
-
-/// Adds an address: names with dots between them, and the arguments of an item in brackets.
-#[cycle(text)]
-fn push_address(out: &mut Vec<u8>, at: &[Segment]) -> Result<(), AllocError>
-    ensures { OnOk result (out.new.items ≡ out.old.items ++ spec.address_text at.now) }
-{
-    for (i, segment) in at.iter().enumerate() {
-        push_segment(out, segment, i == 0)?;
-    }
-    Ok(())
-}
-
-/// Adds a segment, which the first of an address has no dot in front of.
-#[cycle(text)]
-fn push_segment(out: &mut Vec<u8>, segment: &Segment, first: bool) -> Result<(), AllocError>
-    ensures { OnOk result (out.new.items ≡ out.old.items ++ (if first then spec.after_dot (segment_text segment.now) else segment_text segment.now)) }
-{
-    match segment {
-        Segment::Name(name) => {
-            if !first {
-                push(out, b".")?;
-            }
-            push(out, name.as_slice())
-        }
-        Segment::Item(items) => {
-            push(out, b"[")?;
-            push_commas(out, items.as_slice())?;
-            push(out, b"]")
-        }
-    }
-}
-
-/// Adds a node: its address, its name behind a dot, and its arguments; an item node has them in brackets.
-pub fn push_node(out: &mut Vec<u8>, node: &Node) -> Result<(), AllocError>
-    ensures { OnOk result (out.new.items ≡ out.old.items ++ node_text node.now) }
-{
-    match node {
-        Node::Cell(at, name, arguments) => {
-            push_address(out, at.as_slice())?;
-            push(out, b".")?;
-            push(out, name.as_slice())?;
-            push(out, b"(")?;
-            push_commas(out, arguments.as_slice())?;
-            push(out, b")")
-        }
-        Node::Item(at, arguments) => {
-            push_address(out, at.as_slice())?;
-            push(out, b"[")?;
-            push_commas(out, arguments.as_slice())?;
-            push(out, b"]")
-        }
-    }
-}
 
 fn fault_text(kind: FaultKind) -> &'static [u8]
     ensures { result.now ≡ spec.fault_text kind }
@@ -263,7 +49,7 @@ fn push_ring(out: &mut Vec<u8>, nodes: &[Node]) -> Result<(), AllocError>
 
 /// Adds nodes with arrows between them.
 fn push_arrows(out: &mut Vec<u8>, nodes: &[Node]) -> Result<(), AllocError>
-    ensures { OnOk result (out.new.items ≡ out.old.items ++ spec.separated (codes " -> ") (map node_text nodes.now)) }
+    ensures { OnOk result (out.new.items ≡ out.old.items ++ separated (codes " -> ") (map node_text nodes.now)) }
 {
     for (i, node) in nodes.iter().enumerate() {
         if i > 0 {

@@ -1,7 +1,7 @@
 use Rattle.std.proofs.Common.{◌≡◌, arith}
 use Rattle.std.specs.Prelude.{codes}
-use Rattle.mx_cli.specs.Text.{node_text}
-use Rattle.mx_cli.proofs.TextLemmas.{separated_first, separated_more}
+use Rattle.mx_print.specs.Values.{node_text}
+use Rattle.mx_print.proofs.TextLemmas.{separated_first, separated_more}
 use Rattle.mx_cli.proofs.text.push_arrows.Goals as goal
 use Rattle.mx_cli.proofs.text.push_arrows.Goals.{then-i-gt0+in_ok-push, else-i-gt0}
 

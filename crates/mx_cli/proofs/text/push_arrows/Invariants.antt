@@ -1,6 +1,7 @@
 use Rattle.std.proofs.Common.{◌≡◌, ◌++◌, map, take}
 use Rattle.std.specs.Prelude.{codes}
-use Rattle.mx_cli.specs.Text.{separated, node_text}
+use Rattle.mx_print.specs.Texts.{separated}
+use Rattle.mx_print.specs.Values.{node_text}
 use Rattle.mx_cli.proofs.text.push_arrows.Given as goal
 
 abbrev pub invariant-loop-i : goal.invariant-loop-i
