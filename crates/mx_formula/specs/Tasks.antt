@@ -4,6 +4,7 @@ use Rattle.mx_value.specs.declared.label.Label.{Label}
 use Rattle.mx_value.specs.declared.value.Value.{Value, out-Value}
 use Rattle.mx_value.specs.declared.value.Value.TheVariants.{Nothing, Flag}
 use Rattle.mx_value.specs.declared.value.Segment.{Segment}
+use Rattle.mx_value.specs.declared.value.CellsAt.{CellsAt, roll-CellsAt}
 use Rattle.mx_value.specs.declared.node.Node.{Node}
 use Rattle.mx_value.specs.declared.node.Node.TheVariants.{Cell, Item}
 use Rattle.mx_meaning.specs.declared.event.Event.{Event}
@@ -137,3 +138,6 @@ pub record GoesOnAlone (text : Text) (run : Run) (olds news : List Event) (rest 
 -- the expression is read here with no event, and this is its value
 abbrev pub IsRead : Expr → Env → Value → Type 0
 IsRead e env v = (go : Value → Run) → reading e env go ≡ go v
+
+abbrev pub cells_at : List Segment → Label → CellsAt
+cells_at at name = roll-CellsAt (record { space = at; name = name })

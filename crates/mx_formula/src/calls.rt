@@ -1,11 +1,11 @@
 //! Names, and calls of what they are.
-ghost use Rattle.std.specs.Prelude.{◌≡◌, ◌++◌, ◌∷◌, [], List as Many, map, drop, Some, None, IfOk, OnOk, MatchOption};
+ghost use Rattle.std.specs.Prelude.{◌≡◌, ◌++◌, ◌∷◌, [], List as Many, map, drop, Some, None, false, IfOk, OnOk, MatchOption};
 ghost use Rattle.mx_value.specs.declared.value.Value.{Value, out-Value};
-ghost use Rattle.mx_meaning.specs.Model.{Text};
+ghost use Rattle.mx_meaning.specs.Model.{Text, FormulaHere};
 ghost use Rattle.mx_meaning.specs.Runs.{Run, Env, computed};
 ghost use Rattle.mx_meaning.specs.Runs as outcome;
-ghost use Rattle.mx_meaning.specs.Expressions.{reading, cells_in, named, sought, called, arguments_from, trailed_from, trailer_read, args_read};
-ghost use Rattle.mx_formula.specs.Tasks.{address_of, cont, run_from, run_at, env_of, GoesOnAlone};
+ghost use Rattle.mx_meaning.specs.Expressions.{reading, cells_in, named, sought, called, call_result, arguments_from, trailed_from, trailer_read, args_read};
+ghost use Rattle.mx_formula.specs.Tasks.{address_of, cells_at, cont, run_from, run_at, env_of, GoesOnAlone};
 
 use crate::at_hand::at_hand;
 use crate::copies::copy_expr;
@@ -19,6 +19,7 @@ use mx_meaning::key::Key;
 use mx_model::text::ModelText;
 use mx_print::bind::{BindRefusal, bind};
 use mx_syntax::expr::{Args, Expr, Trailer};
+use mx_syntax::stmt::Formula;
 use mx_value::fault::FaultKind;
 use mx_value::label::Label;
 use mx_value::node::Node;
@@ -112,14 +113,24 @@ fn call_cells(
     let Some(formula) = text.formula_at(&source, &at.name) else {
         return Ok(Next::Fault(FaultKind::NotCallable));
     };
+    call_formula(alloc, &at.space, &at.name, formula, arguments)
+}
+
+/// The cells of a name in the space at an address, with this formula, are called with these arguments.
+fn call_formula(
+    alloc: Global,
+    at: &Addr,
+    name: &Label,
+    formula: &Formula,
+    arguments: Items<Value>,
+) -> Result<Next, AllocError>
+    ensures { IfOk result (λ next. (env : Env) (go : Value → Run) → call_result (cells_at at.now name.now) arguments env go (FormulaHere formula.now false) ≡ run_from next env go) }
+{
     if !are_plain(&arguments) {
         return Ok(Next::Fault(FaultKind::TypeMismatch));
     }
     match bind(alloc, formula.params.as_slice(), arguments) {
-        Ok(bound) => Ok(Next::Ask(Shared::new(
-            alloc,
-            Node::Cell(at.space.copy()?, at.name.copy()?, bound),
-        )?)),
+        Ok(bound) => Ok(Next::Ask(Node::Cell(at.copy()?, name.copy()?, bound))),
         Err(refusal) => refused(refusal),
     }
 }

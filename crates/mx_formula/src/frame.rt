@@ -125,7 +125,7 @@ pub enum Task {
 pub enum Next {
     Eval(Expr),
     Give(Value),
-    Ask(Shared<Node>),
+    Ask(Node),
     Fault(FaultKind),
 }
 
@@ -166,6 +166,6 @@ pub struct Frame {
 #[derive(Drop)]
 pub enum Stop {
     Value(Value),
-    Ask(Shared<Node>),
+    Ask(Node),
     Fault(FaultKind),
 }

@@ -37,6 +37,10 @@ module _ (text : Text) (limit : ℕ) (start : List Entry) (asked : Node) where
     apart = t.apart;
   }
 
+  -- the same at an equal node
+  pub top_at : (held : List Entry) (fs : List Waiter) (n m : Node) (events : List Event) (run : Node → Run) → n ≡ m → IsTop text limit start held asked fs n events (run n) → IsTop text limit start held asked fs m events (run m)
+  top_at held fs n m events run e t = subst (λ x. IsTop text limit start held asked fs x events (run x)) e t
+
   -- a value that is held
   pub top_given : (held : List Entry) (fs : List Waiter) (n m : Node) (go : Reply → Run) (r : Reply) (olds news : List Event) → news ≡ olds ++ Asked m r ∷ [] → Has (nodes_of held) m → Means text m (Gives r) → IsTop text limit start held asked fs n olds (Asks m go) → IsTop text limit start held asked fs n news (go r)
   top_given held fs n m go r olds news e h means t = record {

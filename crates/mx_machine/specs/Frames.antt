@@ -16,6 +16,8 @@ use Rattle.mx_meaning.specs.Meaning.{Leads, body, Means}
 use Rattle.mx_meaning.specs.Chains.{asks_of, Reaches, ReachedFrom, IsFirstChain, IsRing, MeansNothing}
 use Rattle.mx_meaning.specs.Held.{Entry, nodes_of, IsMemo, HoldsMore}
 use Rattle.mx_meaning.specs.Answers.{GivesValue, IsShallow, DeepChain, AreLost, PastMost}
+use Rattle.mx_formula.specs.declared.frame.Stop.{Stop}
+use Rattle.mx_formula.specs.declared.frame.Stop.TheVariants as stop
 use Rattle.mx_formula.specs.Tasks.{cont, env_of, run_at}
 
 -- a node that waits, with its frame
@@ -137,6 +139,12 @@ abbrev pub Begins : Text → Node → Begun → Type 0
 Begins text n (begun.Running r) = StartsAt text n r
 Begins text n begun.NoSuch = EndsUnasked text n NoSuch
 Begins text n begun.WrongCount = EndsUnasked text n WrongCount
+
+-- a run stops at no held node
+abbrev pub IsNew : List Entry → Stop → Type 0
+IsNew held (stop.Value v) = Unit {0}
+IsNew held (stop.Ask m) = Has (nodes_of held) m → ⊥
+IsNew held (stop.Fault k) = Unit {0}
 
 -- the formula runs that a beginning counts
 abbrev pub runs_begun : Begun → ℕ

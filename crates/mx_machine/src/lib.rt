@@ -2,5 +2,7 @@
 #![tactic(auto)]
 
 pub mod binding;
+pub mod held;
 pub mod machine;
+mod sought;
 pub mod steps;

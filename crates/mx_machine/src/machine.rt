@@ -12,9 +12,10 @@ ghost use Rattle.mx_meaning.specs.Statements.{ended};
 ghost use Rattle.mx_formula.specs.Tasks.{run_at, env_of};
 ghost use Rattle.mx_machine.specs.Frames.{IsRunning, IsTop, IsDone, IsGood, IsStep, Driven, IsFull, Begins, going, runs_begun, depth_after};
 
+use crate::held::{Held, run_past};
 use crate::steps::Steps;
 use indexmap::IndexMap;
-use mx_formula::formula::{first_step, run_on};
+use mx_formula::formula::first_step;
 use mx_formula::frame::{Frame, Next, Scope, Stop};
 use mx_formula::locals::first_locals;
 use mx_list::items::Items;
@@ -30,9 +31,6 @@ use mx_value::refusal::EvalRefusal;
 use mx_value::value::{Addr, Value};
 use std::alloc::{AllocError, Global};
 use std::sync::ledger::Ledger;
-
-/// What is held, in order of holding.
-pub type Held = IndexMap<Shared<Node>, Kept>;
 
 /// The runs that wait, the longest first.
 type Waiting = IndexMap<Shared<Node>, Frame>;
@@ -205,10 +203,11 @@ fn step<L: Ledger>(
         mut tasks,
         mut events,
     } = frame;
-    match run_on(
+    match run_past(
         alloc,
         text,
         node.get(),
+        held,
         &mut scope,
         next,
         &mut tasks,
@@ -222,6 +221,7 @@ fn step<L: Ledger>(
                 tasks,
                 events,
             };
+            let to = Shared::new(alloc, to)?;
             ask(alloc, text, limit, waiting, node, frame, to, held, steps)
         }
     }
@@ -330,7 +330,7 @@ fn given(
     })
 }
 
-/// The run of a node asks another.
+/// The run of a node asks another, which is not held.
 fn ask<L: Ledger>(
     alloc: Global,
     text: &ModelText,
@@ -342,16 +342,12 @@ fn ask<L: Ledger>(
     held: &Held,
     steps: &mut Steps<L>,
 ) -> Result<Progress, AllocError>
-    requires { IsMemo text.now held.now.entries }
+    requires memo { IsMemo text.now held.now.entries }
+    requires new { Has (nodes_of held.now.entries) to → ⊥ }
     ensures good { (start : Many Entry) (asked : Node) → IsTop text.now limit start held.now.entries asked (reverse waiting.old.entries) node frame.events (Asks to (going (node, frame))) → IfOk result (IsGood text.now limit start asked held.now.entries (suc (length waiting.old.entries)) waiting.new.entries) }
     ensures ticks { (start : Many Entry) (asked : Node) → IsTop text.now limit start held.now.entries asked (reverse waiting.old.entries) node frame.events (Asks to (going (node, frame))) → IfOk result (λ p. steps.new + suc (length waiting.old.entries) ≡ steps.old + depth_after (suc (length waiting.old.entries)) (length waiting.new.entries) p) }
     ensures room { (most : ℕ) → IfOk result (IsFull most held.now.entries) }
 {
-    if let Some((asked, kept)) = held.get_key_value(&to) {
-        let asked = asked.copy()?;
-        let reply = kept.reply.copy()?;
-        return Ok(Progress::Going(given(alloc, node, frame, asked, reply)?));
-    }
     waiting.insert(node, frame)?;
     if let Some(at) = waiting.get_index_of(&to) {
         return Ok(Progress::Ring(nodes_from(alloc, waiting, at)?));

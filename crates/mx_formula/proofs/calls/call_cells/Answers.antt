@@ -1,41 +1,16 @@
-use Rattle.std.proofs.lemmas.Grind.{common_steps}
 use Rattle.std.proofs.lemmas.Result.{IfOk-weaker}
-use Rattle.std.proofs.Common.{◌≡◌, ◌∙◌, true, false, Some, Err, ap, length, sym, rules, arith}
-use Rattle.std.specs.List.{list_all}
+use Rattle.std.proofs.Common.{◌≡◌, ◌∙◌, Some, sym, false}
 use Rattle.mx_value.specs.declared.value.Value.{Value}
-use Rattle.mx_value.specs.declared.fault.FaultKind.TheVariants.{WrongCountInside}
-use Rattle.mx_value.specs.Plain.{is_plain}
-use Rattle.mx_print.specs.Binding.{is_wrong_count}
-use Rattle.mx_print.specs.declared.bind.BindRefusal.TheVariants.{WrongCount}
+use Rattle.mx_meaning.specs.Model.{FormulaHere}
 use Rattle.mx_meaning.specs.Runs.{Run, Env}
-use Rattle.mx_meaning.specs.Expressions.{called}
+use Rattle.mx_meaning.specs.Expressions.{called, call_result}
 use Rattle.mx_formula.specs.declared.frame.Next.{Next}
-use Rattle.mx_formula.specs.declared.frame.Next.TheVariants.{Fault}
 use Rattle.mx_formula.specs.Tasks.{GoesOnAlone, run_from}
-use Rattle.mx_formula.proofs.CellCalls.{call_comes, right_count}
-use Rattle.mx_formula.proofs.Loops.{alone_end}
+use Rattle.mx_formula.proofs.CellCalls.{call_looks}
 use Rattle.mx_formula.proofs.calls.call_cells.Goals as goal
-
-pub returns-then-not-are_plain : goal.returns-then-not-are_plain
-returns-then-not-are_plain c = λ env go.
-    let hp : list_all is_plain c.args.arguments ≡ false = first_of (search rules, grind (arith, common_steps)) in
-    call_comes c.args.text.now c.args.at.now c.args.arguments c.in-Some.source c.in-Some-formula_at.formula.now false false env go c.args.events.now c.push.new.self
-    (sym c.in_ok-source.ensures ∙ c.in-Some.is) (sym c.in-Some-formula_at.ensures) hp (λ e. absurd (cc)) (rw (c.in_ok-copy.ensures, c.in_ok-copy-2.ensures) at c.in_ok-push.ensures.ok)
-
-pub returns-in-Ok : goal.returns-in-Ok
-returns-in-Ok c = λ env go.
-    let hp : list_all is_plain c.args.arguments ≡ true = first_of (search rules, grind (arith, common_steps)) in
-    let hw : is_wrong_count c.in-Some-formula_at.formula.now.params (length c.args.arguments) ≡ false = rw c.as_slice.ensures at (right_count (is_wrong_count c.as_slice.result.now (length c.args.arguments)) c.bind.result c.in-Ok.bound c.bind.ensures.wrong_count c.in-Ok.is) in
-    rw (c.in_ok-new-in-Ok.ensures, c.in_ok-copy-in-Ok.ensures, c.in_ok-copy-in-Ok-2.ensures, c.in-Ok.ensures.full, c.as_slice.ensures)
-    (call_comes c.args.text.now c.args.at.now c.args.arguments c.in-Some.source c.in-Some-formula_at.formula.now true false env go c.args.events.now c.push.new.self
-    (sym c.in_ok-source.ensures ∙ c.in-Some.is) (sym c.in-Some-formula_at.ensures) hp (λ e. hw) (rw (c.in_ok-copy.ensures, c.in_ok-copy-2.ensures) at c.in_ok-push.ensures.ok))
 
 pub returns : goal.returns
 returns c =
-    IfOk-weaker c.refused.result (λ (next : Next). (next ≡ Fault WrongCountInside) × (c.in-Err.refusal ≡ WrongCount)) (λ (next : Next). (env : Env) (go : Value → Run) → GoesOnAlone c.args.text.now (called (Some c.args.at.now) c.args.arguments env go) c.args.events.now c.push.new.self (run_from next env go)) (λ next h env go.
-    let hp : list_all is_plain c.args.arguments ≡ true = first_of (search rules, grind (arith, common_steps)) in
-    let hw : is_wrong_count c.in-Some-formula_at.formula.now.params (length c.args.arguments) ≡ true = rw c.as_slice.ensures at (c.bind.ensures.wrong_count.0 (c.in-Err.is ∙ ap Err h.1)) in
-    alone_end c.args.text.now (called (Some c.args.at.now) c.args.arguments env go) _ (run_from next env go) c.args.events.now c.push.new.self
-    (call_comes c.args.text.now c.args.at.now c.args.arguments c.in-Some.source c.in-Some-formula_at.formula.now true true env go c.args.events.now c.push.new.self
-    (sym c.in_ok-source.ensures ∙ c.in-Some.is) (sym c.in-Some-formula_at.ensures) hp (λ e. hw) (rw (c.in_ok-copy.ensures, c.in_ok-copy-2.ensures) at c.in_ok-push.ensures.ok))
-    (ap (λ (n : Next). run_from n env go) (sym h.0))) c.refused.ensures
+    IfOk-weaker c.call_formula.result (λ (next : Next). (env : Env) (go : Value → Run) → call_result c.args.at.now c.args.arguments env go (FormulaHere c.in-Some-formula_at.formula.now false) ≡ run_from next env go) (λ (next : Next). (env : Env) (go : Value → Run) → GoesOnAlone c.args.text.now (called (Some c.args.at.now) c.args.arguments env go) c.args.events.now c.push.new.self (run_from next env go)) (λ next h env go.
+    call_looks c.args.text.now c.args.at.now c.args.arguments c.in-Some.source c.in-Some-formula_at.formula.now env go c.args.events.now c.push.new.self (run_from next env go)
+    (sym c.in_ok-source.ensures ∙ c.in-Some.is) (sym c.in-Some-formula_at.ensures) (rw (c.in_ok-copy.ensures, c.in_ok-copy-2.ensures) at c.in_ok-push.ensures.ok) (h env go)) c.call_formula.ensures

@@ -22,42 +22,30 @@ use Rattle.mx_machine.proofs.machine.ask.Goals as goal
 pub returns-in-Some-clause-good : goal.returns-in-Some-clause-good
 returns-in-Some-clause-good g c = λ start asked t.
     let f : Waiter = (c.args.node, c.args.frame) in
-    let h : Has c.args.held.now.entries (c.args.to, c.in-Some.kept.now) = found_entry c.args.to c.args.held.now.entries c.in-Some.kept.now (sym c.in-Some.ensures.value) in
-    let has : Has (nodes_of c.args.held.now.entries) c.args.to = has_map (λ (d : Entry). d.0) c.args.held.now.entries (c.args.to, c.in-Some.kept.now) h in
-    let means : Means c.args.text.now c.args.to (Gives c.in_ok-reply.reply) = subst (λ (r : Reply). Means c.args.text.now c.args.to (Gives r)) (sym c.in_ok-reply.ensures) (c.requires.right.means (c.args.to, c.in-Some.kept.now) h) in
-    let same : c.in_ok-asked.asked ≡ c.args.to = c.in_ok-asked.ensures ∙ found_key c.args.to c.args.held.now.entries c.in-Some.asked.now (sym c.in-Some.ensures.key) in
-    let q = c.in_ok-given.ensures in
-    let news : c.in_ok-given.field-0.frame.events ≡ c.args.frame.events ++ Asked c.args.to c.in_ok-reply.reply ∷ [] = q.1 ∙ ap (λ (n : Node). c.args.frame.events ++ Asked n c.in_ok-reply.reply ∷ []) same in
-    running_by c.args.text.now c.args.limit start c.args.held.now.entries asked (reverse c.args.waiting.now.entries) c.args.node (c.args.frame.events ++ Asked c.args.to c.in_ok-reply.reply ∷ []) (going f c.in_ok-reply.reply) c.in_ok-given.field-0 q.0 news q.2
-    (top_given c.args.text.now c.args.limit start asked c.args.held.now.entries (reverse c.args.waiting.now.entries) c.args.node c.args.to (going f) c.in_ok-reply.reply c.args.frame.events (c.args.frame.events ++ Asked c.args.to c.in_ok-reply.reply ∷ []) refl has means t)
-
-pub returns-in-Some-get_index_of-clause-good : goal.returns-in-Some-get_index_of-clause-good
-returns-in-Some-get_index_of-clause-good g c = λ start asked t.
-    let f : Waiter = (c.args.node, c.args.frame) in
     let e : c.insert.new.self.entries ≡ c.args.waiting.now.entries ++ f ∷ [] = c.in_ok-insert.ensures.entries ∙ pushed_entry c.args.node c.args.frame c.args.waiting.now.entries (off_frames c.args.waiting.now.entries c.args.node (λ h. t.apart.distinct.0 h)) in
     let nodes : List Node = map (λ (w : Waiter). w.0) c.insert.new.self.entries in
-    let p = position-Some (node_eq c.args.to) nodes c.in-Some-get_index_of.at c.args.to (sym c.in-Some-get_index_of.ensures.index) in
-    let here : get_or nodes c.in-Some-get_index_of.at c.args.to ≡ c.args.to = sym ((node_decides c.args.to (get_or nodes c.in-Some-get_index_of.at c.args.to)).0 p.1) in
-    ring_step c.args.text.now c.args.limit start asked c.args.held.now.entries c.requires c.insert.new.self.entries c.args.waiting.now.entries f c.args.to e t c.in-Some-get_index_of.at p.0 here c.in_ok-nodes_from.field-0 c.in_ok-nodes_from.ensures
+    let p = position-Some (node_eq c.args.to) nodes c.in-Some.at c.args.to (sym c.in-Some.ensures.index) in
+    let here : get_or nodes c.in-Some.at c.args.to ≡ c.args.to = sym ((node_decides c.args.to (get_or nodes c.in-Some.at c.args.to)).0 p.1) in
+    ring_step c.args.text.now c.args.limit start asked c.args.held.now.entries c.requires.memo c.insert.new.self.entries c.args.waiting.now.entries f c.args.to e t c.in-Some.at p.0 here c.in_ok-nodes_from.field-0 c.in_ok-nodes_from.ensures
 
 pub returns-then-len-limit-clause-good : goal.returns-then-len-limit-clause-good
 returns-then-len-limit-clause-good g c = λ start asked t.
     let f : Waiter = (c.args.node, c.args.frame) in
     let e : c.insert.new.self.entries ≡ c.args.waiting.now.entries ++ f ∷ [] = c.in_ok-insert.ensures.entries ∙ pushed_entry c.args.node c.args.frame c.args.waiting.now.entries (off_frames c.args.waiting.now.entries c.args.node (λ h. t.apart.distinct.0 h)) in
-    let nh : Has (nodes_of c.args.held.now.entries) c.args.to → ⊥ = missing_entry c.args.to c.args.held.now.entries (sym c.in_default.ensures.value) in
-    let ns : Has (map (λ (g : Waiter). g.0) c.insert.new.self.entries) c.args.to → ⊥ = missing_entry c.args.to c.insert.new.self.entries (none_there (lookup (node_eq c.args.to) c.insert.new.self.entries) c.in_default-get_index_of.ensures.found) in
+    let nh : Has (nodes_of c.args.held.now.entries) c.args.to → ⊥ = c.requires.new in
+    let ns : Has (map (λ (g : Waiter). g.0) c.insert.new.self.entries) c.args.to → ⊥ = missing_entry c.args.to c.insert.new.self.entries (none_there (lookup (node_eq c.args.to) c.insert.new.self.entries) c.in_default.ensures.found) in
     let k : c.len.result ≡ length c.insert.new.self.entries = c.len.ensures.len in
-    deep_step c.args.text.now c.args.limit start asked c.args.held.now.entries c.requires c.insert.new.self.entries c.args.waiting.now.entries f c.args.to e t nh ns (omega arith)
+    deep_step c.args.text.now c.args.limit start asked c.args.held.now.entries c.requires.memo c.insert.new.self.entries c.args.waiting.now.entries f c.args.to e t nh ns (omega arith)
 
 pub returns-in-Running-clause-good : goal.returns-in-Running-clause-good
 returns-in-Running-clause-good g c = λ start asked t.
     let f : Waiter = (c.args.node, c.args.frame) in
     let e : c.insert.new.self.entries ≡ c.args.waiting.now.entries ++ f ∷ [] = c.in_ok-insert.ensures.entries ∙ pushed_entry c.args.node c.args.frame c.args.waiting.now.entries (off_frames c.args.waiting.now.entries c.args.node (λ h. t.apart.distinct.0 h)) in
-    let nh : Has (nodes_of c.args.held.now.entries) c.args.to → ⊥ = missing_entry c.args.to c.args.held.now.entries (sym c.in_default.ensures.value) in
-    let ns : Has (map (λ (g : Waiter). g.0) c.insert.new.self.entries) c.args.to → ⊥ = missing_entry c.args.to c.insert.new.self.entries (none_there (lookup (node_eq c.args.to) c.insert.new.self.entries) c.in_default-get_index_of.ensures.found) in
+    let nh : Has (nodes_of c.args.held.now.entries) c.args.to → ⊥ = c.requires.new in
+    let ns : Has (map (λ (g : Waiter). g.0) c.insert.new.self.entries) c.args.to → ⊥ = missing_entry c.args.to c.insert.new.self.entries (none_there (lookup (node_eq c.args.to) c.insert.new.self.entries) c.in_default.ensures.found) in
     let k : c.len.result ≡ length c.insert.new.self.entries = c.len.ensures.len in
     let s : StartsAt c.args.text.now c.args.to c.in-Running.running = subst (λ (b : Begun). Begins c.args.text.now c.args.to b) c.in-Running.is c.in_ok-running.ensures.begins in
-    begun_step c.args.text.now c.args.limit start asked c.args.held.now.entries c.requires c.insert.new.self.entries c.args.waiting.now.entries f c.args.to e t nh ns (omega arith) c.in-Running.running s
+    begun_step c.args.text.now c.args.limit start asked c.args.held.now.entries c.requires.memo c.insert.new.self.entries c.args.waiting.now.entries f c.args.to e t nh ns (omega arith) c.in-Running.running s
 
 pub returns-in-Running-clause-ticks : goal.returns-in-Running-clause-ticks
 returns-in-Running-clause-ticks g c = λ start asked t.
@@ -73,7 +61,7 @@ returns-in-NoSuch-clause-good g c = λ start asked t.
     let e : c.insert.new.self.entries ≡ c.args.waiting.now.entries ++ f ∷ [] = c.in_ok-insert.ensures.entries ∙ pushed_entry c.args.node c.args.frame c.args.waiting.now.entries (off_frames c.args.waiting.now.entries c.args.node (λ h. t.apart.distinct.0 h)) in
     let k : c.len.result ≡ length c.insert.new.self.entries = c.len.ensures.len in
     let s : EndsUnasked c.args.text.now c.args.to NoSuchNode = subst (λ (b : Begun). Begins c.args.text.now c.args.to b) c.in-NoSuch.is c.in_ok-running.ensures.begins in
-    unasked_step c.args.text.now c.args.limit start asked c.args.held.now.entries c.requires c.insert.new.self.entries c.args.waiting.now.entries f c.args.to e t NoSuchNode tt s (omega arith)
+    unasked_step c.args.text.now c.args.limit start asked c.args.held.now.entries c.requires.memo c.insert.new.self.entries c.args.waiting.now.entries f c.args.to e t NoSuchNode tt s (omega arith)
 
 pub returns-in-WrongCount-clause-good : goal.returns-in-WrongCount-clause-good
 returns-in-WrongCount-clause-good g c = λ start asked t.
@@ -81,4 +69,4 @@ returns-in-WrongCount-clause-good g c = λ start asked t.
     let e : c.insert.new.self.entries ≡ c.args.waiting.now.entries ++ f ∷ [] = c.in_ok-insert.ensures.entries ∙ pushed_entry c.args.node c.args.frame c.args.waiting.now.entries (off_frames c.args.waiting.now.entries c.args.node (λ h. t.apart.distinct.0 h)) in
     let k : c.len.result ≡ length c.insert.new.self.entries = c.len.ensures.len in
     let s : EndsUnasked c.args.text.now c.args.to BadCount = subst (λ (b : Begun). Begins c.args.text.now c.args.to b) c.in-WrongCount.is c.in_ok-running.ensures.begins in
-    unasked_step c.args.text.now c.args.limit start asked c.args.held.now.entries c.requires c.insert.new.self.entries c.args.waiting.now.entries f c.args.to e t BadCount tt s (omega arith)
+    unasked_step c.args.text.now c.args.limit start asked c.args.held.now.entries c.requires.memo c.insert.new.self.entries c.args.waiting.now.entries f c.args.to e t BadCount tt s (omega arith)
