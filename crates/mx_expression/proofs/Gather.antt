@@ -4,7 +4,7 @@ use Rattle.std.proofs.lemmas.List.{append-nil}
 use Rattle.mx_grammar.specs.declared.word.Word.{Word}
 use Rattle.mx_grammar.specs.declared.trouble.Trouble.{Trouble}
 use Rattle.mx_grammar.specs.Grammar.{Parts}
-use Rattle.mx_grammar.specs.Reading.{Words, Outcome, Parser, and_then, ◌>>=◌, pure, sees, Turn, On, Done, loop}
+use Rattle.mx_grammar.specs.Reading.{Words, Outcome, Parser, and_then, ◌>>=◌, pure, sees, Turn, On, Done, turning}
 use Rattle.mx_grammar.proofs.Exact.{Rel, Kinds, Stops, or, or_stops, Exists, bind_ok, ok_pair, read, Nothing, Then, Either}
 use Rattle.mx_grammar.proofs.Meets.{Shorter}
 use Rattle.mx_grammar.proofs.Symbols.{apart}

@@ -17,7 +17,7 @@ use Rattle.mx_grammar.specs.declared.word.Word.{Word}
 use Rattle.mx_grammar.specs.declared.word.Symbol.{Symbol}
 use Rattle.mx_grammar.specs.declared.word.Symbol.TheVariants as symbol
 use Rattle.mx_grammar.specs.Words.{is}
-use Rattle.mx_grammar.specs.Reading.{Parser, ◌>>=◌, ◌>>◌, pure, refuse, expect, choose, many, Turn, On, Done, loop}
+use Rattle.mx_grammar.specs.Reading.{Parser, ◌>>=◌, ◌>>◌, pure, refuse, expect, choose, many, Turn, On, Done, turning}
 
 -- ---- parts that are gathered, and operators
 
@@ -26,7 +26,7 @@ abbrev pub gather_turn : {A S : Type 0} → (Word → Bool) → Parser A → (S 
 gather_turn is part add s = choose is (part >>= λ a. pure (On (add s a))) (pure (Done s))
 
 abbrev pub gather : {A S : Type 0} → (Word → Bool) → Parser A → (S → A → S) → S → Parser S
-gather is part add = loop (gather_turn is part add)
+gather is part add = turning (gather_turn is part add)
 
 -- what each of these symbols says
 abbrev pub one_of : {A : Type 0} → List (Symbol × A) → Parser A

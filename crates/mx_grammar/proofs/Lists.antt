@@ -7,7 +7,7 @@ use Rattle.mx_grammar.specs.declared.word.Word.{Word}
 use Rattle.mx_grammar.specs.declared.word.Word.TheVariants as word
 use Rattle.mx_grammar.specs.Words.{is}
 use Rattle.mx_grammar.specs.Grammar.{Parts, Listed}
-use Rattle.mx_grammar.specs.Reading.{Words, Outcome, Parser, ◌>>=◌, pure, sees, Turn, On, Done, loop, many_turn, many, item_turn, listed, some_listed}
+use Rattle.mx_grammar.specs.Reading.{Words, Outcome, Parser, ◌>>=◌, pure, sees, Turn, On, Done, turning, many_turn, many, item_turn, listed, some_listed}
 use Rattle.mx_grammar.proofs.Exact.{Rel, Kinds, Stops, none, stops_none, or, or_stops, Exists, Exact, bind_ok, ok_pair, read, Nothing, Then, Either}
 use Rattle.mx_grammar.proofs.Meets.{Shorter}
 use Rattle.mx_grammar.proofs.Symbols.{here, apart}
@@ -130,7 +130,7 @@ module _ {A : Type 0} (is F : Kinds) (R : Rel A) where
 
   -- behind those found before
   pub found_rule : {E : Type 0} {K : Knot E} {k : ℕ} {P : E → Parser A} → Rule K k (plain F) R P → BeginsWith is R → ((t : Word) → is t ≡ true → F t ≡ false) → (found : List A)
-      → Rule K k (plain (or is F)) (Then (Parts R) (λ xs. Nothing (found ++ xs))) (λ i. loop (many_turn is (P i)) found)
+      → Rule K k (plain (or is F)) (Then (Parts R) (λ xs. Nothing (found ++ xs))) (λ i. turning (many_turn is (P i)) found)
   unfolding follows
   found_rule {K} {P} p begins off found =
       iff_rule (λ u all h. let k = to_found found u all h in subst (Then (Parts R) (λ xs. Nothing (found ++ xs)) u) (sym k.whole) (mapping (Parts R) (λ xs. found ++ xs) u k.others k.spells))

@@ -2,7 +2,7 @@
 use Rattle.std.proofs.Common.{◌≡◌, ℕ, zero, suc, ◌<◌, [], ◌++◌, length, Ok, Err, refl, sym, ap, subst, ◌∙◌, append_assoc, arith, inl, inr}
 use Rattle.std.proofs.lemmas.List.{append-nil}
 use Rattle.mx_grammar.specs.declared.trouble.Trouble.{Trouble}
-use Rattle.mx_grammar.specs.Reading.{Words, Outcome, Parser, and_then, ◌>>=◌, Turn, On, Done, after_turn, turns, loop}
+use Rattle.mx_grammar.specs.Reading.{Words, Outcome, Parser, and_then, ◌>>=◌, Turn, On, Done, after_turn, turns, turning}
 use Rattle.mx_grammar.proofs.Exact.{Rel, Kinds, Stops, none, read, Exists, Took, Fails, Exact, bind_ok, bind_err, Nothing, pure_exact, Then, both, first_fails, second_fails, took_map, fails_map}
 
 -- the turns from a state on
@@ -28,18 +28,18 @@ module _ {S B : Type 0} (turn : S → Parser (Turn S B)) (shrinks : Shrinks turn
   fuel_same (suc n) (suc m) s ts p q = after_same (turns turn n) (turns turn m) s ts (turn s ts) refl (λ t rest lt. fuel_same n m t rest (omega arith) (omega arith))
 
   -- a loop is one turn, and the loop again
-  pub loop_is : (s : S) (ts : Words) → loop turn s ts ≡ and_then (turn s ts) (after_turn (loop turn))
-  unfolding turns loop
-  loop_is s ts = after_same (turns turn (length ts)) (loop turn) s ts (turn s ts) refl (λ t rest lt. fuel_same (length ts) (suc (length rest)) t rest lt (omega arith))
+  pub loop_is : (s : S) (ts : Words) → turning turn s ts ≡ and_then (turn s ts) (after_turn (turning turn))
+  unfolding turns turning
+  loop_is s ts = after_same (turns turn (length ts)) (turning turn) s ts (turn s ts) refl (λ t rest lt. fuel_same (length ts) (suc (length rest)) t rest lt (omega arith))
 
-  pub loop_on : (s t : S) (ts rest : Words) → turn s ts ≡ Ok (On t, rest) → loop turn s ts ≡ loop turn t rest
-  loop_on s t ts rest h = loop_is s ts ∙ ap (λ (o : Outcome (Turn S B)). and_then o (after_turn (loop turn))) h
+  pub loop_on : (s t : S) (ts rest : Words) → turn s ts ≡ Ok (On t, rest) → turning turn s ts ≡ turning turn t rest
+  loop_on s t ts rest h = loop_is s ts ∙ ap (λ (o : Outcome (Turn S B)). and_then o (after_turn (turning turn))) h
 
-  pub loop_done : (s : S) (b : B) (ts rest : Words) → turn s ts ≡ Ok (Done b, rest) → loop turn s ts ≡ Ok (b, rest)
-  loop_done s b ts rest h = loop_is s ts ∙ ap (λ (o : Outcome (Turn S B)). and_then o (after_turn (loop turn))) h
+  pub loop_done : (s : S) (b : B) (ts rest : Words) → turn s ts ≡ Ok (Done b, rest) → turning turn s ts ≡ Ok (b, rest)
+  loop_done s b ts rest h = loop_is s ts ∙ ap (λ (o : Outcome (Turn S B)). and_then o (after_turn (turning turn))) h
 
-  pub loop_err : (s : S) (ts : Words) (e : Trouble) → turn s ts ≡ Err e → loop turn s ts ≡ Err e
-  loop_err s ts e h = loop_is s ts ∙ ap (λ (o : Outcome (Turn S B)). and_then o (after_turn (loop turn))) h
+  pub loop_err : (s : S) (ts : Words) (e : Trouble) → turn s ts ≡ Err e → turning turn s ts ≡ Err e
+  loop_err s ts e h = loop_is s ts ∙ ap (λ (o : Outcome (Turn S B)). and_then o (after_turn (turning turn))) h
 
 abbrev After : {S B : Type 0} → (S → Rel (Turn S B)) → Turn S B → Rel B
 After R (On t) u b = Turns R t u b
@@ -60,13 +60,13 @@ module _ {S B : Type 0} (R : S → Rel (Turn S B)) where
   some_after some (Done c) = record { tokens = []; tree = c; spells = (refl, refl) }
 
 module _ {S B : Type 0} (R : S → Rel (Turn S B)) (turn : S → Parser (Turn S B)) (shrinks : Shrinks turn) where
-  back : (s : S) (x : Words) → (turn s >>= after_turn (loop turn)) x ≡ loop turn s x
+  back : (s : S) (x : Words) → (turn s >>= after_turn (turning turn)) x ≡ turning turn s x
   back s x = sym (loop_is turn shrinks s x)
 
   again : (F : Turn S B → Kinds) (G : B → Kinds) → ((s : S) → Exact F (R s) (turn s))
       → (fits : (s : S) (u rest : Words) (r : Turn S B) → R s u r → Stops (F r) rest → (t : S) → Stops (F (On t)) (u ++ rest))
       → ((rest : Words) (b : B) → Stops (G b) rest → Stops (F (Done b)) rest)
-      → (s : S) (u rest : Words) (b : B) → Turns R s u b → Stops (G b) rest → (loop turn s (u ++ rest) ≡ Ok (b, rest)) × ((t : S) → Stops (F (On t)) (u ++ rest))
+      → (s : S) (u rest : Words) (b : B) → Turns R s u b → Stops (G b) rest → (turning turn s (u ++ rest) ≡ Ok (b, rest)) × ((t : S) → Stops (F (On t)) (u ++ rest))
   again F G p fits closing _ _ rest _ (last {s} {u} {b} h) st =
       (loop_done turn shrinks s b (u ++ rest) rest ((p s).complete u rest (Done b) h (closing rest b st)), fits s u rest (Done b) h (closing rest b st))
   again F G p fits closing _ _ rest _ (next {s} {t} {u} {v} {b} h more) st =
@@ -77,42 +77,42 @@ module _ {S B : Type 0} (R : S → Rel (Turn S B)) (turn : S → Parser (Turn S 
       )
 
   abbrev Sound : S → Words → Type 0
-  Sound s ts = (rest : Words) (b : B) → loop turn s ts ≡ Ok (b, rest) → Took (Turns R s) (loop turn s) ts rest b
+  Sound s ts = (rest : Words) (b : B) → turning turn s ts ≡ Ok (b, rest) → Took (Turns R s) (turning turn s) ts rest b
 
-  sound_after : (mid rest : Words) (r : Turn S B) (b : B) → ((t : S) → r ≡ On t → Sound t mid) → after_turn (loop turn) r mid ≡ Ok (b, rest) → Took (After R r) (after_turn (loop turn) r) mid rest b
+  sound_after : (mid rest : Words) (r : Turn S B) (b : B) → ((t : S) → r ≡ On t → Sound t mid) → after_turn (turning turn) r mid ≡ Ok (b, rest) → Took (After R r) (after_turn (turning turn) r) mid rest b
   sound_after mid rest (On t) b ih e = ih t refl rest b e
   sound_after mid rest (Done c) b ih e = (pure_exact (λ _. none) c).sound mid rest b e
 
   sound_to : (F : Turn S B → Kinds) → ((s : S) → Exact F (R s) (turn s)) → (k : ℕ) (s : S) (ts : Words) → length ts < k → Sound s ts
   sound_to F p zero s ts lt rest b e = absurd (omega arith)
   sound_to F p (suc k) s ts lt rest b e =
-      let o = bind_ok (turn s ts) (after_turn (loop turn)) b rest (back s ts ∙ e) in
+      let o = bind_ok (turn s ts) (after_turn (turning turn)) b rest (back s ts ∙ e) in
       let two = sound_after o.1 rest o.0 b (λ t goes_on. sound_to F p k t o.1 (let h : length o.1 < length ts = shrinks s ts o.1 t (o.2 ∙ ap (λ (r : Turn S B). read (r, o.1)) goes_on) in omega arith)) o.3 in
-      took_map (Then (R s) (After R)) (Turns R s) (turn s >>= after_turn (loop turn)) (loop turn s) (to_turns R s) (back s) ts rest b
-      (both (R s) (After R) (turn s) (after_turn (loop turn)) ts o.1 rest o.0 b ((p s).sound ts o.1 o.0 o.2) two)
+      took_map (Then (R s) (After R)) (Turns R s) (turn s >>= after_turn (turning turn)) (turning turn s) (to_turns R s) (back s) ts rest b
+      (both (R s) (After R) (turn s) (after_turn (turning turn)) ts o.1 rest o.0 b ((p s).sound ts o.1 o.0 o.2) two)
 
   abbrev Errs : S → Words → Type 0
-  Errs s ts = (e : Trouble) → loop turn s ts ≡ Err e → Fails (Turns R s) (loop turn s) ts e
+  Errs s ts = (e : Trouble) → turning turn s ts ≡ Err e → Fails (Turns R s) (turning turn s) ts e
 
-  errs_after : (mid : Words) (r : Turn S B) (e : Trouble) → ((t : S) → r ≡ On t → Errs t mid) → after_turn (loop turn) r mid ≡ Err e → Fails (After R r) (after_turn (loop turn) r) mid e
+  errs_after : (mid : Words) (r : Turn S B) (e : Trouble) → ((t : S) → r ≡ On t → Errs t mid) → after_turn (turning turn) r mid ≡ Err e → Fails (After R r) (after_turn (turning turn) r) mid e
   errs_after mid (On t) e ih h = ih t refl e h
   errs_after mid (Done c) e ih h = absurd cc
 
   errs_to : (F : Turn S B → Kinds) → ((s : S) → Exact F (R s) (turn s)) → ((s : S) → Exists (Turns R s)) → (k : ℕ) (s : S) (ts : Words) → length ts < k → Errs s ts
   errs_to F p some zero s ts lt e h = absurd (omega arith)
   errs_to F p some (suc k) s ts lt e h =
-      fails_map (Then (R s) (After R)) (Turns R s) (turn s >>= after_turn (loop turn)) (loop turn s) (to_turns R s) (back s) ts e
-      (elim (bind_err (turn s ts) (after_turn (loop turn)) e (back s ts ∙ h)) [
-        | inl at ↦ first_fails (R s) (After R) (turn s) (after_turn (loop turn)) (some_after R some) ts e ((p s).errs ts e at)
+      fails_map (Then (R s) (After R)) (Turns R s) (turn s >>= after_turn (turning turn)) (turning turn s) (to_turns R s) (back s) ts e
+      (elim (bind_err (turn s ts) (after_turn (turning turn)) e (back s ts ∙ h)) [
+        | inl at ↦ first_fails (R s) (After R) (turn s) (after_turn (turning turn)) (some_after R some) ts e ((p s).errs ts e at)
         | inr went ↦
-            second_fails (R s) (After R) (turn s) (after_turn (loop turn)) (some_after R some) ts went.rest went.tree e ((p s).sound ts went.rest went.tree went.was)
+            second_fails (R s) (After R) (turn s) (after_turn (turning turn)) (some_after R some) ts went.rest went.tree e ((p s).sound ts went.rest went.tree went.was)
             (errs_after went.rest went.tree e (λ t goes_on. errs_to F p some k t went.rest (let lt2 : length went.rest < length ts = shrinks s ts went.rest t (went.was ∙ ap (λ (r : Turn S B). read (r, went.rest)) goes_on) in omega arith)) went.next)
       ])
 
   pub loop_exact : (F : Turn S B → Kinds) (G : B → Kinds) → ((s : S) → Exact F (R s) (turn s))
       → (fits : (s : S) (u rest : Words) (r : Turn S B) → R s u r → Stops (F r) rest → (t : S) → Stops (F (On t)) (u ++ rest))
       → ((rest : Words) (b : B) → Stops (G b) rest → Stops (F (Done b)) rest)
-      → ((s : S) → Exists (Turns R s)) → (s : S) → Exact G (Turns R s) (loop turn s)
+      → ((s : S) → Exists (Turns R s)) → (s : S) → Exact G (Turns R s) (turning turn s)
   loop_exact F G p fits closing some s = record {
     sound = λ ts rest b e. sound_to F p (suc (length ts)) s ts (omega arith) rest b e;
     complete = λ u rest b h st. (again F G p fits closing s u rest b h st).0;

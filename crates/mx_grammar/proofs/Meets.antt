@@ -1,7 +1,7 @@
 -- A parser beside the one with more levels inside: what it reads is read by both, and on few tokens they are the same.
 use Rattle.std.proofs.Common.{◌≡◌, ℕ, zero, suc, ◌<◌, ◌≤◌, Bool, true, false, cond, [], ◌∷◌, length, Option, Some, None, Ok, Err, refl, ap, ◌∙◌, arith, inl, inr}
 use Rattle.mx_grammar.specs.declared.word.Word.{Word}
-use Rattle.mx_grammar.specs.Reading.{Words, Outcome, Parser, and_then, ◌>>=◌, pure, sees, refuse, accept, taken, choose, Turn, On, Done, after_turn, turns, loop}
+use Rattle.mx_grammar.specs.Reading.{Words, Outcome, Parser, and_then, ◌>>=◌, pure, sees, refuse, accept, taken, choose, Turn, On, Done, after_turn, turns, turning}
 use Rattle.mx_grammar.proofs.Exact.{Kinds, read, bind_ok, ok_pair, chosen}
 
 pub record Meets {A : Type 0} (k : ℕ) (P Q : Parser A) : Type 0 where
@@ -87,8 +87,8 @@ module _ {S B : Type 0} (k : ℕ) (turn turn' : S → Parser (Turn S B)) (t : (s
   turns_meet zero s = record { grows = λ ts rest b e. absurd cc; same = λ ts lt. refl; within = λ ts rest b e. absurd cc }
   turns_meet (suc n) s = then_meets (turn s) (turn' s) (after_turn (turns turn n)) (after_turn (turns turn' n)) k (t s) (after_meets (turns turn n) (turns turn' n) (turns_meet n))
 
-  pub loop_meets : (s : S) → Meets k (loop turn s) (loop turn' s)
-  unfolding loop
+  pub loop_meets : (s : S) → Meets k (turning turn s) (turning turn' s)
+  unfolding turning
   loop_meets s = record {
     grows = λ ts. (turns_meet (suc (length ts)) s).grows ts;
     same = λ ts. (turns_meet (suc (length ts)) s).same ts;

@@ -6,7 +6,7 @@ use Rattle.mx_grammar.specs.declared.word.Symbol.TheVariants as symbol
 use Rattle.mx_grammar.specs.declared.word.Word.{Word}
 use Rattle.mx_grammar.specs.declared.word.Word.TheVariants as word
 use Rattle.mx_grammar.specs.Words.{is}
-use Rattle.mx_grammar.specs.Reading.{Words, Parser, ◌>>=◌, ◌>>◌, pure, sees, refuse, accept, says, seen, expect, choose, Turn, On, Done, loop}
+use Rattle.mx_grammar.specs.Reading.{Words, Parser, ◌>>=◌, ◌>>◌, pure, sees, refuse, accept, says, seen, expect, choose, Turn, On, Done, turning}
 use Rattle.mx_grammar.proofs.Exact.{Rel, Kinds, Stops, none, stops_none, Exists, Exact, Nothing, Never, pure_exact, refuse_exact, Then, then_exact, Either, choose_exact, One, Inner, accept_exact, iff_exact, more_stops}
 use Rattle.mx_grammar.proofs.Meets.{Meets, pure_meets, accept_meets, then_meets, open_meets, choose_meets, loop_meets}
 use Rattle.mx_grammar.proofs.Loops.{Turns, Shrinks, loop_exact}
@@ -134,7 +134,7 @@ pub loop_rule : {E S B : Type 0} {K : Knot E} {k : ℕ} {F : Turn S B → Kinds}
     → ((s : S) → Rule K k F (R s) (λ i. turn i s)) → Shrinks (turn K.inner)
     → ((s : S) (u rest : Words) (r : Turn S B) → R s u r → Stops (F r) rest → (t : S) → Stops (F (On t)) (u ++ rest))
     → ((rest : Words) (b : B) → Stops (G b) rest → Stops (F (Done b)) rest)
-    → ((s : S) → Exists (Turns R s)) → (s : S) → Rule K k G (Turns R s) (λ i. loop (turn i) s)
+    → ((s : S) → Exists (Turns R s)) → (s : S) → Rule K k G (Turns R s) (λ i. turning (turn i) s)
 loop_rule {K} {k} {F} {G} {R} {turn} p shrinks fits closing some s = record {
   exact = loop_exact R (turn K.inner) shrinks F G (λ t. (p t).exact) fits closing some s;
   meets = loop_meets k (turn K.inner) (turn K.more) (λ t. (p t).meets) s;

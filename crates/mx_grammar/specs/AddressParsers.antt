@@ -13,7 +13,7 @@ use Rattle.mx_grammar.specs.declared.trouble.Trouble.TheVariants.{NoMemory}
 use Rattle.mx_grammar.specs.declared.address.Turn.{Turn as CodeTurn}
 use Rattle.mx_grammar.specs.declared.address.Turn.TheVariants as turn
 use Rattle.mx_grammar.specs.Words.{is}
-use Rattle.mx_grammar.specs.Reading.{Words, Outcome, Parser, ◌>>=◌, ◌>>◌, pure, accept, expect, choose, Turn, On, Done, loop, listed, some_listed}
+use Rattle.mx_grammar.specs.Reading.{Words, Outcome, Parser, ◌>>=◌, ◌>>◌, pure, accept, expect, choose, Turn, On, Done, turning, listed, some_listed}
 use Rattle.mx_grammar.specs.Literals.{space_of}
 
 abbrev pub name_of : Word → Option (List ℕ)
@@ -42,7 +42,7 @@ addr_turn inner found =
     (dotted (found ++ segment.Name n ∷ []) (found ++ segment.Name n ∷ []))
 
 abbrev pub addr : Parser Value → Parser (List Segment)
-addr inner = loop (addr_turn inner) []
+addr inner = turning (addr_turn inner) []
 
 unfoldable pub node_turn : Parser Value → List Segment → Parser (Turn (List Segment) Node)
 node_turn inner found =
@@ -51,7 +51,7 @@ node_turn inner found =
     (expect symbol.Dot >> pure (On (found ++ segment.Name n ∷ []))))
 
 abbrev pub node_by : Parser Value → Parser Node
-node_by inner = loop (node_turn inner) []
+node_by inner = turning (node_turn inner) []
 
 -- what a call that takes a turn of an address ensures, where it answers whether another one follows
 abbrev pub Goes : Outcome (Turn (List Segment) (List Segment)) → Result Bool Trouble → List Segment → Words → Type 0

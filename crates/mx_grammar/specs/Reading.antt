@@ -91,15 +91,15 @@ turns turn zero s = refuse
 turns turn (suc n) s = turn s >>= after_turn (turns turn n)
 
 -- each turn takes a token, so so many are enough
-unfoldable pub loop : {S B : Type 0} → (S → Parser (Turn S B)) → S → Parser B
-loop turn s = λ ts. turns turn (suc (length ts)) s ts
+unfoldable pub turning : {S B : Type 0} → (S → Parser (Turn S B)) → S → Parser B
+turning turn s = λ ts. turns turn (suc (length ts)) s ts
 
 -- items while the next token is one of these, behind those found before
 abbrev pub many_turn : {A : Type 0} → (Word → Bool) → Parser A → List A → Parser (Turn (List A) (List A))
 many_turn is item found = choose is (item >>= λ a. pure (On (found ++ a ∷ []))) (pure (Done found))
 
 abbrev pub many : {A : Type 0} → (Word → Bool) → Parser A → Parser (List A)
-many is item = loop (many_turn is item) []
+many is item = turning (many_turn is item) []
 
 -- what is left of items with commas between, maybe with one behind the last, up to a symbol that closes
 abbrev pub item_turn : {A : Type 0} → Symbol → Parser A → List A → Parser (Turn (List A) (List A))
@@ -109,7 +109,7 @@ item_turn closes item found =
 
 -- behind those found before
 abbrev pub listed : {A : Type 0} → Symbol → Parser A → List A → Parser (List A)
-listed closes item = loop (item_turn closes item)
+listed closes item = turning (item_turn closes item)
 
 -- at least one item
 abbrev pub some_listed : {A : Type 0} → Symbol → Parser A → Parser (List A)

@@ -1,7 +1,7 @@
 //! Addresses and nodes.
 
 ghost use Rattle.std.specs.Prelude.{◌≡◌, ◌<◌, IfOk};
-ghost use Rattle.mx_grammar.specs.Reading.{Reads, loop};
+ghost use Rattle.mx_grammar.specs.Reading.{Reads, turning};
 ghost use Rattle.mx_grammar.specs.LiteralParsers.{literal};
 ghost use Rattle.mx_grammar.specs.Literals.{space_of};
 ghost use Rattle.mx_grammar.specs.AddressParsers as spec;

@@ -11,7 +11,7 @@ use Rattle.mx_grammar.specs.declared.word.Symbol.{Symbol as Symbols}
 use Rattle.mx_grammar.specs.declared.word.Symbol.TheVariants as symbol
 use Rattle.mx_grammar.specs.declared.word.Word.{Word}
 use Rattle.mx_grammar.specs.Words.{is}
-use Rattle.mx_grammar.specs.Reading.{Words, Outcome, Parser, ◌>>=◌, ◌>>◌, pure, sees, accept, says, expect, choose, Turn, On, Done, loop, many_turn, levels}
+use Rattle.mx_grammar.specs.Reading.{Words, Outcome, Parser, ◌>>=◌, ◌>>◌, pure, sees, accept, says, expect, choose, Turn, On, Done, turning, many_turn, levels}
 use Rattle.mx_grammar.specs.AddressParsers.{name_of}
 use Rattle.mx_grammar.proofs.Exact.{Kinds, read, bind_ok, ok_pair, chosen}
 use Rattle.mx_grammar.proofs.Meets.{Meets, Shorter, accept_shorter, loop_meets}
@@ -45,7 +45,7 @@ choose_shorter is P Q p q ts rest a e = elim (chosen (sees is ts) (P ts) (Q ts) 
 itself : {A : Type 0} (P : Parser A) → Within P → Meets 0 P P
 itself P p = record { grows = λ ts rest a e. e; same = λ ts lt. refl; within = p }
 
-pub loop_within : {S B : Type 0} (turn : S → Parser (Turn S B)) → ((s : S) → Within (turn s)) → (s : S) → Within (loop turn s)
+pub loop_within : {S B : Type 0} (turn : S → Parser (Turn S B)) → ((s : S) → Within (turn s)) → (s : S) → Within (turning turn s)
 loop_within turn p s = (loop_meets 0 turn turn (λ t. itself (turn t) (p t)) s).within
 
 module _ (expression : Parser Expr) (display : Parser (List ItemEntry)) (e : Within expression) (d : Within display) where

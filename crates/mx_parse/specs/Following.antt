@@ -8,7 +8,7 @@ use Rattle.mx_grammar.specs.declared.trouble.Trouble.{Trouble}
 use Rattle.mx_grammar.specs.declared.trouble.Trouble.TheVariants.{NoMemory}
 use Rattle.mx_grammar.specs.Words.{is}
 use Rattle.mx_grammar.specs.Grammar.{Spelling}
-use Rattle.mx_grammar.specs.Reading.{Words, Outcome, Parser, ◌>>=◌, ◌>>◌, pure, expect, choose, Turn, On, Done, item_turn, loop}
+use Rattle.mx_grammar.specs.Reading.{Words, Outcome, Parser, ◌>>=◌, ◌>>◌, pure, expect, choose, Turn, On, Done, item_turn, turning}
 
 -- Any number of items behind those before them, with commas between, and maybe one behind the last.
 pub data Following {A : Type 0} (R : List A → Spelling A) : List A → List Word → List A → Type 0 where
@@ -28,7 +28,7 @@ following_turn closes item found = item_turn closes (item found) found
 
 -- what is left of the items up to a symbol that closes, behind those found before
 abbrev pub following : {A : Type 0} → Symbol → (List A → Parser A) → List A → Parser (List A)
-following closes item = loop (following_turn closes item)
+following closes item = turning (following_turn closes item)
 
 -- at least one item
 abbrev pub some_following : {A : Type 0} → Symbol → (List A → Parser A) → Parser (List A)

@@ -12,7 +12,7 @@ use Rattle.mx_syntax.specs.declared.stmt.Formula.{Formula}
 use Rattle.mx_syntax.specs.declared.stmt.Params.{Params}
 use Rattle.mx_grammar.specs.declared.word.Symbol.TheVariants as symbol
 use Rattle.mx_grammar.specs.Words.{is}
-use Rattle.mx_grammar.specs.Reading.{Parser, ◌>>=◌, ◌>>◌, pure, accept, expect, choose, line, Turn, On, Done, loop, many_turn, levels}
+use Rattle.mx_grammar.specs.Reading.{Parser, ◌>>=◌, ◌>>◌, pure, accept, expect, choose, line, Turn, On, Done, turning, many_turn, levels}
 use Rattle.mx_grammar.specs.AddressParsers.{name_of}
 
 -- ---- simple statements, each to the end of its line
@@ -66,7 +66,7 @@ elif expression body = expect symbol.Elif >> arm expression body
 
 -- any number of arms behind those found before
 abbrev pub elifs : Parser Expr → Parser (List Stmt) → List IfArm → Parser (List IfArm)
-elifs expression body = loop (many_turn (is symbol.Elif) (elif expression body))
+elifs expression body = turning (many_turn (is symbol.Elif) (elif expression body))
 
 unfoldable pub otherwise : Parser (List Stmt) → List IfArm → Parser Stmt
 otherwise body arms = choose (is symbol.Else) (expect symbol.Else >> headed (λ b. stmt.If arms (Some b)) body) (pure (stmt.If arms None))
@@ -92,7 +92,7 @@ statement_turn expression display body found =
     statement expression display body >>= λ s. choose (is symbol.Dedent) (expect symbol.Dedent >> pure (Done (found ++ s ∷ []))) (pure (On (found ++ s ∷ [])))
 
 abbrev pub statements : Parser Expr → Parser (List ItemEntry) → Parser (List Stmt) → List Stmt → Parser (List Stmt)
-statements expression display body = loop (statement_turn expression display body)
+statements expression display body = turning (statement_turn expression display body)
 
 unfoldable pub block_rule : Parser Expr → Parser (List ItemEntry) → Parser (List Stmt) → Parser (List Stmt)
 block_rule expression display inner = expect symbol.Newline >> (expect symbol.Indent >> statements expression display (body_by expression display inner) [])

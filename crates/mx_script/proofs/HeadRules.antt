@@ -7,7 +7,7 @@ use Rattle.mx_grammar.specs.declared.word.Word.TheVariants.{Name, Symbol}
 use Rattle.mx_grammar.specs.declared.trouble.Trouble.{Trouble}
 use Rattle.mx_grammar.specs.Words.{is}
 use Rattle.mx_grammar.specs.Grammar.{Parts, Line}
-use Rattle.mx_grammar.specs.Reading.{Words, Outcome, Parser, and_then, ◌>>=◌, pure, accept, sees, behind, expect, Turn, On, Done, loop, many_turn, line}
+use Rattle.mx_grammar.specs.Reading.{Words, Outcome, Parser, and_then, ◌>>=◌, pure, accept, sees, behind, expect, Turn, On, Done, turning, many_turn, line}
 use Rattle.mx_grammar.specs.AddressParsers.{name_of}
 use Rattle.mx_grammar.proofs.Exact.{Rel, Kinds, none, stops_none, or, Exists, Nothing, Then, Either, One, Inner}
 use Rattle.mx_grammar.proofs.Meets.{fewer_meets}
@@ -48,15 +48,15 @@ further_is : (ts : Words) → sees (is symbol.Dot) ts ≡ true → further ts �
 further_is ts h = ap (λ (o : Outcome (Unit {0})). and_then o (λ _. accept name_of)) (expect_ok symbol.Dot ts h)
 
 pub dot_more : (found : List (List ℕ)) (a : List ℕ) (ts rest : Words) → sees (is symbol.Dot) ts ≡ true → accept name_of (behind ts) ≡ Ok (a, rest)
-    → loop (many_turn (is symbol.Dot) further) found ts ≡ loop (many_turn (is symbol.Dot) further) (found ++ a ∷ []) rest
+    → turning (many_turn (is symbol.Dot) further) found ts ≡ turning (many_turn (is symbol.Dot) further) (found ++ a ∷ []) rest
 dot_more found a ts rest h k = loop_on (many_turn (is symbol.Dot) further) dot_shrinks found (found ++ a ∷ []) ts rest
     (ap (λ (b : Bool). by found b ts) h ∙ ap (λ (o : Outcome (List ℕ)). and_then o (λ a. pure (On (found ++ a ∷ [])))) (further_is ts h ∙ k))
 
-pub dot_err : (found : List (List ℕ)) (ts : Words) (e : Trouble) → sees (is symbol.Dot) ts ≡ true → accept name_of (behind ts) ≡ Err e → loop (many_turn (is symbol.Dot) further) found ts ≡ Err e
+pub dot_err : (found : List (List ℕ)) (ts : Words) (e : Trouble) → sees (is symbol.Dot) ts ≡ true → accept name_of (behind ts) ≡ Err e → turning (many_turn (is symbol.Dot) further) found ts ≡ Err e
 dot_err found ts e h k = loop_err (many_turn (is symbol.Dot) further) dot_shrinks found ts e
     (ap (λ (b : Bool). by found b ts) h ∙ ap (λ (o : Outcome (List ℕ)). and_then o (λ a. pure (On (found ++ a ∷ [])))) (further_is ts h ∙ k))
 
-pub dot_done : (found : List (List ℕ)) (ts : Words) → sees (is symbol.Dot) ts ≡ false → loop (many_turn (is symbol.Dot) further) found ts ≡ Ok (found, ts)
+pub dot_done : (found : List (List ℕ)) (ts : Words) → sees (is symbol.Dot) ts ≡ false → turning (many_turn (is symbol.Dot) further) found ts ≡ Ok (found, ts)
 dot_done found ts h = loop_done (many_turn (is symbol.Dot) further) dot_shrinks found found ts ts (ap (λ (b : Bool). by found b ts) h)
 
 pub dot_shorter : (ts rest : Words) (a : List ℕ) → sees (is symbol.Dot) ts ≡ true → accept name_of (behind ts) ≡ Ok (a, rest) → length rest < length ts

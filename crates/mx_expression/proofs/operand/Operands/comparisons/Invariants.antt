@@ -1,11 +1,11 @@
 use Rattle.std.proofs.Common.{◌≡◌, length}
-use Rattle.mx_grammar.specs.Reading.{many, many_turn, loop}
+use Rattle.mx_grammar.specs.Reading.{many, many_turn, turning}
 use Rattle.mx_expression.specs.ChainParsers.{is_compare, comparison}
 use Rattle.mx_expression.specs.ExpressionParsers.{sums}
 use Rattle.mx_expression.proofs.operand.Operands.comparisons.Given as goal
 
 abbrev pub invariant-loop-found : goal.invariant-loop-found
-invariant-loop-found g l = loop (many_turn is_compare (comparison (sums l.self.levels))) l.found l.tokens ≡ many is_compare (comparison (sums l.self.levels)) l.fn.tokens
+invariant-loop-found g l = turning (many_turn is_compare (comparison (sums l.self.levels))) l.found l.tokens ≡ many is_compare (comparison (sums l.self.levels)) l.fn.tokens
 
 abbrev pub decreases-loop-found : goal.decreases-loop-found
 decreases-loop-found g l = length l.tokens
