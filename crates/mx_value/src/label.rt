@@ -73,17 +73,18 @@ impl Eq for Label {
     ghost laws = { Prim.search (comparing, rules) };
 }
 
+/// All bytes are fed at once: names are looked up at each call of a formula.
 impl Hash for Label {
-    ghost use Rattle.std.specs.Hash as fed;
+    ghost use Rattle.std.specs.Prelude.{◌∷◌, []};
     ghost use Rattle.std.specs.Cmp.Rules.{hashing};
     ghost use Rattle.std.proofs.Common.{rules};
 
-    ghost hash_input = { fed.slice fed.u8 };
+    ghost hash_input = { λ label. label ∷ [] };
 
     ghost respects_eq = { Prim.search (hashing, rules) };
 
     fn hash<H: Hasher>(&self, state: &mut H) {
-        self.bytes.as_slice().hash(state);
+        state.write(self.bytes.as_slice());
     }
 }
 
