@@ -4,6 +4,7 @@ pub mod Stack
 pub mod Given
 pub mod Unset
 pub mod CellCalls
+pub mod DirectCalls
 pub mod Doings
 pub mod Loops
 pub mod Arms

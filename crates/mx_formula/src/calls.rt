@@ -9,6 +9,7 @@ ghost use Rattle.mx_formula.specs.Tasks.{address_of, cells_at, cont, run_from, r
 
 use crate::at_hand::at_hand;
 use crate::copies::copy_expr;
+use crate::direct::call_at_once;
 use crate::frame::{CallTask, Next, Scope, Task, TrailTask};
 use crate::locals::local;
 use mx_list::items::Items;
@@ -54,7 +55,7 @@ pub fn seek(
     Ok(Err(FaultKind::NoName))
 }
 
-fn address(node: &Node) -> &Addr
+pub fn address(node: &Node) -> &Addr
     ensures { result.now ≡ address_of node.now }
 {
     match node {
@@ -117,7 +118,7 @@ fn call_cells(
 }
 
 /// The cells of a name in the space at an address, with this formula, are called with these arguments.
-fn call_formula(
+pub fn call_formula(
     alloc: Global,
     at: &Addr,
     name: &Label,
@@ -145,8 +146,27 @@ fn refused(refusal: BindRefusal) -> Result<Next, AllocError>
     }
 }
 
-/// A part with what stands behind it. A name is looked up at once.
+/// A part with what stands behind it. A call by name whose arguments are at hand is made at once.
 pub fn enter_trailed(
+    alloc: Global,
+    text: &ModelText,
+    node: &Node,
+    scope: &Scope,
+    first: &Shared<Expr>,
+    trailers: List<Trailer>,
+    tasks: &mut Vec<Task>,
+    events: &mut Items<Event>,
+) -> Result<Next, AllocError>
+    ensures { IfOk result (λ next. GoesOnAlone text.now (reading first.now (env_of node.now scope.now) (λ v. trailed_from (map trailer_read trailers) v (env_of node.now scope.now) (cont tasks.old.items (env_of node.now scope.now)))) events.old events.new (run_at next tasks.new.items (env_of node.now scope.now))) }
+{
+    if let Some(next) = call_at_once(alloc, text, node, scope, first.get(), &trailers, events)? {
+        return Ok(next);
+    }
+    enter_part(alloc, text, node, scope, first, trailers, tasks, events)
+}
+
+/// A part with what stands behind it. A name is looked up at once.
+fn enter_part(
     alloc: Global,
     text: &ModelText,
     node: &Node,
@@ -211,7 +231,7 @@ pub fn trail(
 }
 
 /// The arguments of a call.
-fn call_arguments(trailer: &Trailer) -> Option<&List<Expr>>
+pub fn call_arguments(trailer: &Trailer) -> Option<&List<Expr>>
     ensures { MatchOption result (trailer_read trailer.now ≡ None) (λ es. trailer_read trailer.now ≡ Some (map reading es.now)) }
 {
     match trailer {
@@ -272,7 +292,7 @@ fn call_on(
 }
 
 /// Computes the arguments from a place on that are at hand, and answers where it came to.
-fn arguments_at_hand(
+pub fn arguments_at_hand(
     alloc: Global,
     node: &Node,
     scope: &Scope,

@@ -6,6 +6,7 @@ mod calls;
 mod chains;
 mod choice;
 mod copies;
+mod direct;
 pub mod formula;
 pub mod frame;
 pub mod locals;
