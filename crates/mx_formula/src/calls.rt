@@ -1,5 +1,6 @@
 //! Names, and calls of what they are.
-ghost use Rattle.std.specs.Prelude.{◌≡◌, ◌++◌, ◌∷◌, [], List as Many, map, drop, Some, None, false, IfOk, OnOk, MatchOption};
+ghost use Rattle.std.specs.Prelude.{◌≡◌, ◌↔◌, ◌++◌, ◌∷◌, [], List as Many, map, drop, length, Some, None, false, IfOk, OnOk, MatchOption, IsTrue, IsErrOf};
+ghost use Rattle.mx_print.specs.Binding.{bound, is_wrong_count};
 ghost use Rattle.mx_value.specs.declared.value.Value.{Value, out-Value};
 ghost use Rattle.mx_meaning.specs.Model.{Text, FormulaHere};
 ghost use Rattle.mx_meaning.specs.Runs.{Run, Env, computed};
@@ -11,7 +12,7 @@ use crate::at_hand::at_hand;
 use crate::copies::copy_expr;
 use crate::direct::call_at_once;
 use crate::frame::{CallTask, Next, Scope, Task, TrailTask};
-use crate::locals::local;
+use crate::locals::{are_normal, local};
 use mx_list::items::Items;
 use mx_list::list::List;
 use mx_list::shared::Shared;
@@ -130,10 +131,25 @@ pub fn call_formula(
     if !are_plain(&arguments) {
         return Ok(Next::Fault(FaultKind::TypeMismatch));
     }
-    match bind(alloc, formula.params.as_slice(), arguments) {
+    match bind_call(alloc, formula, arguments) {
         Ok(bound) => Ok(Next::Ask(Node::Cell(at.copy()?, name.copy()?, bound))),
         Err(refusal) => refused(refusal),
     }
+}
+
+/// The arguments, bound. As many as there are parameters, in normal form, are bound as they are.
+fn bind_call(
+    alloc: Global,
+    formula: &Formula,
+    arguments: Items<Value>,
+) -> Result<Items<Value>, BindRefusal>
+    ensures full { IfOk result (λ full. full ≡ bound formula.now.params arguments) }
+    ensures wrong_count { IsErrOf result BindRefusal.WrongCount ↔ IsTrue (is_wrong_count formula.now.params (length arguments)) }
+{
+    if formula.params.len() == arguments.len() && are_normal(&arguments) {
+        return Ok(arguments);
+    }
+    bind(alloc, formula.params.as_slice(), arguments)
 }
 
 /// Arguments that do not bind are a fault.

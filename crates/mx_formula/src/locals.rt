@@ -216,7 +216,7 @@ pub fn only_line(body: &List<Stmt>) -> Option<&Expr>
 }
 
 /// Whether the arguments are in normal form already. Decimal numbers and tuples are not looked into.
-fn are_normal(arguments: &Items<Value>) -> bool
+pub fn are_normal(arguments: &Items<Value>) -> bool
     ensures { IsTrue result → map normal_of arguments.now ≡ arguments.now }
 {
     for argument in arguments.as_slice() {
