@@ -17,7 +17,7 @@ use Rattle.mx_meaning.specs.Model.{Text, FormulaHere, formula_at, main_path, sam
 use Rattle.mx_meaning.specs.Runs.{Run, Looks, Env, Reading}
 use Rattle.mx_meaning.specs.Expressions.{reading, named, named_result, sought, local_of, path_of, called, call_result, cells_in, arguments_from, trailed_from, trailer_read, Arguments}
 use Rattle.mx_formula.specs.Tasks.{GoesOnAlone, cells_at}
-use Rattle.mx_formula.proofs.Alone.{alone_look, alone_from, alone_then, alone_by}
+use Rattle.mx_formula.proofs.Alone.{alone_look, alone_from, alone_then}
 use Rattle.mx_formula.proofs.CellCalls.{call_looks}
 use Rattle.mx_formula.proofs.Readings.{reading-name}
 

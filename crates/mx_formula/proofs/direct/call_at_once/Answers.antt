@@ -3,7 +3,7 @@ use Rattle.mx_value.specs.declared.value.Value.{Value}
 use Rattle.mx_meaning.specs.Model.{formula_at, main_path, FormulaHere}
 use Rattle.mx_meaning.specs.Runs.{Env, Run}
 use Rattle.mx_meaning.specs.Expressions.{reading, local_of, path_of, arguments_from, call_result}
-use Rattle.mx_formula.specs.Tasks.{address_of, arguments_of, locals_in, env_of, cells_at, run_from}
+use Rattle.mx_formula.specs.Tasks.{env_of, cells_at, run_from}
 use Rattle.mx_formula.proofs.DirectCalls.{called_at_once}
 use Rattle.mx_formula.proofs.direct.call_at_once.Goals as goal
 
