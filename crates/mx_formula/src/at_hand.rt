@@ -1,4 +1,5 @@
-//! Values that are at hand: those of literals and locals, and of sums, products and comparisons of these.
+//! Values that are at hand: those of literals and locals, and of sums, products and comparisons of these where they are
+//! whole numbers.
 ghost use Rattle.std.specs.Prelude.{◌≡◌, map, Some, None, IfOk, IfSome, MatchOption};
 ghost use Rattle.mx_value.specs.declared.value.Value.{Value};
 ghost use Rattle.mx_meaning.specs.Runs.{Run};
@@ -6,7 +7,7 @@ ghost use Rattle.mx_meaning.specs.Expressions.{reading, sum_from, product_from, 
 ghost use Rattle.mx_formula.specs.Tasks.{env_of, IsRead};
 
 use crate::frame::Scope;
-use crate::locals::local;
+use crate::locals::{local, local_number, whole_number};
 use mx_list::list::List;
 use mx_ops::arithmetic::{add, compare, multiply};
 use mx_syntax::expr::{CmpOp, Comparison, Expr, ProductPart, SumPart};
@@ -24,104 +25,98 @@ pub fn at_hand(
     ensures { IfOk result (λ value. IfSome value (IsRead expr.now (env_of node.now scope.now))) }
 {
     match expr {
-        Expr::Sum { first, rest } => sum_at_hand(alloc, node, scope, first.get(), rest),
-        Expr::Product { first, rest } => product_at_hand(alloc, node, scope, first.get(), rest),
-        Expr::Compare { first, rest } => comparison_at_hand(alloc, node, scope, first.get(), rest),
-        other => leaf(alloc, node, scope, other),
-    }
-}
-
-/// The value of a literal or of a local that is set.
-fn leaf(alloc: Global, node: &Node, scope: &Scope, expr: &Expr) -> Result<Option<Value>, AllocError>
-    ensures { IfOk result (λ value. IfSome value (IsRead expr.now (env_of node.now scope.now))) }
-{
-    match expr {
         Expr::Lit(value) => Ok(Some(value.copy(alloc)?)),
         Expr::Name(name) => match local(alloc, node, scope, name)? {
             Some(value) => Ok(value),
             None => Ok(None),
         },
+        Expr::Sum { first, rest } => Ok(sum_at_hand(node, scope, first.get(), rest)),
+        Expr::Product { first, rest } => Ok(product_at_hand(node, scope, first.get(), rest)),
+        Expr::Compare { first, rest } => Ok(comparison_at_hand(node, scope, first.get(), rest)),
         _ => Ok(None),
     }
 }
 
-fn sum_at_hand(
-    alloc: Global,
-    node: &Node,
-    scope: &Scope,
-    first: &Expr,
-    rest: &List<SumPart>,
-) -> Result<Option<Value>, AllocError>
-    ensures { IfOk result (λ value. IfSome value (λ sum. (go : Value → Run) → reading first.now (env_of node.now scope.now) (λ v. sum_from (map sum_read rest.now) v (env_of node.now scope.now) go) ≡ go sum)) }
+/// The whole number of a literal or of a local.
+fn number(node: &Node, scope: &Scope, expr: &Expr) -> Option<Value>
+    ensures { IfSome result (IsRead expr.now (env_of node.now scope.now)) }
 {
-    let Some(start) = leaf(alloc, node, scope, first)? else {
-        return Ok(None);
+    match expr {
+        Expr::Lit(value) => whole_number(value),
+        Expr::Name(name) => local_number(node, scope, name),
+        _ => None,
+    }
+}
+
+fn sum_at_hand(node: &Node, scope: &Scope, first: &Expr, rest: &List<SumPart>) -> Option<Value>
+    ensures { IfSome result (λ sum. (go : Value → Run) → reading first.now (env_of node.now scope.now) (λ v. sum_from (map sum_read rest.now) v (env_of node.now scope.now) go) ≡ go sum) }
+{
+    let Some(start) = number(node, scope, first) else {
+        return None;
     };
     let mut total = start;
     for part in rest.as_slice() {
-        let Some(value) = leaf(alloc, node, scope, &part.of)? else {
-            return Ok(None);
+        let Some(value) = number(node, scope, &part.of) else {
+            return None;
         };
         match add(part.op, &total, &value) {
             Ok(sum) => total = sum,
-            Err(_) => return Ok(None),
+            Err(_) => return None,
         }
     }
-    Ok(Some(total))
+    Some(total)
 }
 
 fn product_at_hand(
-    alloc: Global,
     node: &Node,
     scope: &Scope,
     first: &Expr,
     rest: &List<ProductPart>,
-) -> Result<Option<Value>, AllocError>
-    ensures { IfOk result (λ value. IfSome value (λ product. (go : Value → Run) → reading first.now (env_of node.now scope.now) (λ v. product_from (map product_read rest.now) v (env_of node.now scope.now) go) ≡ go product)) }
+) -> Option<Value>
+    ensures { IfSome result (λ product. (go : Value → Run) → reading first.now (env_of node.now scope.now) (λ v. product_from (map product_read rest.now) v (env_of node.now scope.now) go) ≡ go product) }
 {
-    let Some(start) = leaf(alloc, node, scope, first)? else {
-        return Ok(None);
+    let Some(start) = number(node, scope, first) else {
+        return None;
     };
     let mut total = start;
     for part in rest.as_slice() {
-        let Some(value) = leaf(alloc, node, scope, &part.of)? else {
-            return Ok(None);
+        let Some(value) = number(node, scope, &part.of) else {
+            return None;
         };
         match multiply(part.op, &total, &value) {
             Ok(product) => total = product,
-            Err(_) => return Ok(None),
+            Err(_) => return None,
         }
     }
-    Ok(Some(total))
+    Some(total)
 }
 
 fn comparison_at_hand(
-    alloc: Global,
     node: &Node,
     scope: &Scope,
     first: &Expr,
     rest: &List<Comparison>,
-) -> Result<Option<Value>, AllocError>
-    ensures { IfOk result (λ value. IfSome value (λ flag. (go : Value → Run) → reading first.now (env_of node.now scope.now) (λ v. compared_from (map comparison_read rest.now) v (env_of node.now scope.now) go) ≡ go flag)) }
+) -> Option<Value>
+    ensures { IfSome result (λ flag. (go : Value → Run) → reading first.now (env_of node.now scope.now) (λ v. compared_from (map comparison_read rest.now) v (env_of node.now scope.now) go) ≡ go flag) }
 {
-    let Some(start) = leaf(alloc, node, scope, first)? else {
-        return Ok(None);
+    let Some(start) = number(node, scope, first) else {
+        return None;
     };
     let mut left = start;
     for comparison in rest.as_slice() {
         let Some((op, right)) = comparison_by(comparison) else {
-            return Ok(None);
+            return None;
         };
-        let Some(value) = leaf(alloc, node, scope, right)? else {
-            return Ok(None);
+        let Some(value) = number(node, scope, right) else {
+            return None;
         };
         match compare(op, &left, &value) {
             Ok(true) => left = value,
-            Ok(false) => return Ok(Some(Value::Flag(false))),
-            Err(_) => return Ok(None),
+            Ok(false) => return Some(Value::Flag(false)),
+            Err(_) => return None,
         }
     }
-    Ok(Some(Value::Flag(true)))
+    Some(Value::Flag(true))
 }
 
 /// The operator and the right part of a comparison.

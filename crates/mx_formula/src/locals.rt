@@ -58,6 +58,61 @@ fn argument(
     Ok(None)
 }
 
+/// The value of the local of a name, where it is a whole number.
+pub fn local_number(node: &Node, scope: &Scope, name: &Label) -> Option<Value>
+    ensures { IfSome result (λ v. local_of (locals_in scope.now.locals scope.now.params (arguments_of node.now)) name.now ≡ Some (Some v)) }
+{
+    match &scope.locals {
+        Locals::Arguments => argument_number(scope.params.as_slice(), arguments(node), name),
+        Locals::Own(own) => own_number(own.as_slice(), name),
+    }
+}
+
+fn argument_number(params: &[Param], arguments: &Items<Value>, name: &Label) -> Option<Value>
+    ensures { IfSome result (λ v. local_of (given_locals params.now arguments.now) name.now ≡ Some (Some v)) }
+{
+    let arguments = arguments.as_slice();
+    for (i, argument) in arguments.iter().enumerate() {
+        if i >= params.len() {
+            return None;
+        }
+        if params[i].name == *name {
+            return whole_number(argument);
+        }
+    }
+    None
+}
+
+fn own_number(own: &[Local], name: &Label) -> Option<Value>
+    ensures { IfSome result (λ v. local_of (map own_local own.now) name.now ≡ Some (Some v)) }
+{
+    for local in own {
+        if is_named(local, name) {
+            return set_number(&local.value);
+        }
+    }
+    None
+}
+
+fn set_number(value: &Option<Value>) -> Option<Value>
+    ensures { IfSome result (λ v. value.now ≡ Some v) }
+{
+    match value {
+        Some(value) => whole_number(value),
+        None => None,
+    }
+}
+
+/// A value that is a whole number. No memory is needed for its copy.
+pub fn whole_number(value: &Value) -> Option<Value>
+    ensures { IfSome result (λ v. value.now ≡ v) }
+{
+    match value {
+        Value::Int(number) => Some(Value::Int(*number)),
+        _ => None,
+    }
+}
+
 fn own_value(
     alloc: Global,
     own: &[Local],

@@ -11,7 +11,7 @@ loop-part-preserved c = λ go.
     let env : Env = env_of c.args.node.now c.args.scope.now in
     let l : c.loop-part.part-index < length c.args.rest.now = omega (arith, ap length c.as_slice-part-items.ensures, c.loop-part-test.true) in
     let e = c.part-item.is ∙ ap (λ xs. get_or xs c.loop-part.part-index c.part-item.result) c.as_slice-part-items.ensures in
-    c.loop-part.invariant go ∙ product_more _ _ c.part-item.result env c.loop-part.total c.in-Some-2.value c.in-Ok.product (part_at c.args.rest.now c.loop-part.part-index c.part-item.result l e) (at_some (IsRead c.part-item.result.of env) c.in_ok-value.field-0 c.in-Some-2.value c.in-Some-2.is c.in_ok-value.ensures) (sym c.multiply.ensures ∙ c.in-Ok.is) go
+    c.loop-part.invariant go ∙ product_more _ _ c.part-item.result env c.loop-part.total c.in-Some-number.value c.in-Ok.product (part_at c.args.rest.now c.loop-part.part-index c.part-item.result l e) (at_some (IsRead c.part-item.result.of env) c.number-in-loop-part.result c.in-Some-number.value c.in-Some-number.is c.number-in-loop-part.ensures) (sym c.multiply.ensures ∙ c.in-Ok.is) go
 
 pub returns : goal.returns
 returns c = λ go.
