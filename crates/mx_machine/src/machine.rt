@@ -35,6 +35,9 @@ use std::sync::ledger::Ledger;
 /// The runs that wait, the longest first.
 type Waiting = IndexMap<Shared<Node>, Frame>;
 
+/// For how many runs that wait there is room from the start. More make room as they come.
+const FIRST_ROOM: usize = 256;
+
 /// The run on top of those that wait.
 #[derive(Drop)]
 pub struct Running {
@@ -167,7 +170,7 @@ fn drive<L: Ledger>(
     ensures grown { Grown held.old.entries held.new.entries }
     ensures good { IfOk result (Driven text.now limit held.old.entries first.node held.new.entries steps.old steps.new) }
 {
-    let mut waiting = IndexMap::new(alloc);
+    let mut waiting = IndexMap::with_capacity(alloc, limit.min(FIRST_ROOM))?;
     let mut running = first;
     for _ in 0..u64::MAX {
         match step(alloc, text, limit, most, &mut waiting, running, held, steps)? {
