@@ -32,30 +32,15 @@ pub fn local(
     ensures { IfOk result (λ found. found ≡ local_of (locals_in scope.now.locals scope.now.params (arguments_of node.now)) name.now) }
 {
     match &scope.locals {
-        Locals::Arguments => argument(alloc, scope.params.as_slice(), arguments(node), name),
-        Locals::Own(own) => own_value(alloc, own.as_slice(), name),
+        Locals::Arguments => match argument(scope.params.as_slice(), arguments(node), name) {
+            Some(value) => Ok(Some(Some(value.copy(alloc)?))),
+            None => Ok(None),
+        },
+        Locals::Own(own) => match own_value(own.as_slice(), name) {
+            Some(value) => Ok(Some(copy_value(alloc, value)?)),
+            None => Ok(None),
+        },
     }
-}
-
-/// The argument of a parameter.
-fn argument(
-    alloc: Global,
-    params: &[Param],
-    arguments: &Items<Value>,
-    name: &Label,
-) -> Result<Option<Option<Value>>, AllocError>
-    ensures { IfOk result (λ found. found ≡ local_of (given_locals params.now arguments.now) name.now) }
-{
-    let arguments = arguments.as_slice();
-    for (i, argument) in arguments.iter().enumerate() {
-        if i >= params.len() {
-            return Ok(None);
-        }
-        if params[i].name == *name {
-            return Ok(Some(Some(argument.copy(alloc)?)));
-        }
-    }
-    Ok(None)
 }
 
 /// The value of the local of a name, where it is a whole number.
@@ -63,43 +48,15 @@ pub fn local_number(node: &Node, scope: &Scope, name: &Label) -> Option<Value>
     ensures { IfSome result (λ v. local_of (locals_in scope.now.locals scope.now.params (arguments_of node.now)) name.now ≡ Some (Some v)) }
 {
     match &scope.locals {
-        Locals::Arguments => argument_number(scope.params.as_slice(), arguments(node), name),
-        Locals::Own(own) => own_number(own.as_slice(), name),
-    }
-}
-
-fn argument_number(params: &[Param], arguments: &Items<Value>, name: &Label) -> Option<Value>
-    ensures { IfSome result (λ v. local_of (given_locals params.now arguments.now) name.now ≡ Some (Some v)) }
-{
-    let arguments = arguments.as_slice();
-    for (i, argument) in arguments.iter().enumerate() {
-        if i >= params.len() {
-            return None;
-        }
-        if params[i].name == *name {
-            return whole_number(argument);
-        }
-    }
-    None
-}
-
-fn own_number(own: &[Local], name: &Label) -> Option<Value>
-    ensures { IfSome result (λ v. local_of (map own_local own.now) name.now ≡ Some (Some v)) }
-{
-    for local in own {
-        if is_named(local, name) {
-            return set_number(&local.value);
-        }
-    }
-    None
-}
-
-fn set_number(value: &Option<Value>) -> Option<Value>
-    ensures { IfSome result (λ v. value.now ≡ Some v) }
-{
-    match value {
-        Some(value) => whole_number(value),
-        None => None,
+        Locals::Arguments => match argument(scope.params.as_slice(), arguments(node), name) {
+            Some(value) => whole_number(value),
+            None => None,
+        },
+        Locals::Own(own) => match own_value(own.as_slice(), name) {
+            Some(Some(value)) => whole_number(value),
+            Some(None) => None,
+            None => None,
+        },
     }
 }
 
@@ -113,19 +70,32 @@ pub fn whole_number(value: &Value) -> Option<Value>
     }
 }
 
-fn own_value(
-    alloc: Global,
-    own: &[Local],
-    name: &Label,
-) -> Result<Option<Option<Value>>, AllocError>
-    ensures { IfOk result (λ found. found ≡ local_of (map own_local own.now) name.now) }
+/// The argument of a parameter.
+fn argument<'n>(params: &[Param], arguments: &'n Items<Value>, name: &Label) -> Option<&'n Value>
+    ensures { MatchOption result (local_of (given_locals params.now arguments.now) name.now ≡ None) (λ v. local_of (given_locals params.now arguments.now) name.now ≡ Some (Some v.now)) }
+{
+    let arguments = arguments.as_slice();
+    for (i, argument) in arguments.iter().enumerate() {
+        if i >= params.len() {
+            return None;
+        }
+        if params[i].name == *name {
+            return Some(argument);
+        }
+    }
+    None
+}
+
+/// The value of a local of this name, where there is one and it is set.
+fn own_value<'o>(own: &'o [Local], name: &Label) -> Option<&'o Option<Value>>
+    ensures { MatchOption result (local_of (map own_local own.now) name.now ≡ None) (λ v. local_of (map own_local own.now) name.now ≡ Some v.now) }
 {
     for local in own {
         if is_named(local, name) {
-            return Ok(Some(copy_value(alloc, &local.value)?));
+            return Some(&local.value);
         }
     }
-    Ok(None)
+    None
 }
 
 fn is_named(local: &Local, name: &Label) -> bool
