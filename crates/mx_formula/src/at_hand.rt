@@ -7,7 +7,7 @@ ghost use Rattle.mx_meaning.specs.Expressions.{reading, sum_from, product_from, 
 ghost use Rattle.mx_formula.specs.Tasks.{env_of, IsRead};
 
 use crate::frame::Scope;
-use crate::locals::{local, local_number, whole_number};
+use crate::locals::{int_of, local, local_int, local_number, whole_number};
 use mx_list::list::List;
 use mx_ops::arithmetic::{add, compare, multiply};
 use mx_syntax::expr::{CmpOp, Comparison, Expr, ProductPart, SumPart};
@@ -34,6 +34,40 @@ pub fn at_hand(
         Expr::Product { first, rest } => Ok(product_at_hand(node, scope, first.get(), rest)),
         Expr::Compare { first, rest } => Ok(comparison_at_hand(node, scope, first.get(), rest)),
         _ => Ok(None),
+    }
+}
+
+/// The whole number of a literal, of a local, or of the sum of two of these. It needs no memory.
+pub fn whole(node: &Node, scope: &Scope, expr: &Expr) -> Option<i64>
+    ensures { IfSome result (λ n. IsRead expr.now (env_of node.now scope.now) (Value.Int n)) }
+{
+    match expr {
+        Expr::Sum { first, rest } => whole_sum(node, scope, first.get(), rest),
+        _ => whole_part(node, scope, expr),
+    }
+}
+
+fn whole_part(node: &Node, scope: &Scope, expr: &Expr) -> Option<i64>
+    ensures { IfSome result (λ n. IsRead expr.now (env_of node.now scope.now) (Value.Int n)) }
+{
+    match expr {
+        Expr::Lit(value) => int_of(value),
+        Expr::Name(name) => local_int(node, scope, name),
+        _ => None,
+    }
+}
+
+fn whole_sum(node: &Node, scope: &Scope, first: &Expr, rest: &List<SumPart>) -> Option<i64>
+    ensures { IfSome result (λ n. (go : Value → Run) → reading first.now (env_of node.now scope.now) (λ v. sum_from (map sum_read rest.now) v (env_of node.now scope.now) go) ≡ go (Value.Int n)) }
+{
+    let [part] = rest.as_slice() else {
+        return None;
+    };
+    let a = whole_part(node, scope, first)?;
+    let b = whole_part(node, scope, &part.of)?;
+    match add(part.op, &Value::Int(a), &Value::Int(b)) {
+        Ok(sum) => int_of(&sum),
+        Err(_) => None,
     }
 }
 

@@ -1,14 +1,14 @@
 //! Names, and calls of what they are.
-ghost use Rattle.std.specs.Prelude.{◌≡◌, ◌↔◌, ◌++◌, ◌∷◌, [], List as Many, map, drop, length, Some, None, false, IfOk, OnOk, MatchOption, IsTrue, IsErrOf};
+ghost use Rattle.std.specs.Prelude.{◌≡◌, ◌↔◌, ◌++◌, ◌∷◌, [], List as Many, map, drop, length, Some, None, false, IfOk, IfSome, OnOk, MatchOption, IsTrue, IsErrOf};
 ghost use Rattle.mx_print.specs.Binding.{bound, is_wrong_count};
 ghost use Rattle.mx_value.specs.declared.value.Value.{Value, out-Value};
 ghost use Rattle.mx_meaning.specs.Model.{Text, FormulaHere};
 ghost use Rattle.mx_meaning.specs.Runs.{Run, Env, computed};
 ghost use Rattle.mx_meaning.specs.Runs as outcome;
 ghost use Rattle.mx_meaning.specs.Expressions.{reading, cells_in, named, sought, called, call_result, arguments_from, trailed_from, trailer_read, args_read};
-ghost use Rattle.mx_formula.specs.Tasks.{address_of, cells_at, cont, run_from, run_at, env_of, GoesOnAlone};
+ghost use Rattle.mx_formula.specs.Tasks.{address_of, cells_at, cont, run_from, run_at, env_of, IsRead, GoesOnAlone};
 
-use crate::at_hand::at_hand;
+use crate::at_hand::{at_hand, whole};
 use crate::copies::copy_expr;
 use crate::direct::call_at_once;
 use crate::frame::{CallTask, Next, Scope, Task, TrailTask};
@@ -119,7 +119,7 @@ fn call_cells(
 }
 
 /// The cells of a name in the space at an address, with this formula, are called with these arguments.
-pub fn call_formula(
+fn call_formula(
     alloc: Global,
     at: &Addr,
     name: &Label,
@@ -138,7 +138,7 @@ pub fn call_formula(
 }
 
 /// The arguments, bound. As many as there are parameters, in normal form, are bound as they are.
-fn bind_call(
+pub fn bind_call(
     alloc: Global,
     formula: &Formula,
     arguments: Items<Value>,
@@ -175,8 +175,18 @@ pub fn enter_trailed(
 ) -> Result<Next, AllocError>
     ensures { IfOk result (λ next. GoesOnAlone text.now (reading first.now (env_of node.now scope.now) (λ v. trailed_from (map trailer_read trailers) v (env_of node.now scope.now) (cont tasks.old.items (env_of node.now scope.now)))) events.old events.new (run_at next tasks.new.items (env_of node.now scope.now))) }
 {
-    if let Some(next) = call_at_once(alloc, text, node, scope, first.get(), &trailers, events)? {
-        return Ok(next);
+    let mut room = Items::new(alloc);
+    if let Some(called) = call_at_once(
+        alloc,
+        text,
+        node,
+        scope,
+        first.get(),
+        &trailers,
+        &mut room,
+        events,
+    )? {
+        return Ok(Next::Ask(called));
     }
     enter_part(alloc, text, node, scope, first, trailers, tasks, events)
 }
@@ -322,12 +332,27 @@ pub fn arguments_at_hand(
         let Some(argument) = arguments.get(at) else {
             return Err(AllocError);
         };
-        let Some(value) = at_hand(alloc, node, scope, argument)? else {
+        let Some(value) = argument_at_hand(alloc, node, scope, argument)? else {
             return Ok(at);
         };
         before.push(value)?;
     }
     Ok(from.max(arguments.len()))
+}
+
+/// The value of an argument that is at hand: most are whole numbers.
+fn argument_at_hand(
+    alloc: Global,
+    node: &Node,
+    scope: &Scope,
+    argument: &Expr,
+) -> Result<Option<Value>, AllocError>
+    ensures { IfOk result (λ value. IfSome value (IsRead argument.now (env_of node.now scope.now))) }
+{
+    if let Some(number) = whole(node, scope, argument) {
+        return Ok(Some(Value::Int(number)));
+    }
+    at_hand(alloc, node, scope, argument)
 }
 
 /// A value is called with these arguments, before what stands behind the call.

@@ -1,28 +1,31 @@
 //! Calls by name with all arguments at hand. They need no task, and their cells are looked up once.
-ghost use Rattle.std.specs.Prelude.{◌≡◌, ◌++◌, ◌∷◌, [], List as Many, map, Some, None, IfOk, OnOk, IfSome, MatchOption};
+ghost use Rattle.std.specs.Prelude.{◌≡◌, ◌++◌, ◌∷◌, [], List as Many, map, Some, None, false, IfOk, OnOk, IfSome, MatchOption};
 ghost use Rattle.mx_value.specs.declared.value.Value.{Value};
-ghost use Rattle.mx_meaning.specs.Model.{formula_at, main_path};
-ghost use Rattle.mx_meaning.specs.Runs.{Run};
-ghost use Rattle.mx_meaning.specs.Expressions.{reading, local_of, path_of, arguments_from, trailed_from, trailer_read};
-ghost use Rattle.mx_formula.specs.Tasks.{address_of, locals_in, arguments_of, env_of, run_from, GoesOnAlone};
+ghost use Rattle.mx_meaning.specs.Model.{FormulaHere, formula_at, main_path};
+ghost use Rattle.mx_meaning.specs.Runs.{Env, Run, Asks};
+ghost use Rattle.mx_meaning.specs.Expressions.{reading, local_of, path_of, arguments_from, call_result, trailed_from, trailer_read};
+ghost use Rattle.mx_formula.specs.Tasks.{address_of, locals_in, arguments_of, cells_at, env_of, GoesOnAlone};
 
-use crate::calls::{address, arguments_at_hand, call_arguments, call_formula};
-use crate::frame::{Next, Scope};
-use crate::locals::local;
+use crate::calls::{address, arguments_at_hand, bind_call, call_arguments};
+use crate::frame::Scope;
+use crate::locals::is_local;
 use mx_list::items::Items;
 use mx_list::list::List;
 use mx_meaning::event::Event;
 use mx_meaning::key::Key;
 use mx_model::text::ModelText;
+use mx_print::bind::BindRefusal;
 use mx_syntax::expr::{Expr, Trailer};
 use mx_syntax::stmt::Formula;
 use mx_value::label::Label;
 use mx_value::node::Node;
-use mx_value::value::Value;
+use mx_value::plain::are_plain;
+use mx_value::value::{Addr, Value};
 use std::alloc::{AllocError, Global};
+use std::mem;
 
-/// A call of cells by their name, with arguments that are at hand, and nothing behind it. None for all else, with no
-/// event.
+/// The node that a call of cells by their name asks, with arguments that are at hand, and nothing behind it. None for all
+/// else, and where the arguments are not plain or do not bind, with no event. The arguments are put where there is room.
 pub fn call_at_once(
     alloc: Global,
     text: &ModelText,
@@ -30,22 +33,45 @@ pub fn call_at_once(
     scope: &Scope,
     first: &Expr,
     trailers: &List<Trailer>,
+    room: &mut Items<Value>,
     events: &mut Items<Event>,
-) -> Result<Option<Next>, AllocError>
-    ensures { IfOk result (λ called. MatchOption called (events.new ≡ events.old) (λ next. (go : Value → Run) → GoesOnAlone text.now (reading first.now (env_of node.now scope.now) (λ v. trailed_from (map trailer_read trailers.now) v (env_of node.now scope.now) go)) events.old events.new (run_from next (env_of node.now scope.now) go))) }
+) -> Result<Option<Node>, AllocError>
+    ensures { IfOk result (λ called. MatchOption called (events.new ≡ events.old) (λ m. (go : Value → Run) → GoesOnAlone text.now (reading first.now (env_of node.now scope.now) (λ v. trailed_from (map trailer_read trailers.now) v (env_of node.now scope.now) go)) events.old events.new (Asks m (λ r. go r.value)))) }
 {
     let Some((name, arguments)) = named_call(first, trailers) else {
         return Ok(None);
     };
-    let Some(formula) = cells_called(alloc, text, node, scope, name)? else {
+    let Some(formula) = cells_called(text, node, scope, name) else {
         return Ok(None);
     };
-    let Some(values) = values_at_hand(alloc, node, scope, arguments)? else {
+    let Some(values) = values_at_hand(alloc, node, scope, arguments, room)? else {
+        return Ok(None);
+    };
+    let Some(called) = node_called(alloc, address(node), name, formula, values)? else {
         return Ok(None);
     };
     note_call(text, scope, name, events)?;
-    let next = call_formula(alloc, address(node), name, formula, values)?;
-    Ok(Some(next))
+    Ok(Some(called))
+}
+
+/// The node that a call of cells with this formula asks, where the arguments are plain and bind.
+fn node_called(
+    alloc: Global,
+    at: &Addr,
+    name: &Label,
+    formula: &Formula,
+    arguments: Items<Value>,
+) -> Result<Option<Node>, AllocError>
+    ensures { IfOk result (λ called. IfSome called (λ m. (env : Env) (go : Value → Run) → call_result (cells_at at.now name.now) arguments env go (FormulaHere formula.now false) ≡ Asks m (λ r. go r.value))) }
+{
+    if !are_plain(&arguments) {
+        return Ok(None);
+    }
+    match bind_call(alloc, formula, arguments) {
+        Ok(bound) => Ok(Some(Node::Cell(at.copy()?, name.copy()?, bound))),
+        Err(BindRefusal::WrongCount) => Ok(None),
+        Err(BindRefusal::NoMemory) => Err(AllocError),
+    }
 }
 
 /// The name and the arguments of a call by name with nothing behind it.
@@ -69,21 +95,20 @@ fn named_call<'e>(
 
 /// The formula of the cells of this name, where no local has it and the node is in the space Main.
 fn cells_called<'t>(
-    alloc: Global,
     text: &'t ModelText,
     node: &Node,
     scope: &Scope,
     name: &Label,
-) -> Result<Option<&'t Formula>, AllocError>
-    ensures { IfOk result (λ found. IfSome found (λ f. (local_of (locals_in scope.now.locals scope.now.params (arguments_of node.now)) name.now ≡ None) × (path_of (address_of node.now) ≡ Some main_path) × (formula_at text.now scope.now.source name.now ≡ Some f.now))) }
+) -> Option<&'t Formula>
+    ensures { IfSome result (λ f. (local_of (locals_in scope.now.locals scope.now.params (arguments_of node.now)) name.now ≡ None) × (path_of (address_of node.now) ≡ Some main_path) × (formula_at text.now scope.now.source name.now ≡ Some f.now)) }
 {
-    if let Some(_) = local(alloc, node, scope, name)? {
-        return Ok(None);
+    if is_local(node, scope, name) {
+        return None;
     }
     if !text.has_space(address(node)) {
-        return Ok(None);
+        return None;
     }
-    Ok(text.formula_at(&scope.source, name))
+    text.formula_at(&scope.source, name)
 }
 
 /// The arguments, where all are at hand.
@@ -92,15 +117,30 @@ fn values_at_hand(
     node: &Node,
     scope: &Scope,
     arguments: &List<Expr>,
+    room: &mut Items<Value>,
 ) -> Result<Option<Items<Value>>, AllocError>
     ensures { IfOk result (λ values. IfSome values (λ vs. (go : Many Value → Run) → arguments_from (map reading arguments.now) [] (env_of node.now scope.now) go ≡ go vs)) }
 {
-    let mut values = Items::with_capacity(alloc, arguments.len())?;
+    let mut values = emptied(alloc, room, arguments.len())?;
     let at = arguments_at_hand(alloc, node, scope, arguments, 0, &mut values)?;
     if at < arguments.len() {
         return Ok(None);
     }
     Ok(Some(values))
+}
+
+/// No values, in this room, which is taken, with space for so many.
+fn emptied(
+    alloc: Global,
+    room: &mut Items<Value>,
+    capacity: usize,
+) -> Result<Items<Value>, AllocError>
+    ensures { IfOk result (λ values. values ≡ []) }
+{
+    let mut values = mem::replace(room, Items::new(alloc));
+    values.truncate(0);
+    values.reserve(capacity)?;
+    Ok(values)
 }
 
 /// A call by name looks the name up, and then its formula.

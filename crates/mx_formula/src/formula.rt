@@ -1,11 +1,11 @@
-//! The run of a formula, step by step, up to its value, to a node that it asks, or to a fault.
+//! The run of a formula: its first step, a step into an expression, and a step of a task.
 ghost use Rattle.std.specs.Prelude.{◌≡◌, [], false, IfOk};
 ghost use Rattle.mx_value.specs.declared.value.Value.{Value};
 ghost use Rattle.mx_meaning.specs.Model.{Text};
 ghost use Rattle.mx_meaning.specs.Runs.{Env, Run};
 ghost use Rattle.mx_meaning.specs.Expressions.{reading};
 ghost use Rattle.mx_meaning.specs.Statements.{ended, formula_done};
-ghost use Rattle.mx_formula.specs.Tasks.{continued, cont, cont_at, run_at, stopped_at, env_of, GoesOnAlone};
+ghost use Rattle.mx_formula.specs.Tasks.{continued, cont, cont_at, run_at, env_of, GoesOnAlone};
 
 use crate::calls::{argument_on, enter_trailed, given, seek, trail};
 use crate::chains::{
@@ -14,7 +14,7 @@ use crate::chains::{
 };
 use crate::choice::{choose, test_on};
 use crate::copies::{copy_expr, copy_shared};
-use crate::frame::{BlockTask, Next, Scope, Stop, Task, TrailTask};
+use crate::frame::{BlockTask, Next, Scope, Task, TrailTask};
 use crate::locals::only_line;
 use crate::statement::{assign_on, block_on, change_on, if_on};
 use mx_list::items::Items;
@@ -52,7 +52,7 @@ pub fn first_step(
 }
 
 /// One step into an expression.
-fn enter(
+pub fn enter(
     alloc: Global,
     text: &ModelText,
     node: &Node,
@@ -89,7 +89,7 @@ fn enter(
 }
 
 /// One step of a task that waited for this value.
-fn go_on(
+pub fn go_on(
     alloc: Global,
     text: &ModelText,
     node: &Node,
@@ -119,31 +119,4 @@ fn go_on(
         Task::Change(task) => change_on(alloc, node, scope, task, &value),
         Task::If(task) => if_on(alloc, node, scope, task, &value, tasks),
     }
-}
-
-/// Goes on to the value of the run, or to where it asks a node or meets a fault.
-pub fn run_on(
-    alloc: Global,
-    text: &ModelText,
-    node: &Node,
-    scope: &mut Scope,
-    first: Next,
-    tasks: &mut Vec<Task>,
-    events: &mut Items<Event>,
-) -> Result<Stop, AllocError>
-    ensures { IfOk result (λ stop. GoesOnAlone text.now (run_at first tasks.old.items (env_of node.now scope.old)) events.old events.new (stopped_at stop tasks.new.items (env_of node.now scope.new))) }
-{
-    let mut next = first;
-    for _ in 0..u64::MAX {
-        match next {
-            Next::Eval(expr) => next = enter(alloc, text, node, scope, expr, tasks, events)?,
-            Next::Give(value) => match tasks.pop() {
-                Some(task) => next = go_on(alloc, text, node, scope, task, value, tasks, events)?,
-                None => return Ok(Stop::Value(value)),
-            },
-            Next::Ask(to) => return Ok(Stop::Ask(to)),
-            Next::Fault(kind) => return Ok(Stop::Fault(kind)),
-        }
-    }
-    Err(AllocError)
 }

@@ -1,5 +1,5 @@
 //! The locals of a run: its parameters, and the names that its statements bind.
-ghost use Rattle.std.specs.Prelude.{◌≡◌, ◌++◌, ◌∷◌, ◌<◌, [], List as Many, Some, IfSome, drop, true, map, length, IfOk, OnOk, IsTrue, MatchOption};
+ghost use Rattle.std.specs.Prelude.{◌≡◌, ◌++◌, ◌∷◌, ◌<◌, [], List as Many, Some, is_some, IfSome, drop, true, map, length, IfOk, OnOk, IsTrue, MatchOption};
 ghost use Rattle.mx_value.specs.Normal.{normal_of};
 ghost use Rattle.mx_print.specs.Binding.{is_wrong_count};
 ghost use Rattle.mx_meaning.specs.Model.{same_name};
@@ -43,6 +43,16 @@ pub fn local(
     }
 }
 
+/// Whether a local has this name, set or not.
+pub fn is_local(node: &Node, scope: &Scope, name: &Label) -> bool
+    ensures { result ≡ is_some (local_of (locals_in scope.now.locals scope.now.params (arguments_of node.now)) name.now) }
+{
+    match &scope.locals {
+        Locals::Arguments => argument(scope.params.as_slice(), arguments(node), name).is_some(),
+        Locals::Own(own) => own_value(own.as_slice(), name).is_some(),
+    }
+}
+
 /// The value of the local of a name, where it is a whole number.
 pub fn local_number(node: &Node, scope: &Scope, name: &Label) -> Option<Value>
     ensures { IfSome result (λ v. local_of (locals_in scope.now.locals scope.now.params (arguments_of node.now)) name.now ≡ Some (Some v)) }
@@ -57,6 +67,33 @@ pub fn local_number(node: &Node, scope: &Scope, name: &Label) -> Option<Value>
             Some(None) => None,
             None => None,
         },
+    }
+}
+
+/// The whole number that the local of a name has.
+pub fn local_int(node: &Node, scope: &Scope, name: &Label) -> Option<i64>
+    ensures { IfSome result (λ n. local_of (locals_in scope.now.locals scope.now.params (arguments_of node.now)) name.now ≡ Some (Some (Value.Int n))) }
+{
+    match &scope.locals {
+        Locals::Arguments => match argument(scope.params.as_slice(), arguments(node), name) {
+            Some(value) => int_of(value),
+            None => None,
+        },
+        Locals::Own(own) => match own_value(own.as_slice(), name) {
+            Some(Some(value)) => int_of(value),
+            Some(None) => None,
+            None => None,
+        },
+    }
+}
+
+/// The number of a value that is a whole number.
+pub fn int_of(value: &Value) -> Option<i64>
+    ensures { IfSome result (λ n. value.now ≡ Value.Int n) }
+{
+    match value {
+        Value::Int(number) => Some(*number),
+        _ => None,
     }
 }
 
