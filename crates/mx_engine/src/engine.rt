@@ -11,7 +11,7 @@ use crate::edit::{Edit, EditRefusal, Limit, holds_item};
 use indexmap::IndexMap;
 use mx_machine::binding::bound_form;
 use mx_machine::held::Held;
-use mx_machine::machine::eval;
+use mx_machine::machine::{Spare, Waiting, eval};
 use mx_machine::steps::Steps;
 use mx_model::text::ModelText;
 use mx_syntax::stmt::Formula;
@@ -38,6 +38,8 @@ pub struct Engine {
     text: ModelText,
     held: Held,
     limit: usize,
+    waiting: Waiting,
+    spare: Spare,
 }
 
 impl Model for Engine {
@@ -69,6 +71,8 @@ impl Engine {
             text: ModelText::new(alloc)?,
             held: IndexMap::new(alloc),
             limit: LIMIT,
+            waiting: IndexMap::new(alloc),
+            spare: Vec::new(alloc),
         })
     }
 
@@ -143,6 +147,8 @@ impl Engine {
             MOST_HELD,
             &form,
             &mut self.held,
+            &mut self.waiting,
+            &mut self.spare,
             steps,
         )
     }

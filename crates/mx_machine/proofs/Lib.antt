@@ -8,3 +8,4 @@ pub mod Moves
 pub mod Begins
 pub mod Rings
 pub mod Maps
+pub mod Past

@@ -3,6 +3,7 @@
 
 pub mod binding;
 pub mod held;
+mod known;
 pub mod machine;
 mod sought;
 pub mod steps;

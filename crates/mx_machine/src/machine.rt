@@ -16,7 +16,7 @@ use crate::held::{Held, run_past};
 use crate::steps::Steps;
 use indexmap::IndexMap;
 use mx_formula::formula::first_step;
-use mx_formula::frame::{Frame, Next, Scope, Stop};
+use mx_formula::frame::{Frame, Next, Scope, Stop, Task};
 use mx_formula::locals::first_locals;
 use mx_list::items::Items;
 use mx_list::shared::Shared;
@@ -32,11 +32,11 @@ use mx_value::value::{Addr, Value};
 use std::alloc::{AllocError, Global};
 use std::sync::ledger::Ledger;
 
-/// The runs that wait, the longest first.
-type Waiting = IndexMap<Shared<Node>, Frame>;
+/// The runs that wait, the longest first. Those of an evaluation that ended early stay until the next one begins.
+pub type Waiting = IndexMap<Shared<Node>, Frame>;
 
-/// For how many runs that wait there is room from the start. More make room as they come.
-const FIRST_ROOM: usize = 256;
+/// The task lists of runs that ended, for those that begin.
+pub type Spare = Vec<Vec<Task>>;
 
 /// The run on top of those that wait.
 #[derive(Drop)]
@@ -76,6 +76,8 @@ pub fn eval<L: Ledger>(
     most: usize,
     node: &Node,
     held: &mut Held,
+    waiting: &mut Waiting,
+    spare: &mut Spare,
     steps: &mut Steps<L>,
 ) -> Result<Value, EvalRefusal>
     requires memo { IsMemo text.now held.old.entries }
@@ -91,10 +93,12 @@ pub fn eval<L: Ledger>(
     if limit == 0 {
         return Err(EvalRefusal::TooDeep(node.copy(alloc)?));
     }
-    match begin(alloc, text, asked, steps)? {
+    match begin(alloc, text, asked, spare, steps)? {
         Begun::NoSuch => Err(EvalRefusal::NoSuch),
         Begun::WrongCount => Err(EvalRefusal::WrongCount),
-        Begun::Running(first) => settle(alloc, text, limit, most, first, held, steps),
+        Begun::Running(first) => settle(
+            alloc, text, limit, most, first, held, waiting, spare, steps,
+        ),
     }
 }
 
@@ -106,6 +110,8 @@ fn settle<L: Ledger>(
     most: usize,
     first: Running,
     held: &mut Held,
+    waiting: &mut Waiting,
+    spare: &mut Spare,
     steps: &mut Steps<L>,
 ) -> Result<Value, EvalRefusal>
     requires memo { IsMemo text.now held.old.entries }
@@ -116,7 +122,7 @@ fn settle<L: Ledger>(
     ensures answer { Answer text.now held.old.entries limit most first.node result held.new.entries (steps.new + 1 - steps.old) }
 {
     let before = held.len();
-    match drive(alloc, text, limit, most, first, held, steps) {
+    match drive(alloc, text, limit, most, first, held, waiting, spare, steps) {
         Ok(Progress::Done(value)) => Ok(value),
         Ok(Progress::Fault(kind, at, line)) => match at.get().copy(alloc) {
             Ok(node) => Err(EvalRefusal::Fault { kind, node, line }),
@@ -160,6 +166,8 @@ fn drive<L: Ledger>(
     most: usize,
     first: Running,
     held: &mut Held,
+    waiting: &mut Waiting,
+    spare: &mut Spare,
     steps: &mut Steps<L>,
 ) -> Result<Progress, AllocError>
     requires memo { IsMemo text.now held.old.entries }
@@ -170,10 +178,13 @@ fn drive<L: Ledger>(
     ensures grown { Grown held.old.entries held.new.entries }
     ensures good { IfOk result (Driven text.now limit held.old.entries first.node held.new.entries steps.old steps.new) }
 {
-    let mut waiting = IndexMap::with_capacity(alloc, limit.min(FIRST_ROOM))?;
+    waiting.clear();
+    let mut room = Items::new(alloc);
     let mut running = first;
     for _ in 0..u64::MAX {
-        match step(alloc, text, limit, most, &mut waiting, running, held, steps)? {
+        match step(
+            alloc, text, limit, most, waiting, spare, &mut room, running, held, steps,
+        )? {
             Progress::Going(next) => running = next,
             end => return Ok(end),
         }
@@ -188,6 +199,8 @@ fn step<L: Ledger>(
     limit: usize,
     most: usize,
     waiting: &mut Waiting,
+    spare: &mut Spare,
+    room: &mut Items<Value>,
     running: Running,
     held: &mut Held,
     steps: &mut Steps<L>,
@@ -214,9 +227,13 @@ fn step<L: Ledger>(
         &mut scope,
         next,
         &mut tasks,
+        room,
         &mut events,
     )? {
-        Stop::Value(value) => give(alloc, most, waiting, node, events, value, held),
+        Stop::Value(value) => {
+            spare.push(tasks)?;
+            give(alloc, most, waiting, node, events, value, held)
+        }
         Stop::Fault(kind) => Ok(Progress::Fault(kind, node, scope.line)),
         Stop::Ask(to) => {
             let frame = Frame {
@@ -225,7 +242,9 @@ fn step<L: Ledger>(
                 events,
             };
             let to = Shared::new(alloc, to)?;
-            ask(alloc, text, limit, waiting, node, frame, to, held, steps)
+            ask(
+                alloc, text, limit, waiting, spare, node, frame, to, held, steps,
+            )
         }
     }
 }
@@ -339,6 +358,7 @@ fn ask<L: Ledger>(
     text: &ModelText,
     limit: usize,
     waiting: &mut Waiting,
+    spare: &mut Spare,
     node: Shared<Node>,
     frame: Frame,
     to: Shared<Node>,
@@ -358,7 +378,7 @@ fn ask<L: Ledger>(
     if waiting.len() >= limit {
         return Ok(Progress::TooDeep(to));
     }
-    match begin(alloc, text, to, steps)? {
+    match begin(alloc, text, to, spare, steps)? {
         Begun::Running(running) => Ok(Progress::Going(running)),
         Begun::NoSuch => Ok(Progress::NoSuch),
         Begun::WrongCount => Ok(Progress::WrongCount),
@@ -385,6 +405,7 @@ fn begin<L: Ledger>(
     alloc: Global,
     text: &ModelText,
     node: Shared<Node>,
+    spare: &mut Spare,
     steps: &mut Steps<L>,
 ) -> Result<Begun, AllocError>
     ensures begins { IfOk result (Begins text.now node) }
@@ -393,7 +414,7 @@ fn begin<L: Ledger>(
     match node.get() {
         Node::Item(_, _) => Ok(Begun::NoSuch),
         Node::Cell(at, name, arguments) => {
-            begin_cells(alloc, text, &node, at, name, arguments, steps)
+            begin_cells(alloc, text, &node, at, name, arguments, spare, steps)
         }
     }
 }
@@ -406,6 +427,7 @@ fn begin_cells<L: Ledger>(
     at: &Addr,
     name: &Label,
     arguments: &Items<Value>,
+    spare: &mut Spare,
     steps: &mut Steps<L>,
 ) -> Result<Begun, AllocError>
     requires { node.now ≡ Node.Cell at.now name.now arguments.now }
@@ -423,7 +445,7 @@ fn begin_cells<L: Ledger>(
     };
     steps.tick();
     let events = first_events(alloc, node, &source, name)?;
-    let mut tasks = Vec::new(alloc);
+    let mut tasks = no_tasks(alloc, spare);
     let next = first_step(alloc, formula, &mut tasks)?;
     let scope = Scope {
         source,
@@ -441,6 +463,19 @@ fn begin_cells<L: Ledger>(
         },
         next,
     }))
+}
+
+/// A list of no tasks, with the room of one that is spare.
+fn no_tasks(alloc: Global, spare: &mut Spare) -> Vec<Task>
+    ensures { result.items ≡ [] }
+{
+    match spare.pop() {
+        Some(mut tasks) => {
+            tasks.clear();
+            tasks
+        }
+        None => Vec::new(alloc),
+    }
 }
 
 /// What the run of a cells node does first: it looks for an input, and then its formula up.

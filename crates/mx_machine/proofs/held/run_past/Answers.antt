@@ -1,57 +1,38 @@
-use Rattle.std.proofs.Common.{◌≡◌, ◌∙◌, List, [], ◌∷◌, ◌++◌, ap, refl, subst, sym}
+use Rattle.std.proofs.Common.{ap, ◌∙◌, List, false}
 use Rattle.mx_value.specs.declared.node.Node.{Node}
 use Rattle.mx_value.specs.declared.value.Value.{Value}
-use Rattle.mx_formula.specs.declared.frame.Next.TheVariants.{Give}
-use Rattle.mx_formula.specs.declared.frame.Stop.{Stop}
-use Rattle.mx_formula.specs.declared.frame.Stop.TheVariants as stop
-use Rattle.mx_formula.specs.Tasks.{cont, run_at, env_of, stopped_at}
+use Rattle.mx_formula.specs.declared.frame.Next.{Next}
+use Rattle.mx_formula.specs.declared.frame.Next.TheVariants.{Eval, Give, Ask}
+use Rattle.mx_formula.specs.declared.frame.Task.{Task}
+use Rattle.mx_formula.specs.Tasks.{run_at, env_of, cont, cont_at, continued}
+use Rattle.mx_formula.proofs.Stack.{taken}
 use Rattle.mx_meaning.specs.declared.event.Event.{Event}
-use Rattle.mx_meaning.specs.declared.event.Event.TheVariants.{Asked}
-use Rattle.mx_meaning.specs.declared.event.Reply.{Reply}
-use Rattle.mx_meaning.specs.Held.{Entry, nodes_of}
-use Rattle.mx_meaning.specs.Lists.{Has}
-use Rattle.mx_meaning.specs.Meaning.{Means}
-use Rattle.mx_meaning.specs.Runs.{Env, Gives, Run}
-use Rattle.mx_meaning.proofs.Lists.{has_map}
-use Rattle.mx_machine.specs.Frames.{IsTop}
-use Rattle.mx_machine.proofs.Places.{found_entry, found_key, missing_entry}
-use Rattle.mx_machine.proofs.Tops.{top_alone, top_given}
+use Rattle.mx_meaning.specs.Runs.{Env, Run}
+use Rattle.mx_meaning.specs.Statements.{ended}
+use Rattle.mx_machine.specs.Past.{GoesPast, IsKnownAs, asking}
+use Rattle.mx_machine.proofs.Past.{past_alone, went_on}
+use Rattle.mx_machine.proofs.held.run_past.Goals.{in-Eval+in_ok-next-in-Eval, in-Give-next+in-Some+in_ok-next-in-Some, in-Ask+in_ok-value-in-Ask+in-Some-2+in-Cell-1, in-Ask+in_ok-value-in-Ask+in-Some-2+in-Item-1}
 use Rattle.mx_machine.proofs.held.run_past.Goals as goal
 
-pub returns-in-Value-clause-top : goal.returns-in-Value-clause-top
-returns-in-Value-clause-top c = λ limit start asked fs t.
-    let env : Env = env_of c.args.node.now c.run_on.new.scope in
-    subst (λ (s : Stop). IsTop c.args.text.now limit start c.args.held.now.entries asked fs c.args.node.now c.run_on.new.events (stopped_at s c.run_on.new.tasks.items env)) c.in-Value.is
-    (top_alone c.args.text.now limit start asked c.args.held.now.entries fs c.args.node.now c.loop.events c.run_on.new.events (run_at c.loop.next c.loop.tasks.items (env_of c.args.node.now c.loop.scope)) (stopped_at c.in_ok-to.field-0 c.run_on.new.tasks.items env) c.in_ok-to.ensures (c.loop.invariant limit start asked fs t))
-
-pub returns-in-Fault-clause-top : goal.returns-in-Fault-clause-top
-returns-in-Fault-clause-top c = λ limit start asked fs t.
-    let env : Env = env_of c.args.node.now c.run_on.new.scope in
-    subst (λ (s : Stop). IsTop c.args.text.now limit start c.args.held.now.entries asked fs c.args.node.now c.run_on.new.events (stopped_at s c.run_on.new.tasks.items env)) c.in-Fault.is
-    (top_alone c.args.text.now limit start asked c.args.held.now.entries fs c.args.node.now c.loop.events c.run_on.new.events (run_at c.loop.next c.loop.tasks.items (env_of c.args.node.now c.loop.scope)) (stopped_at c.in_ok-to.field-0 c.run_on.new.tasks.items env) c.in_ok-to.ensures (c.loop.invariant limit start asked fs t))
-
-pub returns-in-None-clause-top : goal.returns-in-None-clause-top
-returns-in-None-clause-top c = λ limit start asked fs t.
-    let env : Env = env_of c.args.node.now c.run_on.new.scope in
-    subst (λ (s : Stop). IsTop c.args.text.now limit start c.args.held.now.entries asked fs c.args.node.now c.run_on.new.events (stopped_at s c.run_on.new.tasks.items env)) c.in-Ask.is
-    (top_alone c.args.text.now limit start asked c.args.held.now.entries fs c.args.node.now c.loop.events c.run_on.new.events (run_at c.loop.next c.loop.tasks.items (env_of c.args.node.now c.loop.scope)) (stopped_at c.in_ok-to.field-0 c.run_on.new.tasks.items env) c.in_ok-to.ensures (c.loop.invariant limit start asked fs t))
-
-pub returns-in-None-clause-new : goal.returns-in-None-clause-new
-returns-in-None-clause-new c = missing_entry c.in-Ask.to c.args.held.now.entries (sym c.in-None.ensures.value)
-
 pub loop-preserved : goal.loop-preserved
-loop-preserved c = λ limit start asked fs t.
-    let env : Env = env_of c.args.node.now c.run_on.new.scope in
-    let held : List Entry = c.args.held.now.entries in
-    let go : Reply → Run = λ r. cont c.run_on.new.tasks.items env r.value in
-    let h : Has held (c.in-Ask.to, c.in-Some.kept.now) = found_entry c.in-Ask.to held c.in-Some.kept.now (sym c.in-Some.ensures.value) in
-    let has : Has (nodes_of held) c.in-Ask.to = has_map (λ (d : Entry). d.0) held (c.in-Ask.to, c.in-Some.kept.now) h in
-    let means : Means c.args.text.now c.in-Ask.to (Gives c.in_ok-reply-in-Some.reply) = subst (λ (r : Reply). Means c.args.text.now c.in-Ask.to (Gives r)) (sym c.in_ok-reply-in-Some.ensures) (c.requires.right.means (c.in-Ask.to, c.in-Some.kept.now) h) in
-    let asks : IsTop c.args.text.now limit start held asked fs c.args.node.now c.run_on.new.events (stopped_at (stop.Ask c.in-Ask.to) c.run_on.new.tasks.items env) =
-    subst (λ (s : Stop). IsTop c.args.text.now limit start held asked fs c.args.node.now c.run_on.new.events (stopped_at s c.run_on.new.tasks.items env)) c.in-Ask.is
-    (top_alone c.args.text.now limit start asked held fs c.args.node.now c.loop.events c.run_on.new.events (run_at c.loop.next c.loop.tasks.items (env_of c.args.node.now c.loop.scope)) (stopped_at c.in_ok-to.field-0 c.run_on.new.tasks.items env) c.in_ok-to.ensures (c.loop.invariant limit start asked fs t)) in
-    let same : c.in_ok-copy-in-Some-2.field-0 ≡ c.in-Ask.to = c.in_ok-copy-in-Some-2.ensures ∙ found_key c.in-Ask.to held c.in-Some.asked.now (sym c.in-Some.ensures.key) in
-    let news : c.push.new.self ≡ c.run_on.new.events ++ Asked c.in-Ask.to c.in_ok-reply-in-Some.reply ∷ [] = c.in_ok-push-in-Some.ensures.ok ∙ ap (λ (n : Node). c.run_on.new.events ++ Asked n c.in_ok-reply-in-Some.reply ∷ []) same in
-    let value : c.in_ok-copy-in-Some.field-0 ≡ c.in_ok-reply-in-Some.reply.value = c.in_ok-copy-in-Some.ensures ∙ ap (λ (r : Reply). r.value) c.get.ensures in
-    subst (λ (v : Value). IsTop c.args.text.now limit start held asked fs c.args.node.now c.push.new.self (run_at (Give v) c.run_on.new.tasks.items env)) (sym value)
-    (top_given c.args.text.now limit start asked held fs c.args.node.now c.in-Ask.to go c.in_ok-reply-in-Some.reply c.run_on.new.events c.push.new.self news has means asks)
+loop-preserved c =
+    let start : Run = run_at c.args.first c.args.tasks.now.items (env_of c.args.node.now c.args.scope.now) in
+    let env : Env = env_of c.args.node.now c.loop.scope in
+    let stands : Next → Run = λ x. run_at x c.loop.tasks.items env in
+    let answered : (to : Node) (value : Value) (news : List Event) → IsKnownAs c.args.text.now c.args.held.now.entries (asking to) c.loop.events news value → GoesPast c.args.text.now c.args.held.now.entries (stands (Ask to)) c.loop.events news (stands (Give value)) = λ to value news k. k (cont c.loop.tasks.items env) in
+    elim c.match-next.branch [
+      | in-Eval+in_ok-next-in-Eval w ↦
+          rw (w.tasks-is, w.events-is, w.scope-is, w.next-is) (went_on c.args.text.now c.args.held.now.entries start (stands c.loop.next) (stands (Eval w.in-Eval.expr)) (run_at w.in_ok-next-in-Eval.next w.enter_known.new.tasks.items env) c.args.events.now c.loop.events w.enter_known.new.events c.loop.invariant
+          (ap stands w.in-Eval.is) w.in_ok-next-in-Eval.ensures)
+      | in-Give-next+in-Some+in_ok-next-in-Some w ↦
+          let done : Run = continued w.in-Some.task (ended false c.args.node.now) (cont_at c.args.node.now w.pop.new.self.items) env w.in-Give-next.value in
+          rw (w.tasks-is, w.events-is, w.scope-is, w.next-is) (went_on c.args.text.now c.args.held.now.entries start (stands c.loop.next) done (run_at w.in_ok-next-in-Some.next w.go_on.new.tasks.items (env_of c.args.node.now w.go_on.new.scope)) c.args.events.now c.loop.events w.go_on.new.events c.loop.invariant
+          (ap stands w.in-Give-next.is ∙ taken env c.loop.tasks.items w.pop.new.self.items w.in-Some.task w.in-Give-next.value w.in-Some.ensures.items)
+          (past_alone c.args.text.now c.args.held.now.entries done (run_at w.in_ok-next-in-Some.next w.go_on.new.tasks.items (env_of c.args.node.now w.go_on.new.scope)) c.loop.events w.go_on.new.events w.in_ok-next-in-Some.ensures))
+      | in-Ask+in_ok-value-in-Ask+in-Some-2+in-Cell-1 w ↦
+          let k : IsKnownAs c.args.text.now c.args.held.now.entries (asking w.in-Ask.to) c.loop.events w.ask_held.new.events w.in-Some-2.value = rw w.in-Some-2.is at w.in_ok-value-in-Ask.ensures in
+          rw (w.tasks-is, w.events-is, w.scope-is, w.next-is) (went_on c.args.text.now c.args.held.now.entries start (stands c.loop.next) (stands (Ask w.in-Ask.to)) (stands (Give w.in-Some-2.value)) c.args.events.now c.loop.events w.ask_held.new.events c.loop.invariant (ap stands w.in-Ask.is) (answered w.in-Ask.to w.in-Some-2.value w.ask_held.new.events k))
+      | in-Ask+in_ok-value-in-Ask+in-Some-2+in-Item-1 w ↦
+          let k : IsKnownAs c.args.text.now c.args.held.now.entries (asking w.in-Ask.to) c.loop.events w.ask_held.new.events w.in-Some-2.value = rw w.in-Some-2.is at w.in_ok-value-in-Ask.ensures in
+          rw (w.tasks-is, w.events-is, w.scope-is, w.next-is) (went_on c.args.text.now c.args.held.now.entries start (stands c.loop.next) (stands (Ask w.in-Ask.to)) (stands (Give w.in-Some-2.value)) c.args.events.now c.loop.events w.ask_held.new.events c.loop.invariant (ap stands w.in-Ask.is) (answered w.in-Ask.to w.in-Some-2.value w.ask_held.new.events k))
+    ]

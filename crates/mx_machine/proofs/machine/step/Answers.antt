@@ -7,20 +7,24 @@ use Rattle.mx_formula.specs.declared.frame.Stop.TheVariants as stop
 use Rattle.mx_machine.specs.declared.machine.Progress.{Progress}
 use Rattle.mx_formula.specs.Tasks.{run_at, env_of, stopped_at}
 use Rattle.mx_machine.specs.Frames.{IsGood, IsNew, IsStep, IsTop, depth_after}
+use Rattle.mx_machine.proofs.Past.{top_past}
 use Rattle.mx_machine.proofs.Tops.{lost_reversed, top_at, fault_top}
 use Rattle.mx_machine.proofs.machine.step.Goals as goal
 
-pub returns-in-Value-clause-grown : goal.returns-in-Value-clause-grown
-returns-in-Value-clause-grown g c = λ start asked t. c.give.ensures.grown (λ h. t.apart.unheld c.args.running.node (inl refl) h)
+pub returns-in_err-push-in-Value-clause-grown : goal.returns-in_err-push-in-Value-clause-grown
+returns-in_err-push-in-Value-clause-grown g c = λ start asked t. record { more = []; is = sym (append-nil c.args.held.now.entries) }
 
-pub returns-in-Value-clause-good : goal.returns-in-Value-clause-good
-returns-in-Value-clause-good g c = λ start asked t.
+pub returns-in_ok-push-in-Value-clause-grown : goal.returns-in_ok-push-in-Value-clause-grown
+returns-in_ok-push-in-Value-clause-grown g c = λ start asked t. c.give.ensures.grown (λ h. t.apart.unheld c.args.running.node (inl refl) h)
+
+pub returns-in_ok-push-in-Value-clause-good : goal.returns-in_ok-push-in-Value-clause-good
+returns-in_ok-push-in-Value-clause-good g c = λ start asked t.
     let there = top_at c.args.text.now c.args.limit start asked c.args.held.now.entries (reverse c.args.waiting.now.entries) in
     let at : Stop → Type 0 = λ s. IsTop c.args.text.now c.args.limit start c.args.held.now.entries asked (reverse c.args.waiting.now.entries) c.args.running.node c.run_past.new.events (stopped_at s c.run_past.new.tasks.items (env_of c.args.running.node c.run_past.new.scope)) in
     let before = there c.args.running.node c.get.result.now c.args.running.frame.events (λ n. run_at c.args.running.next c.args.running.frame.tasks.items (env_of n c.args.running.frame.scope)) (sym c.get.ensures) t in
     let top : at (stop.Value c.in-Value.value) = subst at c.in-Value.is
     (there c.get.result.now c.args.running.node c.run_past.new.events (λ n. stopped_at c.in_ok-value.field-0 c.run_past.new.tasks.items (env_of n c.run_past.new.scope)) c.get.ensures
-    (c.in_ok-value.ensures.top c.args.limit start asked (reverse c.args.waiting.now.entries) before)) in
+    (top_past c.args.text.now c.args.limit start asked c.args.held.now.entries (reverse c.args.waiting.now.entries) c.get.result.now (run_at c.args.running.next c.args.running.frame.tasks.items (env_of c.get.result.now c.args.running.frame.scope)) (stopped_at c.in_ok-value.field-0 c.run_past.new.tasks.items (env_of c.get.result.now c.run_past.new.scope)) c.args.running.frame.events c.run_past.new.events c.in_ok-value.ensures.past before)) in
     c.give.ensures.good c.args.text.now c.args.limit start asked c.requires.memo top
 
 pub returns-in-Fault-clause-good : goal.returns-in-Fault-clause-good
@@ -30,12 +34,15 @@ returns-in-Fault-clause-good g c = λ start asked t.
     let before = there c.args.running.node c.get.result.now c.args.running.frame.events (λ n. run_at c.args.running.next c.args.running.frame.tasks.items (env_of n c.args.running.frame.scope)) (sym c.get.ensures) t in
     let top : at (stop.Fault c.in-Fault.kind) = subst at c.in-Fault.is
     (there c.get.result.now c.args.running.node c.run_past.new.events (λ n. stopped_at c.in_ok-value.field-0 c.run_past.new.tasks.items (env_of n c.run_past.new.scope)) c.get.ensures
-    (c.in_ok-value.ensures.top c.args.limit start asked (reverse c.args.waiting.now.entries) before)) in
+    (top_past c.args.text.now c.args.limit start asked c.args.held.now.entries (reverse c.args.waiting.now.entries) c.get.result.now (run_at c.args.running.next c.args.running.frame.tasks.items (env_of c.get.result.now c.args.running.frame.scope)) (stopped_at c.in_ok-value.field-0 c.run_past.new.tasks.items (env_of c.get.result.now c.run_past.new.scope)) c.args.running.frame.events c.run_past.new.events c.in_ok-value.ensures.past before)) in
     let f = fault_top c.args.text.now c.args.limit start asked c.args.held.now.entries (reverse c.args.waiting.now.entries) c.args.running.node c.run_past.new.events c.in-Fault.kind c.args.running.node c.run_past.new.scope.line c.requires.memo top in
     (c.requires.memo, (f.0, f.1, lost_reversed c.args.text.now asked c.args.waiting.now.entries f.2))
 
 pub returns-in_ok-to-in-Ask-clause-full : goal.returns-in_ok-to-in-Ask-clause-full
 returns-in_ok-to-in-Ask-clause-full g c = c.ask.ensures.room c.args.most
+
+pub returns-in_err-to-in-Ask-clause-grown : goal.returns-in_err-to-in-Ask-clause-grown
+returns-in_err-to-in-Ask-clause-grown g c = λ start asked t. record { more = []; is = sym (append-nil c.args.held.now.entries) }
 
 pub returns-in_ok-to-in-Ask-clause-grown : goal.returns-in_ok-to-in-Ask-clause-grown
 returns-in_ok-to-in-Ask-clause-grown g c = λ start asked t. record { more = []; is = sym (append-nil c.args.held.now.entries) }
@@ -47,7 +54,7 @@ returns-in_ok-to-in-Ask-clause-good g c = λ start asked t.
     let before = there c.args.running.node c.get.result.now c.args.running.frame.events (λ n. run_at c.args.running.next c.args.running.frame.tasks.items (env_of n c.args.running.frame.scope)) (sym c.get.ensures) t in
     let top : at (stop.Ask c.in-Ask.to) = subst at c.in-Ask.is
     (there c.get.result.now c.args.running.node c.run_past.new.events (λ n. stopped_at c.in_ok-value.field-0 c.run_past.new.tasks.items (env_of n c.run_past.new.scope)) c.get.ensures
-    (c.in_ok-value.ensures.top c.args.limit start asked (reverse c.args.waiting.now.entries) before)) in
+    (top_past c.args.text.now c.args.limit start asked c.args.held.now.entries (reverse c.args.waiting.now.entries) c.get.result.now (run_at c.args.running.next c.args.running.frame.tasks.items (env_of c.get.result.now c.args.running.frame.scope)) (stopped_at c.in_ok-value.field-0 c.run_past.new.tasks.items (env_of c.get.result.now c.run_past.new.scope)) c.args.running.frame.events c.run_past.new.events c.in_ok-value.ensures.past before)) in
     let asks : at (stop.Ask c.in_ok-to-in-Ask.to) = subst (λ (m : Node). at (stop.Ask m)) (sym c.in_ok-to-in-Ask.ensures) top in
     IfOk-weaker c.ask.result (IsGood c.args.text.now c.args.limit start asked c.args.held.now.entries (suc (length c.args.waiting.now.entries)) c.ask.new.waiting.entries)
     (λ (p : Progress). IsStep c.args.text.now c.args.limit start asked c.args.held.now.entries (suc (length c.args.waiting.now.entries)) c.ask.new.waiting.entries p) (λ p h. (c.requires.memo, h))
@@ -60,7 +67,7 @@ returns-in_ok-to-in-Ask-clause-ticks g c = λ start asked t.
     let before = there c.args.running.node c.get.result.now c.args.running.frame.events (λ n. run_at c.args.running.next c.args.running.frame.tasks.items (env_of n c.args.running.frame.scope)) (sym c.get.ensures) t in
     let top : at (stop.Ask c.in-Ask.to) = subst at c.in-Ask.is
     (there c.get.result.now c.args.running.node c.run_past.new.events (λ n. stopped_at c.in_ok-value.field-0 c.run_past.new.tasks.items (env_of n c.run_past.new.scope)) c.get.ensures
-    (c.in_ok-value.ensures.top c.args.limit start asked (reverse c.args.waiting.now.entries) before)) in
+    (top_past c.args.text.now c.args.limit start asked c.args.held.now.entries (reverse c.args.waiting.now.entries) c.get.result.now (run_at c.args.running.next c.args.running.frame.tasks.items (env_of c.get.result.now c.args.running.frame.scope)) (stopped_at c.in_ok-value.field-0 c.run_past.new.tasks.items (env_of c.get.result.now c.run_past.new.scope)) c.args.running.frame.events c.run_past.new.events c.in_ok-value.ensures.past before)) in
     let asks : at (stop.Ask c.in_ok-to-in-Ask.to) = subst (λ (m : Node). at (stop.Ask m)) (sym c.in_ok-to-in-Ask.ensures) top in
     IfOk-weaker c.ask.result (λ (p : Progress). c.ask.new.steps + suc (length c.args.waiting.now.entries) ≡ c.args.steps.now + depth_after (suc (length c.args.waiting.now.entries)) (length c.ask.new.waiting.entries) p)
     (λ (p : Progress). c.ask.new.steps + length c.args.held.now.entries + suc (length c.args.waiting.now.entries) ≡ c.args.steps.now + length c.args.held.now.entries + depth_after (suc (length c.args.waiting.now.entries)) (length c.ask.new.waiting.entries) p) (λ p h. omega (arith, h))
