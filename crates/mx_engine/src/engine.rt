@@ -31,6 +31,15 @@ const MOST_HELD: usize = 4_000_000;
 /// The most cells of a model.
 const MOST_CELLS: usize = 10_000;
 
+/// So many numbers are more than the C library's lists of small blocks serve.
+const LARGE_BLOCK: usize = 256;
+
+/// Has the C library join the small blocks that were given back, by a request that none of them serves, so that what is held
+/// next lies close together. Without memory nothing is done.
+fn join_blocks(alloc: Global) {
+    let _block = Vec::<u64>::with_capacity(alloc, LARGE_BLOCK);
+}
+
 /// A model text with the values that are kept for it. Contracts see its `State`: every kept value is what its node means in the present text.
 #[derive(Drop)]
 pub struct Engine {
@@ -126,6 +135,7 @@ impl Engine {
             },
         )?;
         self.held.clear();
+        join_blocks(self.alloc);
         Ok(dropped)
     }
 
