@@ -49,6 +49,9 @@ pub struct Engine {
     limit: usize,
     waiting: Waiting,
     spare: Spare,
+    /// Whether values are searched for by recursion: not any more, until the next edit, once a search was given up that had
+    /// found some.
+    searches: bool,
 }
 
 impl Model for Engine {
@@ -82,6 +85,7 @@ impl Engine {
             limit: LIMIT,
             waiting: IndexMap::new(alloc),
             spare: Vec::new(alloc),
+            searches: true,
         })
     }
 
@@ -135,6 +139,7 @@ impl Engine {
             },
         )?;
         self.held.clear();
+        self.searches = true;
         join_blocks(self.alloc);
         Ok(dropped)
     }
@@ -159,6 +164,7 @@ impl Engine {
             &mut self.held,
             &mut self.waiting,
             &mut self.spare,
+            &mut self.searches,
             steps,
         )
     }

@@ -19,7 +19,9 @@ use Rattle.mx_meaning.specs.Chains.{asks_of}
 use Rattle.mx_machine.specs.declared.machine.Running.{Running}
 use Rattle.mx_formula.specs.declared.frame.Scope.{Scope}
 use Rattle.mx_formula.specs.Tasks.{run_at, env_of, locals_in, BeginsWith}
+use Rattle.mx_machine.specs.declared.opening.Opening.{Opening}
 use Rattle.mx_machine.specs.Frames.{EndsUnasked, StartsAt}
+use Rattle.mx_machine.specs.Openings.{IsOpen}
 
 item_by : (text : Text) (n : Node) (o : Option (List Label)) → body n ≡ item_run o → EndsUnasked text n NoSuch
 item_by text n (Some source) e = record { events = Looked (key.Params source) ∷ []; alone = refl; leads = subst (λ r. Leads text r (Looked (key.Params source) ∷ []) (Ends NoSuch)) (sym e) (refl, refl) }
@@ -60,14 +62,26 @@ module _ (text : Text) (at : List Segment) (name : Label) (args : List Value) wh
       ∙ ap (λ (l : ℕ). record { node = Cell at name args; at = at; source = scope.source; line = l; locals = locals_in scope.locals scope.params args }) (sym hl) in
       begun_by p e rest (counted p f false h b.counted ∙ ap (λ (env : Env). formula_done f false env) same ∙ r)
 
-  -- a run that has looked its formula up stands at the formula's first step
-  pub running : (p : List Label) (f : Formula) (n : Node) (r : Running) → n ≡ Cell at name args → path_of at ≡ Some p → formula_at text p name ≡ Some f → r.node ≡ n → r.frame.events ≡ Looked (key.Input n) ∷ Looked (key.Cells p name) ∷ [] → r.frame.scope.source ≡ p → r.frame.scope.params ≡ f.params → r.frame.scope.line ≡ 1 → BeginsWith f args r.frame.scope.locals → ((env : Env) → env.line ≡ 1 → formula_done f false env ≡ run_at r.next r.frame.tasks.items env) → StartsAt text n r
-  running p f n r e hp hf hn he hs hps hl b step =
+  -- a run that has looked its formula up stands before it
+  pub open_by : (p : List Label) (f : Formula) (n : Node) (o : Opening) → n ≡ Cell at name args → path_of at ≡ Some p → formula_at text p name ≡ Some f → o.formula.now ≡ f → o.events ≡ Looked (key.Input n) ∷ Looked (key.Cells p name) ∷ [] → o.scope.source ≡ p → o.scope.params ≡ f.params → o.scope.line ≡ 1 → BeginsWith f args o.scope.locals → IsOpen text n o
+  open_by p f n o e hp hf hg he hs hps hl b =
       let cell : Node = Cell at name args in
-      let rest : Run = run_at r.next r.frame.tasks.items (env_of cell r.frame.scope) in
-      let l : Leads text (body cell) (Looked (key.Input cell) ∷ Looked (key.Cells p name) ∷ []) rest = starts p f r.frame.scope rest hp hf hs hps hl b (step (env_of cell r.frame.scope) hl) in
+      let rest : Run = formula_done f false (env_of cell o.scope) in
+      let l : Leads text (body cell) (Looked (key.Input cell) ∷ Looked (key.Cells p name) ∷ []) rest = starts p f o.scope rest hp hf hs hps hl b refl in
       record {
-        node = hn;
+        line = hl;
         alone = ap asks_of he;
-        leads = subst (λ es. Leads text (body n) es (run_at r.next r.frame.tasks.items (env_of n r.frame.scope))) (sym he) (subst (λ m. Leads text (body m) (Looked (key.Input m) ∷ Looked (key.Cells p name) ∷ []) (run_at r.next r.frame.tasks.items (env_of m r.frame.scope))) (sym e) l);
+        leads = subst (λ es. Leads text (body n) es (formula_done o.formula.now false (env_of n o.scope))) (sym he)
+        (subst (λ g. Leads text (body n) (Looked (key.Input n) ∷ Looked (key.Cells p name) ∷ []) (formula_done g false (env_of n o.scope))) (sym hg)
+        (subst (λ m. Leads text (body m) (Looked (key.Input m) ∷ Looked (key.Cells p name) ∷ []) (formula_done f false (env_of m o.scope))) (sym e) l));
       }
+
+-- and then at its first step
+pub started : (text : Text) (n : Node) (o : Opening) (r : Running) → IsOpen text n o → r.node ≡ n → r.frame.scope ≡ o.scope → r.frame.events ≡ o.events → ((env : Env) → env.line ≡ 1 → formula_done o.formula.now false env ≡ run_at r.next r.frame.tasks.items env) → StartsAt text n r
+started text n o r opens hn hs he step = record {
+  node = hn;
+  alone = ap asks_of he ∙ opens.alone;
+  leads = subst (λ es. Leads text (body n) es (run_at r.next r.frame.tasks.items (env_of n r.frame.scope))) (sym he)
+  (subst (λ (q : Scope). Leads text (body n) o.events (run_at r.next r.frame.tasks.items (env_of n q))) (sym hs)
+  (subst (λ q. Leads text (body n) o.events q) (step (env_of n o.scope) opens.line) opens.leads));
+}

@@ -9,14 +9,16 @@ use Rattle.mx_meaning.specs.Runs.{Outcome}
 use Rattle.mx_meaning.specs.Meaning.{Means}
 use Rattle.mx_formula.specs.Tasks.{run_at, env_of}
 use Rattle.mx_meaning.specs.Held.{Entry, nodes_of, IsMemo, Grown, HoldsMore}
-use Rattle.mx_meaning.specs.Answers.{DeepChain, AtMost, HasRoom}
+use Rattle.mx_value.specs.declared.value.Value.{Value}
+use Rattle.mx_meaning.specs.Answers.{DeepChain, AtMost, HasRoom, GivesValue}
 use Rattle.mx_meaning.specs.Chains.{Reaches, Itself, Through, HasValue}
 use Rattle.mx_machine.specs.declared.machine.Running.{Running}
 use Rattle.mx_machine.specs.declared.machine.Progress.{Progress}
 use Rattle.mx_machine.specs.Frames.{Waiter, IsTop, IsRunning, IsSettled, IsGood, EndsUnasked, StartsAt, Driven, depth_after}
 use Rattle.mx_meaning.proofs.Meanings.{IsFailure, failure_reached, finished, failure_no_value}
-use Rattle.mx_meaning.proofs.Held.{held_reach, nodes_grow}
-use Rattle.mx_machine.proofs.Standing.{asks_none, unasked_shallow}
+use Rattle.mx_meaning.proofs.Held.{held_reach, held_value, nodes_cases, nodes_grow}
+use Rattle.mx_machine.specs.Past.{IsRunFor}
+use Rattle.mx_machine.proofs.Standing.{asks_none, stands_first, unasked_shallow}
 use Rattle.mx_machine.proofs.Deep.{no_deep}
 
 -- what is held after has all that count
@@ -40,6 +42,19 @@ module _ (text : Text) (held : List Entry) (limit most : ℕ) (n : Node) where
         whole = λ x r v. held_reach text held m.right n x h r;
       } in
       (record { shallow = no_deep text held limit n (λ rest c d. absurd (d n (inl refl) h)); few = at_most text held held n most more le }, more)
+
+  -- a run of its own found the value
+  pub run_answer : (after : List Entry) (v : Value) → IsMemo text after → length after ≤ most → IsRunFor text limit held after n v → GivesValue text n v × HasRoom text held limit most n × HoldsMore text held n after
+  run_answer after v m le f =
+      let more : HoldsMore text held n after = record {
+        grown = record { more = f.run.news; is = f.run.grown };
+        only = λ x i. elim (nodes_cases held f.run.news after x f.run.grown i) [
+          | inl a ↦ inl a
+          | inr b ↦ inr (f.run.reached x b, held_value text after m.right x i)
+        ];
+        whole = λ x r q. held_reach text after m.right n x f.run.kept r;
+      } in
+      (record { reply = f.reply; means = f.run.means; value = f.value }, record { shallow = no_deep text held limit n f.run.shallow; few = at_most text held after n most more le }, more)
 
   pub zero_deep : (Has (nodes_of held) n → ⊥) → limit ≡ 0 → DeepChain text held limit n n
   zero_deep h e = record {
@@ -65,14 +80,7 @@ module _ (text : Text) (held : List Entry) (limit most : ℕ) (n : Node) where
   first_top h z r s = subst (λ m. IsTop text limit held held m [] m r.frame.events (run_at r.next r.frame.tasks.items (env_of m r.frame.scope))) (sym s.node) (record {
     since = held;
     waits = (refl, refl);
-    stands = record {
-      leads = s.leads;
-      news = [];
-      grown = sym (append-nil held);
-      reached = λ x q. absurd q;
-      kept = λ x q. absurd (subst (λ ns. Has ns x) s.alone q);
-      shallow = λ b rest q. absurd (subst (λ ns. Has ns b) s.alone q);
-    };
+    stands = stands_first text limit 1 held n r.frame.events (run_at r.next r.frame.tasks.items (env_of n r.frame.scope)) s.alone s.leads;
     apart = record {
       distinct = ((λ q. q), tt);
       unheld = λ x i q. elim i [ inl r ↦ h (subst (λ y. Has (nodes_of held) y) (sym r) q) | inr r ↦ r ];

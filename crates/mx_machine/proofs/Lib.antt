@@ -1,4 +1,6 @@
 pub mod Standing
+pub mod Cycles
+pub mod Found
 pub mod Waiting
 pub mod Deep
 pub mod Tops

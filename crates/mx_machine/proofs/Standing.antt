@@ -19,6 +19,17 @@ use Rattle.mx_meaning.proofs.Lists.{has_left, has_right, has_cases, has_push, ha
 use Rattle.mx_meaning.proofs.Runs.{asks_append, Before, Now, After, ask_case, asked_by_end}
 use Rattle.mx_meaning.proofs.Held.{nodes_grow, nodes_cases}
 
+-- a run that has asked none
+pub stands_first : (text : Text) (limit depth : ℕ) (held : List Entry) (n : Node) (events : List Event) (run : Run) → asks_of events ≡ [] → Leads text (body n) events run → StandsAt text limit depth held held n events run
+stands_first text limit depth held n events run alone leads = record {
+  leads = leads;
+  news = [];
+  grown = sym (append-nil held);
+  reached = λ x z. absurd z;
+  kept = λ x z. absurd (subst (λ ns. Has ns x) alone z);
+  shallow = λ b rest z. absurd (subst (λ ns. Has ns b) alone z);
+}
+
 pub stands_alone : (text : Text) (limit depth : ℕ) (since held : List Entry) (n : Node) (olds news : List Event) (run rest : Run) → GoesOnAlone text run olds news rest → StandsAt text limit depth since held n olds run → StandsAt text limit depth since held n news rest
 stands_alone text limit depth since held n olds news run rest g s =
     let e : asks_of news ≡ asks_of olds = ap asks_of g.is ∙ asks_append olds g.events ∙ ap (λ ms. asks_of olds ++ ms) g.alone ∙ append-nil (asks_of olds) in

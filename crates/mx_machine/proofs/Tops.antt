@@ -21,7 +21,9 @@ use Rattle.mx_meaning.proofs.Runs.{asked_by_end}
 use Rattle.mx_meaning.proofs.Meanings.{IsFailure, failure_reached, finished, failure_no_value}
 use Rattle.mx_meaning.proofs.Reach.{reached_by}
 use Rattle.mx_meaning.proofs.Held.{nodes_added, nodes_cases, held_reach, held_value, memo_push}
-use Rattle.mx_machine.proofs.Standing.{stands_alone, stands_given, stands_shallow_end, shallow_more, asks_none, unasked_shallow}
+use Rattle.mx_machine.specs.Past.{HasRun}
+use Rattle.mx_machine.proofs.Found.{run_held}
+use Rattle.mx_machine.proofs.Standing.{stands_alone, stands_first, stands_given, stands_shallow_end, shallow_more, asks_none, unasked_shallow}
 use Rattle.mx_machine.proofs.Waiting.{handed_down, held_counts, asked_reaches, waits_closed, stopped, stopped_lost}
 use Rattle.mx_machine.proofs.Deep.{deep, ring, on_ring, asked_nothing}
 
@@ -50,7 +52,7 @@ module _ (text : Text) (limit : ℕ) (start : List Entry) (asked : Node) where
     apart = t.apart;
   }
 
-  depth_within : (fs : List Waiter) (n : Node) (held : List Entry) → AreApart limit (n ∷ frame_nodes fs) held → suc (length fs) ≤ limit
+  pub depth_within : (fs : List Waiter) (n : Node) (held : List Entry) → AreApart limit (n ∷ frame_nodes fs) held → suc (length fs) ≤ limit
   depth_within fs n held a = let i : length (frame_nodes fs) ≡ length fs = length-map fs (λ f. f.0) in let j : suc (length (frame_nodes fs)) ≤ limit = a.within in omega arith
 
   -- the run on top gave a value, which is held now
@@ -58,19 +60,19 @@ module _ (text : Text) (limit : ℕ) (start : List Entry) (asked : Node) where
     pub memo_top : IsMemo text (held ++ e ∷ [])
     memo_top = memo_push text held e t.stands.leads memo (λ h. t.apart.unheld e.0 (inl refl) h) t.stands.kept
 
+    run_top : HasRun text limit (suc (length fs)) t.since (held ++ e ∷ []) e.0 e.1.reply
+    run_top = run_held text limit (suc (length fs)) t.since held e.0 e.1.events e.1.reply t.stands (depth_within fs e.0 held t.apart)
+
     pub done_top : IsDone text limit start (held ++ e ∷ []) asked fs e.0 e.1.reply
     done_top = record {
       since = t.since;
       waits = t.waits;
-      means = finished text e.0 e.1.events (Gives e.1.reply) tt t.stands.leads;
-      news = t.stands.news ++ e ∷ [];
-      grown = ap (λ es. es ++ e ∷ []) t.stands.grown ∙ append_assoc t.since t.stands.news (e ∷ []);
-      reached = λ x h. elim (nodes_cases t.stands.news (e ∷ []) (t.stands.news ++ e ∷ []) x refl h) [
-        | inl a ↦ reached_by text e.0 (Ends (Gives e.1.reply)) e.1.events x t.stands.leads (t.stands.reached x a)
-        | inr b ↦ elim b [ inl i ↦ subst (λ y. Reaches text e.0 y) i Itself | inr z ↦ absurd z ]
-      ];
-      kept = nodes_added held (e ∷ []) (held ++ e ∷ []) e.0 refl (inl refl);
-      shallow = stands_shallow_end text limit (suc (length fs)) t.since held e.0 e.1.events (Gives e.1.reply) t.stands (depth_within fs e.0 held t.apart);
+      means = run_top.means;
+      news = run_top.news;
+      grown = run_top.grown;
+      reached = run_top.reached;
+      kept = run_top.kept;
+      shallow = run_top.shallow;
       apart = record {
         distinct = t.apart.distinct.1;
         unheld = λ x h k. elim (nodes_cases held (e ∷ []) (held ++ e ∷ []) x refl k) [
@@ -168,14 +170,7 @@ module _ (text : Text) (limit : ℕ) (start : List Entry) (asked : Node) where
     begun_top nh nf le r h = subst (λ n. IsTop text limit start held asked (f ∷ fs) n r.frame.events (run_at r.next r.frame.tasks.items (env_of n r.frame.scope))) (sym h.node) (record {
       since = held;
       waits = waits_top;
-      stands = record {
-        leads = h.leads;
-        news = [];
-        grown = sym (append-nil held);
-        reached = λ x z. absurd z;
-        kept = λ x z. absurd (subst (λ ns. Has ns x) h.alone z);
-        shallow = λ b rest z. absurd (subst (λ ns. Has ns b) h.alone z);
-      };
+      stands = stands_first text limit (suc (length (f ∷ fs))) held m r.frame.events (run_at r.next r.frame.tasks.items (env_of m r.frame.scope)) h.alone h.leads;
       apart = record {
         distinct = (nf, t.apart.distinct);
         unheld = λ x q k. elim q [ inl i ↦ nh (subst (λ y. Has (nodes_of held) y) (sym i) k) | inr r ↦ t.apart.unheld x r k ];

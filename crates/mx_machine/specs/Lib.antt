@@ -1,3 +1,4 @@
 pub mod Frames
+pub mod Openings
 pub mod Past
 pub mod Choices

@@ -1,19 +1,25 @@
-//! Values that are known: those of expressions whose calls are all held. They need no task.
-ghost use Rattle.std.specs.Prelude.{◌≡◌, map, IfOk, OnOk, IfSome, MatchOption};
+//! Values that are found by recursion: those of expressions whose calls are held, or have runs whose values are found so.
+//! They need no task.
+ghost use Rattle.std.specs.Prelude.{◌≡◌, ◌+◌, ◌≤◌, ℕ, suc, length, map, IfOk, OnOk, IfSome, MatchOption};
 ghost use Rattle.mx_value.specs.declared.value.Value.{Value};
-ghost use Rattle.mx_meaning.specs.Held.{IsMemo};
+ghost use Rattle.mx_value.specs.declared.node.Node.{Node};
+ghost use Rattle.mx_meaning.specs.Lists.{Has};
+ghost use Rattle.mx_meaning.specs.Held.{IsMemo, nodes_of};
 ghost use Rattle.mx_meaning.specs.Runs.{Run};
 ghost use Rattle.mx_meaning.specs.Expressions.{reading, sum_from, sum_read, product_from, product_read, compared_from, comparison_read, trailed_from, trailer_read};
 ghost use Rattle.mx_formula.specs.Tasks.{env_of};
-ghost use Rattle.mx_machine.specs.Past.{IsKnown, IsKnownAs, GoesBehind};
+ghost use Rattle.mx_machine.specs.Past.{IsKnown, IsKnownAs, GoesBehind, HoldsOn, HasRun, asking};
 ghost use Rattle.mx_machine.specs.Choices.{IsChosen, IsTaken};
 
-use crate::held::{Held, ask_known};
+use crate::held::{Found, Held, arguments_in, ask_held, hold};
+use crate::opening::{Opening, Start, opened};
 use mx_formula::at_hand::at_hand;
 use mx_formula::direct::call_at_once;
 use mx_formula::frame::Scope;
+use mx_formula::locals::only_line;
 use mx_list::items::Items;
 use mx_list::list::List;
+use mx_list::shared::Shared;
 use mx_meaning::event::Event;
 use mx_model::text::ModelText;
 use mx_ops::arithmetic::{add, compare, multiply, truth};
@@ -22,22 +28,42 @@ use mx_value::node::Node;
 use mx_value::value::Value;
 use std::alloc::{AllocError, Global};
 
+/// How many expressions a search enters, each within the one before. It bounds the recursion, and with it the machine's own
+/// stack.
+pub const NESTED: usize = 1_000;
+
+/// How far a search goes.
+#[derive(Drop)]
+pub struct Reach {
+    /// The most nodes that may be held.
+    pub most: usize,
+    /// How many runs may begin, each asked by the one before.
+    pub deeper: usize,
+}
+
 /// The value of an expression whose calls are all held, unless it is a fault. Where there is none, no event is noted.
 pub fn value_known(
     alloc: Global,
     text: &ModelText,
     node: &Node,
-    held: &Held,
+    held: &mut Held,
     scope: &Scope,
     expr: &Expr,
     room: &mut Items<Value>,
     events: &mut Items<Event>,
 ) -> Result<Option<Value>, AllocError>
-    requires { IsMemo text.now held.now.entries }
-    ensures { IfOk result (λ value. MatchOption value (events.new ≡ events.old) (IsKnown text.now held.now.entries expr.now (env_of node.now scope.now) events.old events.new)) }
+    requires { IsMemo text.now held.old.entries }
+    ensures still { held.new.entries ≡ held.old.entries }
+    ensures known { IfOk result (λ value. MatchOption value (events.new ≡ events.old) (IsKnown text.now 0 node.now held.old.entries held.old.entries expr.now (env_of node.now scope.now) events.old events.new)) }
 {
     let before = events.len();
-    match known(alloc, text, node, held, scope, expr, room, events)? {
+    let reach = Reach {
+        most: held.len(),
+        deeper: 0,
+    };
+    match known(
+        alloc, text, node, held, scope, expr, room, events, &reach, NESTED,
+    )? {
         Some(value) => Ok(Some(value)),
         None => {
             events.truncate(before);
@@ -56,49 +82,105 @@ enum Choice {
     Unknown,
 }
 
-/// As `value_known`, but where there is no value the events of what was known may be noted.
+/// The value of an expression, unless it is a fault or is not found. Where there is none, nodes may have been held and
+/// events noted.
 #[cycle(known)]
 fn known(
     alloc: Global,
     text: &ModelText,
     node: &Node,
-    held: &Held,
+    held: &mut Held,
     scope: &Scope,
     expr: &Expr,
     room: &mut Items<Value>,
     events: &mut Items<Event>,
+    reach: &Reach,
+    nested: usize,
 ) -> Result<Option<Value>, AllocError>
-    requires { IsMemo text.now held.now.entries }
-    ensures known { IfOk result (λ value. IfSome value (IsKnown text.now held.now.entries expr.now (env_of node.now scope.now) events.old events.new)) }
+    requires memo { IsMemo text.now held.old.entries }
+    requires room { length held.old.entries ≤ reach.now.most }
+    ensures holds { HoldsOn text.now reach.now.most reach.now.deeper held.old.entries held.new.entries }
+    ensures known { IfOk result (λ value. IfSome value (IsKnown text.now reach.now.deeper node.now held.old.entries held.new.entries expr.now (env_of node.now scope.now) events.old events.new)) }
     ensures behind { OnOk result (GoesBehind events.old events.new) }
 {
+    let Some(nested) = nested.checked_sub(1) else {
+        return Ok(None);
+    };
     match expr {
         Expr::Sum { first, rest } => {
-            match known(alloc, text, node, held, scope, first.get(), room, events)? {
-                Some(start) => known_sum(alloc, text, node, held, scope, rest, start, room, events),
+            match known(
+                alloc,
+                text,
+                node,
+                held,
+                scope,
+                first.get(),
+                room,
+                events,
+                reach,
+                nested,
+            )? {
+                Some(start) => known_sum(
+                    alloc, text, node, held, scope, rest, start, room, events, reach, nested,
+                ),
                 None => Ok(None),
             }
         }
         Expr::Product { first, rest } => {
-            match known(alloc, text, node, held, scope, first.get(), room, events)? {
+            match known(
+                alloc,
+                text,
+                node,
+                held,
+                scope,
+                first.get(),
+                room,
+                events,
+                reach,
+                nested,
+            )? {
                 Some(start) => known_product(
-                    alloc, text, node, held, scope, rest, start, room, events,
+                    alloc, text, node, held, scope, rest, start, room, events, reach, nested,
                 ),
                 None => Ok(None),
             }
         }
         Expr::Compare { first, rest } => {
-            match known(alloc, text, node, held, scope, first.get(), room, events)? {
+            match known(
+                alloc,
+                text,
+                node,
+                held,
+                scope,
+                first.get(),
+                room,
+                events,
+                reach,
+                nested,
+            )? {
                 Some(left) => known_comparison(
-                    alloc, text, node, held, scope, rest, left, room, events,
+                    alloc, text, node, held, scope, rest, left, room, events, reach, nested,
                 ),
                 None => Ok(None),
             }
         }
         Expr::Cond { arms, last } => {
-            match known_choice(alloc, text, node, held, scope, arms, room, events)? {
+            match known_choice(
+                alloc, text, node, held, scope, arms, room, events, reach, nested,
+            )? {
                 Choice::Value(value) => Ok(Some(value)),
-                Choice::Last => known(alloc, text, node, held, scope, last.get(), room, events),
+                Choice::Last => known(
+                    alloc,
+                    text,
+                    node,
+                    held,
+                    scope,
+                    last.get(),
+                    room,
+                    events,
+                    reach,
+                    nested,
+                ),
                 Choice::Unknown => Ok(None),
             }
         }
@@ -113,6 +195,8 @@ fn known(
                 trailers,
                 room,
                 events,
+                reach,
+                nested,
             )
         }
         _ => at_hand(alloc, node, scope, expr),
@@ -125,20 +209,27 @@ fn known_sum(
     alloc: Global,
     text: &ModelText,
     node: &Node,
-    held: &Held,
+    held: &mut Held,
     scope: &Scope,
     rest: &List<SumPart>,
     start: Value,
     room: &mut Items<Value>,
     events: &mut Items<Event>,
+    reach: &Reach,
+    nested: usize,
 ) -> Result<Option<Value>, AllocError>
-    requires { IsMemo text.now held.now.entries }
-    ensures known { IfOk result (λ value. IfSome value (IsKnownAs text.now held.now.entries (sum_from (map sum_read rest.now) start (env_of node.now scope.now)) events.old events.new)) }
+    requires memo { IsMemo text.now held.old.entries }
+    requires room { length held.old.entries ≤ reach.now.most }
+    ensures holds { HoldsOn text.now reach.now.most reach.now.deeper held.old.entries held.new.entries }
+    ensures known { IfOk result (λ value. IfSome value (IsKnownAs text.now reach.now.deeper node.now held.old.entries held.new.entries (sum_from (map sum_read rest.now) start (env_of node.now scope.now)) events.old events.new)) }
     ensures behind { OnOk result (GoesBehind events.old events.new) }
 {
     let mut total = start;
     for part in rest.as_slice() {
-        let Some(value) = known(alloc, text, node, held, scope, &part.of, room, events)? else {
+        let Some(value) = known(
+            alloc, text, node, held, scope, &part.of, room, events, reach, nested,
+        )?
+        else {
             return Ok(None);
         };
         match add(part.op, &total, &value) {
@@ -155,20 +246,27 @@ fn known_product(
     alloc: Global,
     text: &ModelText,
     node: &Node,
-    held: &Held,
+    held: &mut Held,
     scope: &Scope,
     rest: &List<ProductPart>,
     start: Value,
     room: &mut Items<Value>,
     events: &mut Items<Event>,
+    reach: &Reach,
+    nested: usize,
 ) -> Result<Option<Value>, AllocError>
-    requires { IsMemo text.now held.now.entries }
-    ensures known { IfOk result (λ value. IfSome value (IsKnownAs text.now held.now.entries (product_from (map product_read rest.now) start (env_of node.now scope.now)) events.old events.new)) }
+    requires memo { IsMemo text.now held.old.entries }
+    requires room { length held.old.entries ≤ reach.now.most }
+    ensures holds { HoldsOn text.now reach.now.most reach.now.deeper held.old.entries held.new.entries }
+    ensures known { IfOk result (λ value. IfSome value (IsKnownAs text.now reach.now.deeper node.now held.old.entries held.new.entries (product_from (map product_read rest.now) start (env_of node.now scope.now)) events.old events.new)) }
     ensures behind { OnOk result (GoesBehind events.old events.new) }
 {
     let mut total = start;
     for part in rest.as_slice() {
-        let Some(value) = known(alloc, text, node, held, scope, &part.of, room, events)? else {
+        let Some(value) = known(
+            alloc, text, node, held, scope, &part.of, room, events, reach, nested,
+        )?
+        else {
             return Ok(None);
         };
         match multiply(part.op, &total, &value) {
@@ -185,15 +283,19 @@ fn known_comparison(
     alloc: Global,
     text: &ModelText,
     node: &Node,
-    held: &Held,
+    held: &mut Held,
     scope: &Scope,
     rest: &List<Comparison>,
     start: Value,
     room: &mut Items<Value>,
     events: &mut Items<Event>,
+    reach: &Reach,
+    nested: usize,
 ) -> Result<Option<Value>, AllocError>
-    requires { IsMemo text.now held.now.entries }
-    ensures known { IfOk result (λ value. IfSome value (IsKnownAs text.now held.now.entries (compared_from (map comparison_read rest.now) start (env_of node.now scope.now)) events.old events.new)) }
+    requires memo { IsMemo text.now held.old.entries }
+    requires room { length held.old.entries ≤ reach.now.most }
+    ensures holds { HoldsOn text.now reach.now.most reach.now.deeper held.old.entries held.new.entries }
+    ensures known { IfOk result (λ value. IfSome value (IsKnownAs text.now reach.now.deeper node.now held.old.entries held.new.entries (compared_from (map comparison_read rest.now) start (env_of node.now scope.now)) events.old events.new)) }
     ensures behind { OnOk result (GoesBehind events.old events.new) }
 {
     let mut left = start;
@@ -201,7 +303,10 @@ fn known_comparison(
         let Comparison::Op(op, right) = comparison else {
             return Ok(None);
         };
-        let Some(value) = known(alloc, text, node, held, scope, right, room, events)? else {
+        let Some(value) = known(
+            alloc, text, node, held, scope, right, room, events, reach, nested,
+        )?
+        else {
             return Ok(None);
         };
         match compare(*op, &left, &value) {
@@ -219,22 +324,31 @@ fn known_choice(
     alloc: Global,
     text: &ModelText,
     node: &Node,
-    held: &Held,
+    held: &mut Held,
     scope: &Scope,
     arms: &List<Arm>,
     room: &mut Items<Value>,
     events: &mut Items<Event>,
+    reach: &Reach,
+    nested: usize,
 ) -> Result<Choice, AllocError>
-    requires { IsMemo text.now held.now.entries }
-    ensures known { IfOk result (IsChosen text.now held.now.entries arms.now (env_of node.now scope.now) events.old events.new) }
+    requires memo { IsMemo text.now held.old.entries }
+    requires room { length held.old.entries ≤ reach.now.most }
+    ensures holds { HoldsOn text.now reach.now.most reach.now.deeper held.old.entries held.new.entries }
+    ensures known { IfOk result (IsChosen text.now reach.now.deeper node.now held.old.entries held.new.entries arms.now (env_of node.now scope.now) events.old events.new) }
     ensures behind { OnOk result (GoesBehind events.old events.new) }
 {
     for arm in arms.as_slice() {
-        let Some(test) = known(alloc, text, node, held, scope, &arm.test, room, events)? else {
+        let Some(test) = known(
+            alloc, text, node, held, scope, &arm.test, room, events, reach, nested,
+        )?
+        else {
             return Ok(Choice::Unknown);
         };
         match truth(&test) {
-            Ok(true) => return known_arm(alloc, text, node, held, scope, arm, room, events),
+            Ok(true) => return known_arm(
+                alloc, text, node, held, scope, arm, room, events, reach, nested,
+            ),
             Ok(false) => {}
             Err(_) => return Ok(Choice::Unknown),
         }
@@ -248,40 +362,138 @@ fn known_arm(
     alloc: Global,
     text: &ModelText,
     node: &Node,
-    held: &Held,
+    held: &mut Held,
     scope: &Scope,
     arm: &Arm,
     room: &mut Items<Value>,
     events: &mut Items<Event>,
+    reach: &Reach,
+    nested: usize,
 ) -> Result<Choice, AllocError>
-    requires { IsMemo text.now held.now.entries }
-    ensures known { IfOk result (IsTaken text.now held.now.entries arm.now (env_of node.now scope.now) events.old events.new) }
+    requires memo { IsMemo text.now held.old.entries }
+    requires room { length held.old.entries ≤ reach.now.most }
+    ensures holds { HoldsOn text.now reach.now.most reach.now.deeper held.old.entries held.new.entries }
+    ensures known { IfOk result (IsTaken text.now reach.now.deeper node.now held.old.entries held.new.entries arm.now (env_of node.now scope.now) events.old events.new) }
     ensures behind { OnOk result (GoesBehind events.old events.new) }
 {
-    match known(alloc, text, node, held, scope, &arm.value, room, events)? {
+    match known(
+        alloc, text, node, held, scope, &arm.value, room, events, reach, nested,
+    )? {
         Some(value) => Ok(Choice::Value(value)),
         None => Ok(Choice::Unknown),
     }
 }
 
-/// A call by name with arguments at hand, of a node that is held.
+/// A call by name with arguments at hand.
+#[cycle(known)]
 fn known_call(
     alloc: Global,
     text: &ModelText,
     node: &Node,
-    held: &Held,
+    held: &mut Held,
     scope: &Scope,
     first: &Expr,
     trailers: &List<Trailer>,
     room: &mut Items<Value>,
     events: &mut Items<Event>,
+    reach: &Reach,
+    nested: usize,
 ) -> Result<Option<Value>, AllocError>
-    requires { IsMemo text.now held.now.entries }
-    ensures known { IfOk result (λ value. IfSome value (IsKnownAs text.now held.now.entries (λ (go : Value → Run). reading first.now (env_of node.now scope.now) (λ v. trailed_from (map trailer_read trailers.now) v (env_of node.now scope.now) go)) events.old events.new)) }
+    requires memo { IsMemo text.now held.old.entries }
+    requires room { length held.old.entries ≤ reach.now.most }
+    ensures holds { HoldsOn text.now reach.now.most reach.now.deeper held.old.entries held.new.entries }
+    ensures known { IfOk result (λ value. IfSome value (IsKnownAs text.now reach.now.deeper node.now held.old.entries held.new.entries (λ (go : Value → Run). reading first.now (env_of node.now scope.now) (λ v. trailed_from (map trailer_read trailers.now) v (env_of node.now scope.now) go)) events.old events.new)) }
     ensures behind { OnOk result (GoesBehind events.old events.new) }
 {
     match call_at_once(alloc, text, node, scope, first, trailers, room, events)? {
-        Some(to) => ask_known(alloc, text, held, to, room, events),
+        Some(to) => ask_known(alloc, text, held, to, room, events, reach, nested),
+        None => Ok(None),
+    }
+}
+
+/// The value of a node that is asked: it is held, or found by a run of its own.
+#[cycle(known)]
+fn ask_known(
+    alloc: Global,
+    text: &ModelText,
+    held: &mut Held,
+    to: Node,
+    room: &mut Items<Value>,
+    events: &mut Items<Event>,
+    reach: &Reach,
+    nested: usize,
+) -> Result<Option<Value>, AllocError>
+    requires memo { IsMemo text.now held.old.entries }
+    requires room { length held.old.entries ≤ reach.now.most }
+    ensures holds { HoldsOn text.now reach.now.most reach.now.deeper held.old.entries held.new.entries }
+    ensures known { (n : Node) → IfOk result (λ value. IfSome value (IsKnownAs text.now reach.now.deeper n held.old.entries held.new.entries (asking to) events.old events.new)) }
+    ensures behind { OnOk result (GoesBehind events.old events.new) }
+{
+    if let Some(value) = ask_held(alloc, text, held, &to, events)? {
+        *room = arguments_in(to);
+        return Ok(Some(value));
+    }
+    match run_found(alloc, text, held, to, room, reach, nested)? {
+        Some(Found { node, reply }) => {
+            let value = reply.get().value.copy(alloc)?;
+            events.push(Event::Asked(node, reply))?;
+            Ok(Some(value))
+        }
+        None => Ok(None),
+    }
+}
+
+/// The reply of a node that is not held, from a run of its own, and held from then on. None where its formula has several
+/// lines, or its value is not found.
+#[cycle(known)]
+pub fn run_found(
+    alloc: Global,
+    text: &ModelText,
+    held: &mut Held,
+    to: Node,
+    room: &mut Items<Value>,
+    reach: &Reach,
+    nested: usize,
+) -> Result<Option<Found>, AllocError>
+    requires memo { IsMemo text.now held.old.entries }
+    requires room { length held.old.entries ≤ reach.now.most }
+    requires new { Has (nodes_of held.old.entries) to → ⊥ }
+    ensures holds { HoldsOn text.now reach.now.most reach.now.deeper held.old.entries held.new.entries }
+    ensures run { IfOk result (λ found. IfSome found (λ f. (f.node ≡ to) × ((limit depth : ℕ) → depth + reach.now.deeper ≤ limit → HasRun text.now limit (suc depth) held.old.entries held.new.entries to f.reply))) }
+{
+    let Some(deeper) = reach.deeper.checked_sub(1) else {
+        *room = arguments_in(to);
+        return Ok(None);
+    };
+    let reach = Reach {
+        most: reach.most,
+        deeper,
+    };
+    let node = Shared::new(alloc, to)?;
+    let Start::Run(opening) = opened(alloc, text, &node)? else {
+        return Ok(None);
+    };
+    let Opening {
+        formula,
+        scope,
+        mut events,
+    } = opening;
+    let Some(expr) = only_line(&formula.body) else {
+        return Ok(None);
+    };
+    match known(
+        alloc,
+        text,
+        node.get(),
+        held,
+        &scope,
+        expr,
+        room,
+        &mut events,
+        &reach,
+        nested,
+    )? {
+        Some(value) => hold(alloc, reach.most, node, events, value, held),
         None => Ok(None),
     }
 }

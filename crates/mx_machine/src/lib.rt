@@ -5,5 +5,7 @@ pub mod binding;
 pub mod held;
 mod known;
 pub mod machine;
+mod opening;
+mod search;
 mod sought;
 pub mod steps;

@@ -2,7 +2,6 @@
 ghost use Rattle.std.specs.Prelude.{◌≡◌, ℕ, List as Many, [], ◌∷◌, ◌++◌, ◌+◌, ◌-◌, suc, ◌<◌, ◌≤◌, length, map, drop, reverse, IfOk, false};
 ghost use Rattle.mx_value.specs.declared.node.Node.{Node};
 ghost use Rattle.mx_meaning.specs.declared.event.Reply.{Reply};
-ghost use Rattle.mx_meaning.specs.declared.kept.Kept.{Kept};
 ghost use Rattle.mx_meaning.specs.Model.{Text};
 ghost use Rattle.mx_meaning.specs.Held.{Entry, IsMemo, Grown, nodes_of};
 ghost use Rattle.mx_meaning.specs.Lists.{Has};
@@ -10,25 +9,25 @@ ghost use Rattle.mx_meaning.specs.Answers.{Answer};
 ghost use Rattle.mx_meaning.specs.Runs.{Asks, gives};
 ghost use Rattle.mx_meaning.specs.Statements.{ended};
 ghost use Rattle.mx_formula.specs.Tasks.{run_at, env_of};
-ghost use Rattle.mx_machine.specs.Frames.{IsRunning, IsTop, IsDone, IsGood, IsStep, Driven, IsFull, Begins, going, runs_begun, depth_after};
+ghost use Rattle.mx_machine.specs.Frames.{IsRunning, IsTop, IsDone, IsGood, IsStep, Driven, IsFull, Begins, StartsAt, going, runs_begun, depth_after};
+ghost use Rattle.mx_machine.specs.Openings.{IsOpen};
 
-use crate::held::{Held, run_past};
+use crate::held::{Held, hold_reply, run_past};
+use crate::opening::{Opening, Start, opened};
+use crate::search::search;
+use crate::sought::Sought;
 use crate::steps::Steps;
 use indexmap::IndexMap;
 use mx_formula::formula::first_step;
-use mx_formula::frame::{Frame, Next, Scope, Stop, Task};
-use mx_formula::locals::first_locals;
+use mx_formula::frame::{Frame, Next, Stop, Task};
 use mx_list::items::Items;
 use mx_list::shared::Shared;
 use mx_meaning::event::{Event, Reply};
-use mx_meaning::kept::Kept;
-use mx_meaning::key::Key;
 use mx_model::text::ModelText;
 use mx_value::fault::FaultKind;
-use mx_value::label::Label;
-use mx_value::node::{Node, Path};
+use mx_value::node::Node;
 use mx_value::refusal::EvalRefusal;
-use mx_value::value::{Addr, Value};
+use mx_value::value::Value;
 use std::alloc::{AllocError, Global};
 use std::sync::ledger::Ledger;
 
@@ -68,8 +67,40 @@ pub enum Begun {
     WrongCount,
 }
 
-/// The value of a node, which is held with those that it rests on.
+/// The value of a node, which is held with those that it rests on. It is searched for by recursion first, where `searches`
+/// says so.
 pub fn eval<L: Ledger>(
+    alloc: Global,
+    text: &ModelText,
+    limit: usize,
+    most: usize,
+    node: &Node,
+    held: &mut Held,
+    waiting: &mut Waiting,
+    spare: &mut Spare,
+    searches: &mut bool,
+    steps: &mut Steps<L>,
+) -> Result<Value, EvalRefusal>
+    requires memo { IsMemo text.now held.old.entries }
+    requires room { length held.old.entries ≤ most }
+    ensures room { length held.new.entries ≤ most }
+    ensures memo { IsMemo text.now held.new.entries }
+    ensures answer { Answer text.now held.old.entries limit most node.now result held.new.entries (steps.new - steps.old) }
+{
+    if let Some(kept) = held.get(Sought { key: node }) {
+        return Ok(kept.reply.get().value.copy(alloc)?);
+    }
+    if limit == 0 {
+        return Err(EvalRefusal::TooDeep(node.copy(alloc)?));
+    }
+    if let Some(value) = search(alloc, text, limit, most, node, held, searches, steps)? {
+        return Ok(value);
+    }
+    evaluate(alloc, text, limit, most, node, held, waiting, spare, steps)
+}
+
+/// The value of a node that is not held, by runs on the stack.
+fn evaluate<L: Ledger>(
     alloc: Global,
     text: &ModelText,
     limit: usize,
@@ -82,17 +113,13 @@ pub fn eval<L: Ledger>(
 ) -> Result<Value, EvalRefusal>
     requires memo { IsMemo text.now held.old.entries }
     requires room { length held.old.entries ≤ most }
+    requires new { Has (nodes_of held.old.entries) node.now → ⊥ }
+    requires some { limit ≡ 0 → ⊥ }
     ensures room { length held.new.entries ≤ most }
     ensures memo { IsMemo text.now held.new.entries }
     ensures answer { Answer text.now held.old.entries limit most node.now result held.new.entries (steps.new - steps.old) }
 {
     let asked = Shared::new(alloc, node.copy(alloc)?)?;
-    if let Some(kept) = held.get(&asked) {
-        return Ok(kept.reply.get().value.copy(alloc)?);
-    }
-    if limit == 0 {
-        return Err(EvalRefusal::TooDeep(node.copy(alloc)?));
-    }
     match begin(alloc, text, asked, spare, steps)? {
         Begun::NoSuch => Err(EvalRefusal::NoSuch),
         Begun::WrongCount => Err(EvalRefusal::WrongCount),
@@ -292,18 +319,7 @@ fn finish(
     if held.len() >= most {
         return Ok(Progress::Full);
     }
-    let reply = Shared::new(
-        alloc,
-        Reply {
-            value,
-            namespace: None,
-        },
-    )?;
-    let kept = Kept {
-        reply: reply.copy()?,
-        events,
-    };
-    held.insert(node.copy()?, kept)?;
+    let reply = hold_reply(alloc, &node, events, value, held)?;
     hand_down(alloc, waiting, node, reply)
 }
 
@@ -411,50 +427,33 @@ fn begin<L: Ledger>(
     ensures begins { IfOk result (Begins text.now node) }
     ensures tick { IfOk result (λ b. steps.new ≡ steps.old + runs_begun b) }
 {
-    match node.get() {
-        Node::Item(_, _) => Ok(Begun::NoSuch),
-        Node::Cell(at, name, arguments) => {
-            begin_cells(alloc, text, &node, at, name, arguments, spare, steps)
+    match opened(alloc, text, &node)? {
+        Start::NoSuch => Ok(Begun::NoSuch),
+        Start::WrongCount => Ok(Begun::WrongCount),
+        Start::Run(opening) => {
+            steps.tick();
+            Ok(Begun::Running(at_first_step(alloc, node, opening, spare)?))
         }
     }
 }
 
-/// The run of a cells node begins.
-fn begin_cells<L: Ledger>(
+/// A run that has opened, at its first step.
+fn at_first_step(
     alloc: Global,
-    text: &ModelText,
-    node: &Shared<Node>,
-    at: &Addr,
-    name: &Label,
-    arguments: &Items<Value>,
+    node: Shared<Node>,
+    opening: Opening<'_>,
     spare: &mut Spare,
-    steps: &mut Steps<L>,
-) -> Result<Begun, AllocError>
-    requires { node.now ≡ Node.Cell at.now name.now arguments.now }
-    ensures begins { IfOk result (Begins text.now node.now) }
-    ensures tick { IfOk result (λ b. steps.new ≡ steps.old + runs_begun b) }
+) -> Result<Running, AllocError>
+    ensures { (text : Text) → IsOpen text node opening.entry → IfOk result (StartsAt text node) }
 {
-    let Some(source) = text.source_of(alloc, at)? else {
-        return Ok(Begun::NoSuch);
-    };
-    let Some(formula) = text.formula_at(&source, name) else {
-        return Ok(Begun::NoSuch);
-    };
-    let Some(locals) = first_locals(alloc, formula, arguments)? else {
-        return Ok(Begun::WrongCount);
-    };
-    steps.tick();
-    let events = first_events(alloc, node, &source, name)?;
+    let Opening {
+        formula,
+        scope,
+        events,
+    } = opening;
     let mut tasks = no_tasks(alloc, spare);
     let next = first_step(alloc, formula, &mut tasks)?;
-    let scope = Scope {
-        source,
-        params: formula.params.copy()?,
-        locals,
-        line: 1,
-    };
-    let node = node.copy()?;
-    Ok(Begun::Running(Running {
+    Ok(Running {
         node,
         frame: Frame {
             scope,
@@ -462,7 +461,7 @@ fn begin_cells<L: Ledger>(
             events,
         },
         next,
-    }))
+    })
 }
 
 /// A list of no tasks, with the room of one that is spare.
@@ -476,19 +475,4 @@ fn no_tasks(alloc: Global, spare: &mut Spare) -> Vec<Task>
         }
         None => Vec::new(alloc),
     }
-}
-
-/// What the run of a cells node does first: it looks for an input, and then its formula up.
-fn first_events(
-    alloc: Global,
-    node: &Shared<Node>,
-    source: &Path,
-    name: &Label,
-) -> Result<Items<Event>, AllocError>
-    ensures { IfOk result (λ es. es ≡ Event.Looked (Key.Input node.now) ∷ Event.Looked (Key.Cells source.now name.now) ∷ []) }
-{
-    let mut events = Items::with_capacity(alloc, 12)?;
-    events.push(Event::Looked(Key::Input(node.copy()?)))?;
-    events.push(Event::Looked(Key::Cells(source.copy()?, name.copy()?)))?;
-    Ok(events)
 }

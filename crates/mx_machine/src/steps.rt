@@ -32,6 +32,13 @@ impl<L: Ledger> Steps<L> {
         Steps { book, share }
     }
 
+    /// So many formula runs have begun.
+    pub fn count(&mut self, runs: u64)
+        ensures { self.new ≡ self.old + runs }
+    {
+        self.book.add(&mut self.share, runs);
+    }
+
     /// One formula run begins.
     pub fn tick(&mut self)
         ensures { self.new ≡ self.old + 1 }

@@ -7,11 +7,11 @@ use Rattle.mx_meaning.specs.Model.{formula_at}
 use Rattle.mx_meaning.specs.Runs.{NoSuch, WrongCount}
 use Rattle.mx_meaning.specs.Expressions.{path_of}
 use Rattle.mx_machine.specs.Frames.{EndsUnasked}
-use Rattle.mx_machine.proofs.Begins.{no_formula, bad_count, running}
-use Rattle.mx_machine.proofs.machine.begin_cells.Goals as goal
+use Rattle.mx_machine.proofs.Begins.{no_formula, bad_count, open_by}
+use Rattle.mx_machine.proofs.opening.opened_cells.Goals as goal
 
-pub returns-in_default-formula_at-clause-begins : goal.returns-in_default-formula_at-clause-begins
-returns-in_default-formula_at-clause-begins g c =
+pub returns-in_default-formula_at : goal.returns-in_default-formula_at
+returns-in_default-formula_at c =
     let a = c.in_ok-source.ensures in
     let b = c.in-Some.is in
     let d = c.in_default-formula_at.ensures in
@@ -19,8 +19,8 @@ returns-in_default-formula_at-clause-begins g c =
     let f : formula_at c.args.text.now c.in-Some.source c.args.name.now ≡ None = cc in
     subst (λ (n : Node). EndsUnasked c.args.text.now n NoSuch) (sym c.requires) (no_formula c.args.text.now c.args.at.now c.args.name.now c.args.arguments.now c.in-Some.source p f)
 
-pub returns-in_default-2-clause-begins : goal.returns-in_default-2-clause-begins
-returns-in_default-2-clause-begins g c =
+pub returns-in_default-2 : goal.returns-in_default-2
+returns-in_default-2 c =
     let a = c.in_ok-source.ensures in
     let b = c.in-Some.is in
     let d = c.in-Some-formula_at.ensures in
@@ -28,12 +28,12 @@ returns-in_default-2-clause-begins g c =
     let f : formula_at c.args.text.now c.in-Some.source c.args.name.now ≡ Some c.in-Some-formula_at.formula.now = cc in
     subst (λ (n : Node). EndsUnasked c.args.text.now n WrongCount) (sym c.requires) (bad_count c.args.text.now c.args.at.now c.args.name.now c.args.arguments.now c.in-Some.source c.in-Some-formula_at.formula.now p f (subst (λ (first : Option Locals). MatchOption first (is_wrong_count c.in-Some-formula_at.formula.now.params (length c.args.arguments.now) ≡ true) (BeginsWith c.in-Some-formula_at.formula.now c.args.arguments.now)) c.in_default-2.is c.in_ok-locals.ensures))
 
-pub returns-clause-begins : goal.returns-clause-begins
-returns-clause-begins g c =
+pub returns : goal.returns
+returns c =
     let a = c.in_ok-source.ensures in
     let b = c.in-Some.is in
     let d = c.in-Some-formula_at.ensures in
     let p : path_of c.args.at.now ≡ Some c.in-Some.source = cc in
     let f : formula_at c.args.text.now c.in-Some.source c.args.name.now ≡ Some c.in-Some-formula_at.formula.now = cc in
-    running c.args.text.now c.args.at.now c.args.name.now c.args.arguments.now c.in-Some.source c.in-Some-formula_at.formula.now c.args.node.now _ c.requires p f c.in_ok-node.ensures c.in_ok-events.ensures c.source.view_is c.in_ok-copy.ensures refl
-    (subst (λ (first : Option Locals). MatchOption first (is_wrong_count c.in-Some-formula_at.formula.now.params (length c.args.arguments.now) ≡ true) (BeginsWith c.in-Some-formula_at.formula.now c.args.arguments.now)) c.in-Some-2.is c.in_ok-locals.ensures) c.in_ok-next.ensures
+    open_by c.args.text.now c.args.at.now c.args.name.now c.args.arguments.now c.in-Some.source c.in-Some-formula_at.formula.now c.args.node.now _ c.requires p f refl c.in_ok-events.ensures c.source.view_is c.in_ok-copy.ensures refl
+    (subst (λ (first : Option Locals). MatchOption first (is_wrong_count c.in-Some-formula_at.formula.now.params (length c.args.arguments.now) ≡ true) (BeginsWith c.in-Some-formula_at.formula.now c.args.arguments.now)) c.in-Some-2.is c.in_ok-locals.ensures)
