@@ -72,8 +72,8 @@ module _ (text : Text) (at : List Segment) (name : Label) (args : List Value) wh
         line = hl;
         alone = ap asks_of he;
         leads = subst (λ es. Leads text (body n) es (formula_done o.formula.now false (env_of n o.scope))) (sym he)
-        (subst (λ g. Leads text (body n) (Looked (key.Input n) ∷ Looked (key.Cells p name) ∷ []) (formula_done g false (env_of n o.scope))) (sym hg)
-        (subst (λ m. Leads text (body m) (Looked (key.Input m) ∷ Looked (key.Cells p name) ∷ []) (formula_done f false (env_of m o.scope))) (sym e) l));
+            (subst (λ g. Leads text (body n) (Looked (key.Input n) ∷ Looked (key.Cells p name) ∷ []) (formula_done g false (env_of n o.scope))) (sym hg)
+            (subst (λ m. Leads text (body m) (Looked (key.Input m) ∷ Looked (key.Cells p name) ∷ []) (formula_done f false (env_of m o.scope))) (sym e) l));
       }
 
 -- and then at its first step
@@ -82,6 +82,6 @@ started text n o r opens hn hs he step = record {
   node = hn;
   alone = ap asks_of he ∙ opens.alone;
   leads = subst (λ es. Leads text (body n) es (run_at r.next r.frame.tasks.items (env_of n r.frame.scope))) (sym he)
-  (subst (λ (q : Scope). Leads text (body n) o.events (run_at r.next r.frame.tasks.items (env_of n q))) (sym hs)
-  (subst (λ q. Leads text (body n) o.events q) (step (env_of n o.scope) opens.line) opens.leads));
+      (subst (λ (q : Scope). Leads text (body n) o.events (run_at r.next r.frame.tasks.items (env_of n q))) (sym hs)
+      (subst (λ q. Leads text (body n) o.events q) (step (env_of n o.scope) opens.line) opens.leads));
 }

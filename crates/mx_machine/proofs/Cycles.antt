@@ -1,5 +1,5 @@
 -- A node that means anything does not come back to itself by asks.
-use Rattle.std.proofs.Common.{◌≡◌, List, [], ◌∷◌, inl, inr, refl, subst}
+use Rattle.std.proofs.Common.{List, [], ◌∷◌, inl, inr, refl, subst}
 use Rattle.mx_value.specs.declared.node.Node.{Node}
 use Rattle.mx_meaning.specs.Model.{Text}
 use Rattle.mx_meaning.specs.Lists.{Has}

@@ -1,5 +1,5 @@
 -- A run that found its value by recursion, from its opening to where its node is held.
-use Rattle.std.proofs.Common.{◌≡◌, ℕ, zero, suc, ◌+◌, ◌≤◌, Option, Some, None, IfSome, MatchOption, Result, Ok, Err, IfOk, OnErr, List, [], ◌∷◌, ◌++◌, length, inl, inr, refl, sym, ◌∙◌, ap, subst, arith, false}
+use Rattle.std.proofs.Common.{◌≡◌, ℕ, suc, ◌+◌, ◌≤◌, Option, Some, None, IfSome, MatchOption, Result, Ok, Err, IfOk, OnErr, List, [], ◌∷◌, ◌++◌, length, inl, inr, refl, sym, ◌∙◌, ap, subst, arith, false}
 use Rattle.std.specs.declared.alloc.AllocError.{AllocError}
 use Rattle.std.proofs.lemmas.List.{append_assoc}
 use Rattle.mx_value.specs.declared.node.Node.{Node}
@@ -10,7 +10,7 @@ use Rattle.mx_meaning.specs.declared.event.Reply.{Reply}
 use Rattle.mx_meaning.specs.declared.event.Event.{Event}
 use Rattle.mx_meaning.specs.Model.{Text}
 use Rattle.mx_meaning.specs.Lists.{Has}
-use Rattle.mx_meaning.specs.Runs.{Outcome, Gives, Faults, Run, Ends}
+use Rattle.mx_meaning.specs.Runs.{Outcome, Gives, Faults, Ends}
 use Rattle.mx_meaning.specs.Runs.{Env}
 use Rattle.mx_meaning.specs.Expressions.{reading}
 use Rattle.mx_meaning.specs.Statements.{doing_from, ended, formula_done}
@@ -22,8 +22,8 @@ use Rattle.mx_formula.specs.Tasks.{env_of}
 use Rattle.mx_formula.proofs.Doings.{one_line_done}
 use Rattle.mx_machine.specs.declared.opening.Opening.{Opening}
 use Rattle.mx_machine.specs.Openings.{IsOpen}
-use Rattle.mx_meaning.specs.Meaning.{body, Means, Leads, IsReached}
-use Rattle.mx_meaning.specs.Chains.{asks_of, Reaches, Itself}
+use Rattle.mx_meaning.specs.Meaning.{body, Leads, IsReached}
+use Rattle.mx_meaning.specs.Chains.{Reaches, Itself}
 use Rattle.mx_meaning.specs.Held.{Entry, IsMemo, nodes_of}
 use Rattle.mx_meaning.proofs.Meanings.{finished}
 use Rattle.mx_meaning.proofs.Reach.{asked_is_ask, reached_by}
@@ -110,7 +110,10 @@ module _ (text : Text) (most deeper inner : ℕ) (since held : List Entry) (n : 
 
   pub run_ended : (after : List Entry) (r : Result (Option Found) AllocError) → IfOk r (λ o. MatchOption o (after ≡ held) (λ f. (f.node ≡ n) × (ended false n v ≡ Ends (Gives f.reply)) × (after ≡ held ++ (n, record { reply = f.reply; events = events }) ∷ []))) → IfOk r (λ o. IfSome o (λ f. (f.node ≡ n) × ((limit depth : ℕ) → depth + deeper ≤ limit → HasRun text limit (suc depth) since after n f.reply)))
   run_ended after (Ok None) h = tt
-  run_ended after (Ok (Some f)) h = (h.0, λ limit depth le.
-      subst (λ es. HasRun text limit (suc depth) since es n f.reply) (sym h.2)
-      (run_held text limit (suc depth) since held n events f.reply (subst (λ q. StandsAt text limit (suc depth) since held n events q) h.1 (stands limit (suc depth) (omega arith))) (omega arith)))
+  run_ended after (Ok (Some f)) h = (
+    h.0,
+    λ limit depth le.
+        subst (λ es. HasRun text limit (suc depth) since es n f.reply) (sym h.2)
+        (run_held text limit (suc depth) since held n events f.reply (subst (λ q. StandsAt text limit (suc depth) since held n events q) h.1 (stands limit (suc depth) (omega arith))) (omega arith)),
+  )
   run_ended after (Err x) h = tt

@@ -1,11 +1,11 @@
 -- Runs that go on past other nodes, one after the other.
-use Rattle.std.proofs.Common.{◌≡◌, ℕ, suc, ◌+◌, ◌≤◌, Option, Some, None, IfSome, MatchOption, List, [], ◌∷◌, ◌++◌, Bool, true, false, Result, Ok, Err, IfOk, OnOk, inl, inr, refl, sym, ◌∙◌, ap, subst, arith, map, take, length, rules}
+use Rattle.std.proofs.Common.{◌≡◌, ℕ, suc, ◌+◌, ◌≤◌, Option, Some, None, IfSome, List, [], ◌∷◌, ◌++◌, Bool, false, Result, Ok, Err, IfOk, OnOk, inl, refl, sym, ◌∙◌, ap, subst, arith, map, take, length, rules}
 use Rattle.std.specs.declared.alloc.AllocError.{AllocError}
 use Rattle.std.proofs.lemmas.List.{append-nil, append_assoc}
 use Rattle.std.proofs.Math.Seq.{take-append_seam}
 use Rattle.mx_value.specs.declared.node.Node.{Node}
 use Rattle.mx_value.specs.declared.value.Value.{Value}
-use Rattle.mx_value.specs.declared.value.Value.TheVariants.{Nothing, Flag}
+use Rattle.mx_value.specs.declared.value.Value.TheVariants.{Flag}
 use Rattle.mx_value.specs.declared.fault.FaultKind.{FaultKind}
 use Rattle.mx_syntax.specs.declared.expr.Expr.{Expr}
 use Rattle.mx_syntax.specs.declared.expr.SumPart.{SumPart, out-SumPart}
@@ -16,23 +16,19 @@ use Rattle.mx_syntax.specs.declared.expr.CmpOp.{CmpOp}
 use Rattle.mx_syntax.specs.declared.expr.Arm.{Arm, out-Arm}
 use Rattle.mx_meaning.specs.declared.event.Reply.{Reply}
 use Rattle.mx_meaning.specs.declared.event.Event.{Event}
-use Rattle.mx_meaning.specs.declared.event.Event.TheVariants.{Looked, Asked, Noted}
-use Rattle.mx_meaning.specs.Model.{Text, key_result}
+use Rattle.mx_meaning.specs.declared.event.Event.TheVariants.{Asked}
+use Rattle.mx_meaning.specs.Model.{Text}
 use Rattle.mx_meaning.specs.Lists.{Has}
-use Rattle.mx_meaning.specs.Runs.{Run, Env, Reading, Ends, Looks, Asks, Notes, Gives, computed, gives}
+use Rattle.mx_meaning.specs.Runs.{Run, Env, Reading, Asks, Gives, computed}
 use Rattle.mx_meaning.specs.Operators.{added, multiplied, compared, truth}
 use Rattle.mx_meaning.specs.Expressions.{reading, sum_from, sum_read, product_from, product_read, compared_from, comparison_read, choice_from, arm_read, tested}
-use Rattle.mx_meaning.specs.Meaning.{Means, Leads}
-use Rattle.mx_meaning.specs.Chains.{asks_of}
+use Rattle.mx_meaning.specs.Meaning.{Means}
 use Rattle.mx_meaning.specs.Held.{Entry, IsMemo, nodes_of}
 use Rattle.mx_meaning.proofs.Held.{grown_on}
 use Rattle.mx_formula.specs.Tasks.{GoesOnAlone, IsRead}
 use Rattle.mx_formula.proofs.Readings.{sum_first, product_first, chain_first, arm_part}
 use Rattle.mx_machine.specs.Frames.{Waiter, IsTop, StandsAt}
 use Rattle.mx_machine.specs.Past.{GoesPast, IsKnown, IsKnownAs, GoesBehind, HoldsOn, HasRun, asking}
-use Rattle.mx_machine.specs.Choices.{IsChosen, IsTaken}
-use Rattle.mx_machine.specs.declared.known.Choice.{Choice}
-use Rattle.mx_machine.specs.declared.known.Choice.TheVariants as choice
 use Rattle.mx_machine.proofs.Standing.{stands_alone, stands_given}
 use Rattle.mx_machine.proofs.Tops.{depth_within}
 
@@ -156,17 +152,6 @@ module _ (text : Text) (deeper : ℕ) (n : Node) where
   knowns_then before mid held read other a b c (Ok None) g h = tt
   knowns_then before mid held read other a b c (Ok (Some v)) g h = λ go. past_then text deeper n before mid held (read go) (other go) (go v) a b c (g go) (h go)
   knowns_then before mid held read other a b c (Err x) g h = tt
-
-  -- an arm's test holds, and its value may be known
-  pub taken_chosen : (before mid later held : List Entry) (arms rest more : List Arm) (a : Arm) (env : Env) (test : Value) (olds half tested_ news : List Event) (r : Result Choice AllocError)
-      → ((last : Reading) (go : Value → Run) → GoesPast text deeper n before mid (choice_from (map arm_read arms) last env go) olds half (choice_from (map arm_read rest) last env go))
-      → rest ≡ a ∷ more → IsKnown text deeper n mid later (out-Arm a).test env half tested_ test → truth test ≡ Ok true → IfOk r (IsTaken text deeper n later held a env tested_ news) → IfOk r (IsChosen text deeper n before held arms env olds news)
-  taken_chosen before mid later held arms rest more a env test olds half tested_ news (Ok (choice.Value v)) on e k is h = λ last go.
-      past_then text deeper n before mid held (choice_from (map arm_read arms) last env go) (choice_from (map arm_read rest) last env go) (go v) olds half news (on last go)
-      (past_then text deeper n mid later held (choice_from (map arm_read rest) last env go) (reading (out-Arm a).value env go) (go v) half tested_ news (arm_past mid later rest more a last env test (Ok true) half tested_ e k is go) (h go))
-  taken_chosen before mid later held arms rest more a env test olds half tested_ news (Ok choice.Last) on e k is h = absurd h
-  taken_chosen before mid later held arms rest more a env test olds half tested_ news (Ok choice.Unknown) on e k is h = tt
-  taken_chosen before mid later held arms rest more a env test olds half tested_ news (Err x) on e k is h = tt
 
 -- the run on top goes on past held nodes
 pub top_past : (text : Text) (limit : ℕ) (start : List Entry) (asked : Node) (held : List Entry) (fs : List Waiter) (n : Node) (run rest : Run) (olds news : List Event) → GoesPast text 0 n held held run olds news rest → IsTop text limit start held asked fs n olds run → IsTop text limit start held asked fs n news rest

@@ -1,6 +1,6 @@
 -- What a step does to the run on top.
 use Rattle.std.proofs.Common.{◌≡◌, ℕ, suc, ◌≤◌, ◌<◌, List, [], ◌∷◌, ◌++◌, length, reverse, ◌⊎◌, inl, inr, refl, sym, ◌∙◌, ap, subst, arith}
-use Rattle.std.proofs.lemmas.List.{append-nil, append_assoc, length-map, length-reverse}
+use Rattle.std.proofs.lemmas.List.{append-nil, length-map, length-reverse}
 use Rattle.mx_value.specs.declared.node.Node.{Node}
 use Rattle.mx_value.specs.declared.fault.FaultKind.{FaultKind}
 use Rattle.mx_meaning.specs.declared.event.Reply.{Reply}
@@ -10,7 +10,7 @@ use Rattle.mx_meaning.specs.Model.{Text}
 use Rattle.mx_meaning.specs.Lists.{Has}
 use Rattle.mx_meaning.specs.Runs.{Gives, Faults, Outcome, Run, Ends, Asks}
 use Rattle.mx_meaning.specs.Meaning.{body, Means}
-use Rattle.mx_meaning.specs.Chains.{DoesAsk, Reaches, Itself, HasValue, MeansNothing, IsRing}
+use Rattle.mx_meaning.specs.Chains.{DoesAsk, Reaches, HasValue, MeansNothing, IsRing}
 use Rattle.mx_meaning.specs.Held.{Entry, nodes_of, IsMemo}
 use Rattle.mx_meaning.specs.Answers.{IsShallow, DeepChain, AreLost, IsCounted, PastMost}
 use Rattle.mx_machine.specs.declared.machine.Running.{Running}
@@ -20,7 +20,7 @@ use Rattle.mx_meaning.proofs.Lists.{has_left, onto}
 use Rattle.mx_meaning.proofs.Runs.{asked_by_end}
 use Rattle.mx_meaning.proofs.Meanings.{IsFailure, failure_reached, finished, failure_no_value}
 use Rattle.mx_meaning.proofs.Reach.{reached_by}
-use Rattle.mx_meaning.proofs.Held.{nodes_added, nodes_cases, held_reach, held_value, memo_push}
+use Rattle.mx_meaning.proofs.Held.{nodes_cases, held_reach, held_value, memo_push}
 use Rattle.mx_machine.specs.Past.{HasRun}
 use Rattle.mx_machine.proofs.Found.{run_held}
 use Rattle.mx_machine.proofs.Standing.{stands_alone, stands_first, stands_given, stands_shallow_end, shallow_more, asks_none, unasked_shallow}

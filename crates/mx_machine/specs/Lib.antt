@@ -1,4 +1,3 @@
 pub mod Frames
 pub mod Openings
 pub mod Past
-pub mod Choices

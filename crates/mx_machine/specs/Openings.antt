@@ -1,5 +1,5 @@
 -- How the run of a node opens.
-use Rattle.std.specs.Prelude.{◌≡◌, List, [], false}
+use Rattle.std.specs.Prelude.{◌≡◌, [], false}
 use Rattle.mx_value.specs.declared.node.Node.{Node}
 use Rattle.mx_meaning.specs.Model.{Text}
 use Rattle.mx_meaning.specs.Runs.{NoSuch, WrongCount}

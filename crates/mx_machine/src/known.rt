@@ -6,10 +6,9 @@ ghost use Rattle.mx_value.specs.declared.node.Node.{Node};
 ghost use Rattle.mx_meaning.specs.Lists.{Has};
 ghost use Rattle.mx_meaning.specs.Held.{IsMemo, nodes_of};
 ghost use Rattle.mx_meaning.specs.Runs.{Run};
-ghost use Rattle.mx_meaning.specs.Expressions.{reading, sum_from, sum_read, product_from, product_read, compared_from, comparison_read, trailed_from, trailer_read};
+ghost use Rattle.mx_meaning.specs.Expressions.{reading, sum_from, sum_read, product_from, product_read, compared_from, comparison_read, choice_from, arm_read, trailed_from, trailer_read};
 ghost use Rattle.mx_formula.specs.Tasks.{env_of};
 ghost use Rattle.mx_machine.specs.Past.{IsKnown, IsKnownAs, GoesBehind, HoldsOn, HasRun, asking};
-ghost use Rattle.mx_machine.specs.Choices.{IsChosen, IsTaken};
 
 use crate::held::{Found, Held, arguments_in, ask_held, hold};
 use crate::opening::{Opening, Start, opened};
@@ -72,18 +71,9 @@ pub fn value_known(
     }
 }
 
-/// What is known of the arms of a conditional.
-#[derive(Drop)]
-enum Choice {
-    /// The value of the first arm whose test holds.
-    Value(Value),
-    /// No test holds.
-    Last,
-    Unknown,
-}
-
 /// The value of an expression, unless it is a fault or is not found. Where there is none, nodes may have been held and
-/// events noted.
+/// events noted. The forms have functions of their own, which are not inlined: the locals of all would be cleared for each
+/// expression.
 #[cycle(known)]
 fn known(
     alloc: Global,
@@ -107,112 +97,36 @@ fn known(
         return Ok(None);
     };
     match expr {
-        Expr::Sum { first, rest } => {
-            match known(
-                alloc,
-                text,
-                node,
-                held,
-                scope,
-                first.get(),
-                room,
-                events,
-                reach,
-                nested,
-            )? {
-                Some(start) => known_sum(
-                    alloc, text, node, held, scope, rest, start, room, events, reach, nested,
-                ),
-                None => Ok(None),
-            }
-        }
-        Expr::Product { first, rest } => {
-            match known(
-                alloc,
-                text,
-                node,
-                held,
-                scope,
-                first.get(),
-                room,
-                events,
-                reach,
-                nested,
-            )? {
-                Some(start) => known_product(
-                    alloc, text, node, held, scope, rest, start, room, events, reach, nested,
-                ),
-                None => Ok(None),
-            }
-        }
-        Expr::Compare { first, rest } => {
-            match known(
-                alloc,
-                text,
-                node,
-                held,
-                scope,
-                first.get(),
-                room,
-                events,
-                reach,
-                nested,
-            )? {
-                Some(left) => known_comparison(
-                    alloc, text, node, held, scope, rest, left, room, events, reach, nested,
-                ),
-                None => Ok(None),
-            }
-        }
-        Expr::Cond { arms, last } => {
-            match known_choice(
-                alloc, text, node, held, scope, arms, room, events, reach, nested,
-            )? {
-                Choice::Value(value) => Ok(Some(value)),
-                Choice::Last => known(
-                    alloc,
-                    text,
-                    node,
-                    held,
-                    scope,
-                    last.get(),
-                    room,
-                    events,
-                    reach,
-                    nested,
-                ),
-                Choice::Unknown => Ok(None),
-            }
-        }
-        Expr::Post { of, trailers } => {
-            known_call(
-                alloc,
-                text,
-                node,
-                held,
-                scope,
-                of.get(),
-                trailers,
-                room,
-                events,
-                reach,
-                nested,
-            )
-        }
+        Expr::Sum { first, rest } => known_sum(
+            alloc, text, node, held, scope, first, rest, room, events, reach, nested,
+        ),
+        Expr::Product { first, rest } => known_product(
+            alloc, text, node, held, scope, first, rest, room, events, reach, nested,
+        ),
+        Expr::Compare { first, rest } => known_comparison(
+            alloc, text, node, held, scope, first, rest, room, events, reach, nested,
+        ),
+        Expr::Cond { arms, last } => known_choice(
+            alloc, text, node, held, scope, arms, last, room, events, reach, nested,
+        ),
+        Expr::Post { of, trailers } => known_call(
+            alloc, text, node, held, scope, of, trailers, room, events, reach, nested,
+        ),
         _ => at_hand(alloc, node, scope, expr),
     }
 }
 
-/// The rest of a sum, behind parts of this total.
+/// As `known`, for a sum.
 #[cycle(known)]
+#[inline(never)]
 fn known_sum(
     alloc: Global,
     text: &ModelText,
     node: &Node,
     held: &mut Held,
     scope: &Scope,
+    first: &Shared<Expr>,
     rest: &List<SumPart>,
-    start: Value,
     room: &mut Items<Value>,
     events: &mut Items<Event>,
     reach: &Reach,
@@ -221,9 +135,16 @@ fn known_sum(
     requires memo { IsMemo text.now held.old.entries }
     requires room { length held.old.entries ≤ reach.now.most }
     ensures holds { HoldsOn text.now reach.now.most reach.now.deeper held.old.entries held.new.entries }
-    ensures known { IfOk result (λ value. IfSome value (IsKnownAs text.now reach.now.deeper node.now held.old.entries held.new.entries (sum_from (map sum_read rest.now) start (env_of node.now scope.now)) events.old events.new)) }
+    ensures known { IfOk result (λ value. IfSome value (IsKnownAs text.now reach.now.deeper node.now held.old.entries held.new.entries (λ (go : Value → Run). reading first.now (env_of node.now scope.now) (λ v. sum_from (map sum_read rest.now) v (env_of node.now scope.now) go)) events.old events.new)) }
     ensures behind { OnOk result (GoesBehind events.old events.new) }
 {
+    let first = first.get();
+    let Some(start) = known(
+        alloc, text, node, held, scope, first, room, events, reach, nested,
+    )?
+    else {
+        return Ok(None);
+    };
     let mut total = start;
     for part in rest.as_slice() {
         let Some(value) = known(
@@ -240,16 +161,17 @@ fn known_sum(
     Ok(Some(total))
 }
 
-/// The rest of a product, behind factors that give this.
+/// As `known`, for a product.
 #[cycle(known)]
+#[inline(never)]
 fn known_product(
     alloc: Global,
     text: &ModelText,
     node: &Node,
     held: &mut Held,
     scope: &Scope,
+    first: &Shared<Expr>,
     rest: &List<ProductPart>,
-    start: Value,
     room: &mut Items<Value>,
     events: &mut Items<Event>,
     reach: &Reach,
@@ -258,9 +180,16 @@ fn known_product(
     requires memo { IsMemo text.now held.old.entries }
     requires room { length held.old.entries ≤ reach.now.most }
     ensures holds { HoldsOn text.now reach.now.most reach.now.deeper held.old.entries held.new.entries }
-    ensures known { IfOk result (λ value. IfSome value (IsKnownAs text.now reach.now.deeper node.now held.old.entries held.new.entries (product_from (map product_read rest.now) start (env_of node.now scope.now)) events.old events.new)) }
+    ensures known { IfOk result (λ value. IfSome value (IsKnownAs text.now reach.now.deeper node.now held.old.entries held.new.entries (λ (go : Value → Run). reading first.now (env_of node.now scope.now) (λ v. product_from (map product_read rest.now) v (env_of node.now scope.now) go)) events.old events.new)) }
     ensures behind { OnOk result (GoesBehind events.old events.new) }
 {
+    let first = first.get();
+    let Some(start) = known(
+        alloc, text, node, held, scope, first, room, events, reach, nested,
+    )?
+    else {
+        return Ok(None);
+    };
     let mut total = start;
     for part in rest.as_slice() {
         let Some(value) = known(
@@ -277,16 +206,17 @@ fn known_product(
     Ok(Some(total))
 }
 
-/// The rest of a chain of comparisons, behind a part of this value.
+/// As `known`, for a chain of comparisons.
 #[cycle(known)]
+#[inline(never)]
 fn known_comparison(
     alloc: Global,
     text: &ModelText,
     node: &Node,
     held: &mut Held,
     scope: &Scope,
+    first: &Shared<Expr>,
     rest: &List<Comparison>,
-    start: Value,
     room: &mut Items<Value>,
     events: &mut Items<Event>,
     reach: &Reach,
@@ -295,9 +225,16 @@ fn known_comparison(
     requires memo { IsMemo text.now held.old.entries }
     requires room { length held.old.entries ≤ reach.now.most }
     ensures holds { HoldsOn text.now reach.now.most reach.now.deeper held.old.entries held.new.entries }
-    ensures known { IfOk result (λ value. IfSome value (IsKnownAs text.now reach.now.deeper node.now held.old.entries held.new.entries (compared_from (map comparison_read rest.now) start (env_of node.now scope.now)) events.old events.new)) }
+    ensures known { IfOk result (λ value. IfSome value (IsKnownAs text.now reach.now.deeper node.now held.old.entries held.new.entries (λ (go : Value → Run). reading first.now (env_of node.now scope.now) (λ v. compared_from (map comparison_read rest.now) v (env_of node.now scope.now) go)) events.old events.new)) }
     ensures behind { OnOk result (GoesBehind events.old events.new) }
 {
+    let first = first.get();
+    let Some(start) = known(
+        alloc, text, node, held, scope, first, room, events, reach, nested,
+    )?
+    else {
+        return Ok(None);
+    };
     let mut left = start;
     for comparison in rest.as_slice() {
         let Comparison::Op(op, right) = comparison else {
@@ -318,8 +255,9 @@ fn known_comparison(
     Ok(Some(Value::Flag(true)))
 }
 
-/// The arms of a conditional, up to the first whose test holds.
+/// As `known`, for a conditional of these arms and this last part.
 #[cycle(known)]
+#[inline(never)]
 fn known_choice(
     alloc: Global,
     text: &ModelText,
@@ -327,15 +265,16 @@ fn known_choice(
     held: &mut Held,
     scope: &Scope,
     arms: &List<Arm>,
+    last: &Shared<Expr>,
     room: &mut Items<Value>,
     events: &mut Items<Event>,
     reach: &Reach,
     nested: usize,
-) -> Result<Choice, AllocError>
+) -> Result<Option<Value>, AllocError>
     requires memo { IsMemo text.now held.old.entries }
     requires room { length held.old.entries ≤ reach.now.most }
     ensures holds { HoldsOn text.now reach.now.most reach.now.deeper held.old.entries held.new.entries }
-    ensures known { IfOk result (IsChosen text.now reach.now.deeper node.now held.old.entries held.new.entries arms.now (env_of node.now scope.now) events.old events.new) }
+    ensures known { IfOk result (λ value. IfSome value (IsKnownAs text.now reach.now.deeper node.now held.old.entries held.new.entries (choice_from (map arm_read arms.now) (reading last.now) (env_of node.now scope.now)) events.old events.new)) }
     ensures behind { OnOk result (GoesBehind events.old events.new) }
 {
     for arm in arms.as_slice() {
@@ -343,56 +282,34 @@ fn known_choice(
             alloc, text, node, held, scope, &arm.test, room, events, reach, nested,
         )?
         else {
-            return Ok(Choice::Unknown);
+            return Ok(None);
         };
         match truth(&test) {
-            Ok(true) => return known_arm(
-                alloc, text, node, held, scope, arm, room, events, reach, nested,
-            ),
+            Ok(true) => {
+                return known(
+                    alloc, text, node, held, scope, &arm.value, room, events, reach, nested,
+                );
+            }
             Ok(false) => {}
-            Err(_) => return Ok(Choice::Unknown),
+            Err(_) => return Ok(None),
         }
     }
-    Ok(Choice::Last)
-}
-
-/// The value of an arm whose test holds.
-#[cycle(known)]
-fn known_arm(
-    alloc: Global,
-    text: &ModelText,
-    node: &Node,
-    held: &mut Held,
-    scope: &Scope,
-    arm: &Arm,
-    room: &mut Items<Value>,
-    events: &mut Items<Event>,
-    reach: &Reach,
-    nested: usize,
-) -> Result<Choice, AllocError>
-    requires memo { IsMemo text.now held.old.entries }
-    requires room { length held.old.entries ≤ reach.now.most }
-    ensures holds { HoldsOn text.now reach.now.most reach.now.deeper held.old.entries held.new.entries }
-    ensures known { IfOk result (IsTaken text.now reach.now.deeper node.now held.old.entries held.new.entries arm.now (env_of node.now scope.now) events.old events.new) }
-    ensures behind { OnOk result (GoesBehind events.old events.new) }
-{
-    match known(
-        alloc, text, node, held, scope, &arm.value, room, events, reach, nested,
-    )? {
-        Some(value) => Ok(Choice::Value(value)),
-        None => Ok(Choice::Unknown),
-    }
+    let last = last.get();
+    known(
+        alloc, text, node, held, scope, last, room, events, reach, nested,
+    )
 }
 
 /// A call by name with arguments at hand.
 #[cycle(known)]
+#[inline(never)]
 fn known_call(
     alloc: Global,
     text: &ModelText,
     node: &Node,
     held: &mut Held,
     scope: &Scope,
-    first: &Expr,
+    first: &Shared<Expr>,
     trailers: &List<Trailer>,
     room: &mut Items<Value>,
     events: &mut Items<Event>,
@@ -405,7 +322,16 @@ fn known_call(
     ensures known { IfOk result (λ value. IfSome value (IsKnownAs text.now reach.now.deeper node.now held.old.entries held.new.entries (λ (go : Value → Run). reading first.now (env_of node.now scope.now) (λ v. trailed_from (map trailer_read trailers.now) v (env_of node.now scope.now) go)) events.old events.new)) }
     ensures behind { OnOk result (GoesBehind events.old events.new) }
 {
-    match call_at_once(alloc, text, node, scope, first, trailers, room, events)? {
+    match call_at_once(
+        alloc,
+        text,
+        node,
+        scope,
+        first.get(),
+        trailers,
+        room,
+        events,
+    )? {
         Some(to) => ask_known(alloc, text, held, to, room, events, reach, nested),
         None => Ok(None),
     }

@@ -1,6 +1,4 @@
 use Rattle.std.proofs.Common.{◌≡◌, ap, sym, subst, ◌∙◌, List, [], false, rules}
-use Rattle.mx_value.specs.declared.node.Node.{Node}
-use Rattle.mx_value.specs.declared.value.Value.{Value}
 use Rattle.mx_formula.specs.declared.frame.Next.{Next}
 use Rattle.mx_formula.specs.declared.frame.Next.TheVariants.{Eval, Give, Ask, Fault}
 use Rattle.mx_formula.specs.declared.frame.Task.{Task}
@@ -28,15 +26,15 @@ loop-preserved c =
           rw (w.tasks-is, w.events-is, w.scope-is, w.next-is, w.held-is) (record {
             still = w.enter_known.ensures.still ∙ still;
             past = went_on c.args.text.now 0 c.args.node.now c.args.held.now.entries start (stands c.loop.next) (stands (Eval w.in-Eval.expr)) (run_at w.in_ok-next-in-Eval.next w.enter_known.new.tasks.items env) c.args.events.now c.loop.events w.enter_known.new.events c.loop.invariant.past
-            (ap stands w.in-Eval.is) (there (stands (Eval w.in-Eval.expr)) (run_at w.in_ok-next-in-Eval.next w.enter_known.new.tasks.items env) w.enter_known.new.events w.in_ok-next-in-Eval.ensures.past);
+                (ap stands w.in-Eval.is) (there (stands (Eval w.in-Eval.expr)) (run_at w.in_ok-next-in-Eval.next w.enter_known.new.tasks.items env) w.enter_known.new.events w.in_ok-next-in-Eval.ensures.past);
           })
       | in-Give-next+in-Some+in_ok-next-in-Some w ↦
           let done : Run = continued w.in-Some.task (ended false c.args.node.now) (cont_at c.args.node.now w.pop.new.self.items) env w.in-Give-next.value in
           rw (w.tasks-is, w.events-is, w.scope-is, w.next-is, w.held-is) (record {
             still = still;
             past = went_on c.args.text.now 0 c.args.node.now c.args.held.now.entries start (stands c.loop.next) done (run_at w.in_ok-next-in-Some.next w.go_on.new.tasks.items (env_of c.args.node.now w.go_on.new.scope)) c.args.events.now c.loop.events w.go_on.new.events c.loop.invariant.past
-            (ap stands w.in-Give-next.is ∙ taken env c.loop.tasks.items w.pop.new.self.items w.in-Some.task w.in-Give-next.value w.in-Some.ensures.items)
-            (past_alone c.args.text.now 0 c.args.node.now c.args.held.now.entries done (run_at w.in_ok-next-in-Some.next w.go_on.new.tasks.items (env_of c.args.node.now w.go_on.new.scope)) c.loop.events w.go_on.new.events w.in_ok-next-in-Some.ensures);
+                (ap stands w.in-Give-next.is ∙ taken env c.loop.tasks.items w.pop.new.self.items w.in-Some.task w.in-Give-next.value w.in-Some.ensures.items)
+                (past_alone c.args.text.now 0 c.args.node.now c.args.held.now.entries done (run_at w.in_ok-next-in-Some.next w.go_on.new.tasks.items (env_of c.args.node.now w.go_on.new.scope)) c.loop.events w.go_on.new.events w.in_ok-next-in-Some.ensures);
           })
       | in-Ask+in_ok-value-in-Ask+in-Some-2+in-Cell-1 w ↦
           let k : IsKnownAs c.args.text.now 0 c.args.node.now c.loop.held.entries c.loop.held.entries (asking w.in-Ask.to) c.loop.events w.ask_held.new.events w.in-Some-2.value = rw w.in-Some-2.is at (w.in_ok-value-in-Ask.ensures.known 0 c.args.node.now) in

@@ -1,21 +1,16 @@
-use Rattle.std.proofs.Common.{◌≡◌, suc, List, [], ◌∷◌, ◌++◌, length, map, get_or, reverse, subst, sym, ap, ◌∙◌, refl, arith, length-append}
+use Rattle.std.proofs.Common.{◌≡◌, suc, List, [], ◌∷◌, ◌++◌, length, map, get_or, subst, sym, ap, ◌∙◌, arith, length-append}
 use Rattle.std.specs.Map.{lookup}
 use Rattle.std.proofs.lemmas.List.Quantifiers.{position-Some}
 use Rattle.mx_value.specs.declared.node.Node.{Node}
 use Rattle.mx_value.specs.Equality.{node_eq}
 use Rattle.mx_value.proofs.NodeSames.{node_decides}
-use Rattle.mx_meaning.specs.declared.event.Reply.{Reply}
-use Rattle.mx_meaning.specs.declared.event.Event.TheVariants.{Asked}
 use Rattle.mx_meaning.specs.Lists.{Has}
-use Rattle.mx_meaning.specs.Held.{Entry, nodes_of}
-use Rattle.mx_meaning.specs.Runs.{Gives, NoSuch as NoSuchNode, WrongCount as BadCount}
-use Rattle.mx_meaning.specs.Meaning.{Means}
-use Rattle.mx_meaning.proofs.Lists.{has_map}
+use Rattle.mx_meaning.specs.Held.{nodes_of}
+use Rattle.mx_meaning.specs.Runs.{NoSuch as NoSuchNode, WrongCount as BadCount}
 use Rattle.mx_machine.specs.declared.machine.Begun.{Begun}
-use Rattle.mx_machine.specs.Frames.{Waiter, going, Begins, StartsAt, EndsUnasked, runs_begun}
-use Rattle.mx_machine.proofs.Places.{found_entry, found_key, missing_entry}
-use Rattle.mx_machine.proofs.Tops.{top_given}
-use Rattle.mx_machine.proofs.Moves.{running_by, ring_step, deep_step, unasked_step, begun_step}
+use Rattle.mx_machine.specs.Frames.{Waiter, Begins, StartsAt, EndsUnasked, runs_begun}
+use Rattle.mx_machine.proofs.Places.{missing_entry}
+use Rattle.mx_machine.proofs.Moves.{ring_step, deep_step, unasked_step, begun_step}
 use Rattle.mx_machine.proofs.Maps.{pushed_entry, none_there, off_frames}
 use Rattle.mx_machine.proofs.machine.ask.Goals as goal
 

@@ -1,11 +1,7 @@
-use Rattle.std.proofs.Common.{◌≡◌, ◌+◌, ◌-◌, Some, None, List, length, arith, refl, sym, subst, ap, ◌∙◌}
-use Rattle.std.specs.Map.{lookup}
-use Rattle.mx_value.specs.declared.node.Node.{Node}
-use Rattle.mx_value.specs.Equality.{node_eq}
+use Rattle.std.proofs.Common.{◌≡◌, List, arith, refl, sym, subst, ap, ◌∙◌}
 use Rattle.mx_meaning.specs.declared.event.Reply.{Reply}
 use Rattle.mx_meaning.specs.Lists.{Has}
 use Rattle.mx_meaning.specs.Held.{Entry, nodes_of}
-use Rattle.mx_meaning.specs.Answers.{Answer}
 use Rattle.mx_meaning.proofs.Lists.{has_map}
 use Rattle.mx_machine.proofs.Places.{found_entry, missing_entry}
 use Rattle.mx_machine.proofs.Evals.{held_answer, zero_deep}

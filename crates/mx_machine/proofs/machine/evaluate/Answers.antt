@@ -1,4 +1,4 @@
-use Rattle.std.proofs.Common.{◌≡◌, arith, refl, sym, subst, ◌∙◌}
+use Rattle.std.proofs.Common.{◌≡◌, refl, sym, subst, ◌∙◌}
 use Rattle.mx_value.specs.declared.node.Node.{Node}
 use Rattle.mx_meaning.specs.Lists.{Has}
 use Rattle.mx_meaning.specs.Held.{nodes_of}

@@ -9,7 +9,7 @@ use Rattle.mx_meaning.specs.Held.{Entry, Grown, IsMemo, nodes_of}
 use Rattle.mx_machine.specs.declared.machine.Progress.{Progress}
 use Rattle.mx_machine.specs.declared.machine.Progress.TheVariants.{Fault}
 use Rattle.mx_formula.specs.Tasks.{run_at, env_of, stopped_at}
-use Rattle.mx_machine.specs.Frames.{IsGood, IsNew, IsStep, IsTop, depth_after}
+use Rattle.mx_machine.specs.Frames.{IsGood, IsStep, IsTop, depth_after}
 use Rattle.mx_machine.proofs.Past.{top_past}
 use Rattle.mx_machine.proofs.Tops.{lost_reversed, top_at, fault_top}
 use Rattle.mx_machine.proofs.machine.step.Goals as goal

@@ -1,4 +1,4 @@
-use Rattle.std.proofs.Common.{◌≤◌, ◌+◌, ◌≡◌, length, arith}
+use Rattle.std.proofs.Common.{arith}
 use Rattle.mx_machine.specs.Past.{IsRunFor}
 use Rattle.mx_machine.proofs.Evals.{grown_length, run_answer}
 use Rattle.mx_machine.proofs.search.search.Goals as goal
