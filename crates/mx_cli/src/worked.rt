@@ -231,6 +231,31 @@ const FAULTS: [(&[u8], &[u8]); 12] = [
     ),
 ];
 
+/// Evaluations whose search is given up: an expression too far within others, a formula of several lines, a fault and a ring
+/// behind values that were found. The first and the last are found by it.
+const SEARCHES: [(&[u8], &[u8]); 5] = [
+    (
+        b"cells f(n) = 0 if n < 1 else 0 + (0 + (0 + (0 + (0 + (0 + (1 + f(n - 1)))))))\neval f(3)\neval f(150)\n",
+        b"ok\n= 3 runs 4\n= 150 runs 147\n",
+    ),
+    (
+        b"cells a(n) = 1 if n < 1 else a(n - 1) + 1\ndef b(n):\n    x = a(n)\n    return x * 2\ncells c(n) = a(n) + b(n)\neval c(3)\neval a(9)\neval c(3)\n",
+        b"ok\nok\nok\n= 12 runs 6\n= 10 runs 6\n= 12 runs 0\n",
+    ),
+    (
+        b"cells a(n) = n * 2\ncells d(n) = a(n) + a(n + 1) + 1 // n\neval d(0)\neval a(0)\neval a(1)\neval d(1)\n",
+        b"ok\nok\nfault ZeroDivision at Main.d(0) line 1\n= 0 runs 0\n= 2 runs 0\n= 7 runs 2\n",
+    ),
+    (
+        b"cells a(n) = n\ncells r(n) = a(n) + s(n)\ncells s(n) = a(n + 1) + r(n)\neval r(1)\neval a(2)\n",
+        b"ok\nok\nok\nring Main.r(1) -> Main.s(1) -> Main.r(1)\n= 2 runs 0\n",
+    ),
+    (
+        b"cells a(n) = 1 if n < 1 else a(n - 1) + 1\neval a(3)\ncells a(n) = 2 if n < 1 else a(n - 1) + 1\neval a(3)\n",
+        b"ok\n= 4 runs 4\nok\n= 5 runs 4\n",
+    ),
+];
+
 fn answer_all(rt: &impl Abort, alloc: Global, rows: &[(&[u8], &[u8])]) -> Result<(), Fail> {
     for (script, output) in rows {
         answers(rt, alloc, script, output)?;
@@ -256,6 +281,11 @@ fn operators_stop_where_a_part_decides(rt: HostRuntime) -> Result<(), Fail> {
 #[test]
 fn a_fault_is_told_with_its_node_and_line(rt: HostRuntime) -> Result<(), Fail> {
     answer_all(&rt, rt.alloc(), &FAULTS)
+}
+
+#[test]
+fn a_search_that_is_given_up_leaves_no_trace(rt: HostRuntime) -> Result<(), Fail> {
+    answer_all(&rt, rt.alloc(), &SEARCHES)
 }
 
 /// The definition of cells by a number in so many parentheses, and a question.

@@ -1,4 +1,4 @@
-//! Evaluation on an explicit stack: the runs in flight, and what is held.
+//! Evaluation by recursion, and on an explicit stack where that is given up: the runs in flight, and what is held.
 #![tactic(auto)]
 
 pub mod binding;
