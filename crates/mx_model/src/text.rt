@@ -66,7 +66,10 @@ impl ModelText {
     pub fn has_path(&self, path: &Path) -> bool
         ensures { result ≡ same_path path.now main_path }
     {
-        *path == self.path
+        match path.as_slice() {
+            [name] => *name == self.main,
+            _ => false,
+        }
     }
 
     /// Whether this is the address of the space Main.
@@ -93,7 +96,7 @@ impl ModelText {
     pub fn formula_at(&self, path: &Path, name: &Label) -> Option<&Formula>
         ensures { option_copied result ≡ formula_at self.now path.now name.now }
     {
-        if *path == self.path {
+        if self.has_path(path) {
             return self.cells.get(name);
         }
         None

@@ -1,6 +1,5 @@
-use Rattle.std.proofs.Common.{◌≡◌, ◌≤◌, ℕ, Bool, true, false, length, refl, ap, arith, Some}
+use Rattle.std.proofs.Common.{◌≡◌, ◌≤◌, true, false, length, ap, arith}
 use Rattle.mx_meaning.specs.Model.{main_path}
-use Rattle.mx_meaning.specs.Expressions.{path_of}
 use Rattle.mx_model.proofs.Texts.{path_long}
 use Rattle.mx_model.proofs.text.ModelText.has_space.Goals as goal
 
