@@ -8,10 +8,10 @@ use Rattle.mx_value.specs.declared.value.CellsAt.{CellsAt, roll-CellsAt}
 use Rattle.mx_value.specs.declared.node.Node.{Node}
 use Rattle.mx_value.specs.declared.node.Node.TheVariants.{Cell, Item}
 use Rattle.mx_meaning.specs.declared.event.Event.{Event}
-use Rattle.mx_meaning.specs.Model.{Text}
+use Rattle.mx_meaning.specs.Model.{Text, formula_at, main_path}
 use Rattle.mx_meaning.specs.Runs.{Run, Asks, Env, Reading, fault, computed}
 use Rattle.mx_meaning.specs.Operators.{added, multiplied, compared, changed, truth, denied_truth, signed}
-use Rattle.mx_meaning.specs.Expressions.{reading, sum_read, product_read, comparison_read, arm_read, trailer_read, sum_from, product_from, compared_from, or_from, and_from, tested, choice_from, arguments_from, trailed_from, called, cells_in}
+use Rattle.mx_meaning.specs.Expressions.{reading, sum_read, product_read, comparison_read, arm_read, trailer_read, sum_from, product_from, compared_from, or_from, and_from, tested, choice_from, arguments_from, trailed_from, called, cells_in, path_of}
 use Rattle.mx_meaning.specs.Statements.{set_local, doing_from, arms_doing, given_locals, unset_locals, ended}
 use Rattle.mx_meaning.specs.Meaning.{Leads}
 use Rattle.mx_meaning.specs.Chains.{asks_of}
@@ -50,6 +50,11 @@ own_local local = (local.name, local.value)
 abbrev pub locals_in : Locals → List Param → List Value → List (Label × Option Value)
 locals_in locals.Arguments params args = given_locals params args
 locals_in (locals.Own own) params args = map own_local own.items
+
+-- the node is one of cells of the space Main, and they have this formula
+abbrev pub RunsBy : Text → Node → Formula → Type 0
+RunsBy text (Cell at name args) f = (path_of at ≡ Some main_path) × (formula_at text main_path name ≡ Some f)
+RunsBy text (Item at args) f = ⊥
 
 -- the arguments bind, and these are the locals with which the formula begins
 pub record BeginsWith (f : Formula) (args : List Value) (ls : Locals) : Type 0 where

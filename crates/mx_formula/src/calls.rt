@@ -186,7 +186,7 @@ pub fn enter_trailed(
         &mut room,
         events,
     )? {
-        return Ok(Next::Ask(called));
+        return Ok(Next::Ask(called.node));
     }
     enter_part(alloc, text, node, scope, first, trailers, tasks, events)
 }

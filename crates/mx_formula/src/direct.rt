@@ -1,10 +1,10 @@
 //! Calls by name with all arguments at hand. They need no task, and their cells are looked up once.
 ghost use Rattle.std.specs.Prelude.{◌≡◌, ◌++◌, ◌∷◌, [], List as Many, map, Some, None, false, IfOk, OnOk, IfSome, MatchOption};
 ghost use Rattle.mx_value.specs.declared.value.Value.{Value};
-ghost use Rattle.mx_meaning.specs.Model.{FormulaHere, formula_at, main_path};
+ghost use Rattle.mx_meaning.specs.Model.{Text, FormulaHere, formula_at, main_path};
 ghost use Rattle.mx_meaning.specs.Runs.{Env, Run, Asks};
 ghost use Rattle.mx_meaning.specs.Expressions.{reading, local_of, path_of, arguments_from, call_result, trailed_from, trailer_read};
-ghost use Rattle.mx_formula.specs.Tasks.{address_of, locals_in, arguments_of, cells_at, env_of, GoesOnAlone};
+ghost use Rattle.mx_formula.specs.Tasks.{address_of, locals_in, arguments_of, cells_at, env_of, GoesOnAlone, RunsBy};
 
 use crate::calls::{address, arguments_at_hand, bind_call, call_arguments};
 use crate::frame::Scope;
@@ -24,19 +24,27 @@ use mx_value::value::{Addr, Value};
 use std::alloc::{AllocError, Global};
 use std::mem;
 
+/// The node that a call asks, and the formula of its cells.
+#[derive(Drop)]
+pub struct Called<'t> {
+    pub node: Node,
+    pub formula: &'t Formula,
+}
+
 /// The node that a call of cells by their name asks, with arguments that are at hand, and nothing behind it. None for all
 /// else, and where the arguments are not plain or do not bind, with no event. The arguments are put where there is room.
-pub fn call_at_once(
+pub fn call_at_once<'t>(
     alloc: Global,
-    text: &ModelText,
+    text: &'t ModelText,
     node: &Node,
     scope: &Scope,
     first: &Expr,
     trailers: &List<Trailer>,
     room: &mut Items<Value>,
     events: &mut Items<Event>,
-) -> Result<Option<Node>, AllocError>
-    ensures { IfOk result (λ called. MatchOption called (events.new ≡ events.old) (λ m. (go : Value → Run) → GoesOnAlone text.now (reading first.now (env_of node.now scope.now) (λ v. trailed_from (map trailer_read trailers.now) v (env_of node.now scope.now) go)) events.old events.new (Asks m (λ r. go r.value)))) }
+) -> Result<Option<Called<'t>>, AllocError>
+    ensures asks { IfOk result (λ called. MatchOption called (events.new ≡ events.old) (λ c. (go : Value → Run) → GoesOnAlone text.now (reading first.now (env_of node.now scope.now) (λ v. trailed_from (map trailer_read trailers.now) v (env_of node.now scope.now) go)) events.old events.new (Asks c.node (λ r. go r.value)))) }
+    ensures formula { IfOk result (λ called. IfSome called (λ c. RunsBy text.now c.node c.formula.now)) }
 {
     let Some((name, arguments)) = named_call(first, trailers) else {
         return Ok(None);
@@ -47,11 +55,14 @@ pub fn call_at_once(
     let Some(values) = values_at_hand(alloc, node, scope, arguments, room)? else {
         return Ok(None);
     };
-    let Some(called) = node_called(alloc, address(node), name, formula, values)? else {
+    let Some(asked) = node_called(alloc, address(node), name, formula, values)? else {
         return Ok(None);
     };
     note_call(text, scope, name, events)?;
-    Ok(Some(called))
+    Ok(Some(Called {
+        node: asked,
+        formula,
+    }))
 }
 
 /// The node that a call of cells with this formula asks, where the arguments are plain and bind.
@@ -62,7 +73,8 @@ fn node_called(
     formula: &Formula,
     arguments: Items<Value>,
 ) -> Result<Option<Node>, AllocError>
-    ensures { IfOk result (λ called. IfSome called (λ m. (env : Env) (go : Value → Run) → call_result (cells_at at.now name.now) arguments env go (FormulaHere formula.now false) ≡ Asks m (λ r. go r.value))) }
+    ensures asks { IfOk result (λ called. IfSome called (λ m. (env : Env) (go : Value → Run) → call_result (cells_at at.now name.now) arguments env go (FormulaHere formula.now false) ≡ Asks m (λ r. go r.value))) }
+    ensures formula { (text : Text) → path_of at.now ≡ Some main_path → formula_at text main_path name.now ≡ Some formula.now → IfOk result (λ called. IfSome called (λ m. RunsBy text m formula.now)) }
 {
     if !are_plain(&arguments) {
         return Ok(None);
