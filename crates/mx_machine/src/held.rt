@@ -1,5 +1,5 @@
 //! What is held, and how a run goes past the held nodes that it asks.
-ghost use Rattle.std.specs.Prelude.{◌≡◌, ◌++◌, ◌∷◌, ◌≤◌, [], ℕ, suc, length, false, None, IfOk, OnOk, OnErr, MatchOption};
+ghost use Rattle.std.specs.Prelude.{◌≡◌, ◌++◌, ◌∷◌, ◌≤◌, ◌⊎◌, [], ℕ, suc, length, false, None, IfOk, OnOk, OnErr, IfNone, MatchOption};
 ghost use Rattle.mx_meaning.specs.Lists.{Has};
 ghost use Rattle.mx_meaning.specs.Held.{IsMemo, nodes_of};
 ghost use Rattle.mx_meaning.specs.Runs.{Ends, Gives};
@@ -65,8 +65,8 @@ pub fn arguments_in(node: Node) -> Items<Value>
     }
 }
 
-/// The run of a node ended with this value, and the node is held from then on. None where the value is None, which is a
-/// fault, and where no more may be held.
+/// The run of a node ended with this value, and the node is held from then on. None just where the value is None, which is a
+/// fault, or where no more may be held.
 pub fn hold(
     alloc: Global,
     most: usize,
@@ -79,6 +79,7 @@ pub fn hold(
     requires new { Has (nodes_of held.old.entries) node → ⊥ }
     ensures room { length held.new.entries ≤ most }
     ensures held { IfOk result (λ found. MatchOption found (held.new.entries ≡ held.old.entries) (λ f. (f.node ≡ node) × (ended false node value ≡ Ends (Gives f.reply)) × (held.new.entries ≡ held.old.entries ++ (node, record { reply = f.reply; events = events }) ∷ []))) }
+    ensures none { IfOk result (λ found. IfNone found ((value ≡ Value.Nothing) ⊎ (most ≤ length held.old.entries))) }
     ensures lost { OnErr result (held.new.entries ≡ held.old.entries) }
 {
     if held.len() >= most {

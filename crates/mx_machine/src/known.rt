@@ -7,13 +7,13 @@ ghost use Rattle.mx_meaning.specs.Lists.{Has};
 ghost use Rattle.mx_meaning.specs.Held.{IsMemo, nodes_of};
 ghost use Rattle.mx_meaning.specs.Runs.{Run};
 ghost use Rattle.mx_meaning.specs.Expressions.{reading, sum_from, sum_read, product_from, product_read, compared_from, comparison_read, choice_from, arm_read, trailed_from, trailer_read};
-ghost use Rattle.mx_formula.specs.Tasks.{env_of};
+ghost use Rattle.mx_formula.specs.Tasks.{RunsBy, env_of};
 ghost use Rattle.mx_machine.specs.Past.{IsKnown, IsKnownAs, GoesBehind, HoldsOn, HasRun, asking};
 
 use crate::held::{Found, Held, arguments_in, ask_held, hold};
-use crate::opening::{Opening, Start, opened};
+use crate::opening::{Opening, opened_by};
 use mx_formula::at_hand::at_hand;
-use mx_formula::direct::call_at_once;
+use mx_formula::direct::{Called, call_at_once};
 use mx_formula::frame::Scope;
 use mx_formula::locals::only_line;
 use mx_list::items::Items;
@@ -23,6 +23,7 @@ use mx_meaning::event::Event;
 use mx_model::text::ModelText;
 use mx_ops::arithmetic::{add, compare, multiply, truth};
 use mx_syntax::expr::{Arm, Comparison, Expr, ProductPart, SumPart, Trailer};
+use mx_syntax::stmt::Formula;
 use mx_value::node::Node;
 use mx_value::value::Value;
 use std::alloc::{AllocError, Global};
@@ -332,18 +333,21 @@ fn known_call(
         room,
         events,
     )? {
-        Some(to) => ask_known(alloc, text, held, to, room, events, reach, nested),
+        Some(Called { node: to, formula }) => ask_known(
+            alloc, text, held, to, formula, room, events, reach, nested,
+        ),
         None => Ok(None),
     }
 }
 
-/// The value of a node that is asked: it is held, or found by a run of its own.
+/// The value of a node that is asked, whose cells have this formula: it is held, or found by a run of its own.
 #[cycle(known)]
 fn ask_known(
     alloc: Global,
     text: &ModelText,
     held: &mut Held,
     to: Node,
+    formula: &Formula,
     room: &mut Items<Value>,
     events: &mut Items<Event>,
     reach: &Reach,
@@ -351,6 +355,7 @@ fn ask_known(
 ) -> Result<Option<Value>, AllocError>
     requires memo { IsMemo text.now held.old.entries }
     requires room { length held.old.entries ≤ reach.now.most }
+    requires formula { RunsBy text.now to formula.now }
     ensures holds { HoldsOn text.now reach.now.most reach.now.deeper held.old.entries held.new.entries }
     ensures known { (n : Node) → IfOk result (λ value. IfSome value (IsKnownAs text.now reach.now.deeper n held.old.entries held.new.entries (asking to) events.old events.new)) }
     ensures behind { OnOk result (GoesBehind events.old events.new) }
@@ -359,7 +364,7 @@ fn ask_known(
         *room = arguments_in(to);
         return Ok(Some(value));
     }
-    match run_found(alloc, text, held, to, room, reach, nested)? {
+    match run_found(alloc, text, held, to, formula, room, reach, nested)? {
         Some(Found { node, reply }) => {
             let value = reply.get().value.copy(alloc)?;
             events.push(Event::Asked(node, reply))?;
@@ -369,14 +374,15 @@ fn ask_known(
     }
 }
 
-/// The reply of a node that is not held, from a run of its own, and held from then on. None where its formula has several
-/// lines, or its value is not found.
+/// The reply of a node that is not held, and whose cells have this formula, from a run of its own, and held from then on.
+/// None where the formula has several lines, or the value is not found.
 #[cycle(known)]
 pub fn run_found(
     alloc: Global,
     text: &ModelText,
     held: &mut Held,
     to: Node,
+    formula: &Formula,
     room: &mut Items<Value>,
     reach: &Reach,
     nested: usize,
@@ -384,6 +390,7 @@ pub fn run_found(
     requires memo { IsMemo text.now held.old.entries }
     requires room { length held.old.entries ≤ reach.now.most }
     requires new { Has (nodes_of held.old.entries) to → ⊥ }
+    requires formula { RunsBy text.now to formula.now }
     ensures holds { HoldsOn text.now reach.now.most reach.now.deeper held.old.entries held.new.entries }
     ensures run { IfOk result (λ found. IfSome found (λ f. (f.node ≡ to) × ((limit depth : ℕ) → depth + reach.now.deeper ≤ limit → HasRun text.now limit (suc depth) held.old.entries held.new.entries to f.reply))) }
 {
@@ -396,7 +403,7 @@ pub fn run_found(
         deeper,
     };
     let node = Shared::new(alloc, to)?;
-    let Start::Run(opening) = opened(alloc, text, &node)? else {
+    let Some(opening) = opened_by(alloc, text, &node, formula)? else {
         return Ok(None);
     };
     let Opening {

@@ -1,9 +1,14 @@
 //! How the run of a node opens, before its first step.
-ghost use Rattle.std.specs.Prelude.{◌≡◌, ◌∷◌, [], IfOk};
+ghost use Rattle.std.specs.Prelude.{◌≡◌, ◌∷◌, [], List as Many, Some, IfOk, IfSome};
 ghost use Rattle.mx_value.specs.declared.node.Node.{Node};
-ghost use Rattle.mx_machine.specs.Openings.{Opens};
+ghost use Rattle.mx_value.specs.declared.value.Segment.{Segment};
+ghost use Rattle.mx_value.specs.declared.value.Value.{Value};
+ghost use Rattle.mx_meaning.specs.Model.{Text, formula_at};
+ghost use Rattle.mx_meaning.specs.Expressions.{path_of};
+ghost use Rattle.mx_formula.specs.Tasks.{BeginsWith, RunsBy};
+ghost use Rattle.mx_machine.specs.Openings.{IsOpen, Opens};
 
-use mx_formula::frame::Scope;
+use mx_formula::frame::{Locals, Scope};
 use mx_formula::locals::first_locals;
 use mx_list::items::Items;
 use mx_list::shared::Shared;
@@ -66,6 +71,42 @@ fn opened_cells<'t>(
     let Some(locals) = first_locals(alloc, formula, arguments)? else {
         return Ok(Start::WrongCount);
     };
+    Ok(Start::Run(opened_with(
+        alloc, node, source, name, formula, locals,
+    )?))
+}
+
+/// The run of a node whose cells have this formula looks it up. None where its arguments don't bind.
+pub fn opened_by<'t>(
+    alloc: Global,
+    text: &ModelText,
+    node: &Shared<Node>,
+    formula: &'t Formula,
+) -> Result<Option<Opening<'t>>, AllocError>
+    requires { RunsBy text.now node.now formula.now }
+    ensures { IfOk result (λ opening. IfSome opening (IsOpen text.now node.now)) }
+{
+    let Node::Cell(_, name, arguments) = node.get() else {
+        return Ok(None);
+    };
+    let Some(locals) = first_locals(alloc, formula, arguments)? else {
+        return Ok(None);
+    };
+    let source = text.path().copy()?;
+    Ok(Some(opened_with(alloc, node, source, name, formula, locals)?))
+}
+
+/// The run of a cells node, whose formula begins with these locals.
+fn opened_with<'t>(
+    alloc: Global,
+    node: &Shared<Node>,
+    source: Path,
+    name: &Label,
+    formula: &'t Formula,
+    locals: Locals,
+) -> Result<Opening<'t>, AllocError>
+    ensures { (text : Text) (at : Many Segment) (args : Many Value) → node.now ≡ Node.Cell at name.now args → path_of at ≡ Some source → formula_at text source name.now ≡ Some formula.now → BeginsWith formula.now args locals → IfOk result (IsOpen text node.now) }
+{
     let events = first_events(alloc, node, &source, name)?;
     let scope = Scope {
         source,
@@ -73,11 +114,11 @@ fn opened_cells<'t>(
         locals,
         line: 1,
     };
-    Ok(Start::Run(Opening {
+    Ok(Opening {
         formula,
         scope,
         events,
-    }))
+    })
 }
 
 /// What the run of a cells node does first: it looks for an input, and then its formula up.

@@ -3,6 +3,7 @@ ghost use Rattle.std.specs.Prelude.{◌≡◌, ◌+◌, ◌≤◌, length, IfOk,
 ghost use Rattle.mx_meaning.specs.Lists.{Has};
 ghost use Rattle.mx_meaning.specs.Held.{IsMemo, HoldsMore, nodes_of};
 ghost use Rattle.mx_meaning.specs.Answers.{GivesValue, HasRoom};
+ghost use Rattle.mx_formula.specs.Tasks.{RunsBy};
 ghost use Rattle.mx_machine.specs.Past.{HoldsOn, IsRunFor};
 
 use crate::held::Held;
@@ -10,6 +11,7 @@ use crate::known::{NESTED, Reach, run_found};
 use crate::steps::Steps;
 use mx_list::items::Items;
 use mx_model::text::ModelText;
+use mx_syntax::stmt::Formula;
 use mx_value::node::Node;
 use mx_value::value::Value;
 use std::alloc::{AllocError, Global};
@@ -71,6 +73,9 @@ fn value_found(
     ensures holds { HoldsOn text.now most limit held.old.entries held.new.entries }
     ensures found { IfOk result (λ value. IfSome value (IsRunFor text.now limit held.old.entries held.new.entries node.now)) }
 {
+    let Some(formula) = formula_of(text, node) else {
+        return Ok(None);
+    };
     let mut room = Items::new(alloc);
     let reach = Reach {
         most,
@@ -81,6 +86,7 @@ fn value_found(
         text,
         held,
         node.copy(alloc)?,
+        formula,
         &mut room,
         &reach,
         NESTED,
@@ -88,4 +94,17 @@ fn value_found(
         Some(found) => Ok(Some(found.reply.get().value.copy(alloc)?)),
         None => Ok(None),
     }
+}
+
+/// The formula of the cells of a node, where they are cells of the space Main.
+fn formula_of<'t>(text: &'t ModelText, node: &Node) -> Option<&'t Formula>
+    ensures { IfSome result (λ f. RunsBy text.now node.now f.now) }
+{
+    let Node::Cell(at, name, _) = node else {
+        return None;
+    };
+    if !text.has_space(at) {
+        return None;
+    }
+    text.formula_at(text.path(), name)
 }

@@ -14,7 +14,7 @@ use Rattle.mx_meaning.specs.Lists.{Has}
 use Rattle.mx_meaning.specs.Held.{nodes_of}
 use Rattle.mx_meaning.specs.Expressions.{reading, sum_from, sum_read, product_from, product_read, compared_from, comparison_read, choice_from, arm_read, trailed_from, trailer_read}
 use Rattle.mx_meaning.specs.Runs.{Env, Run, gives}
-use Rattle.mx_formula.specs.Tasks.{GoesOnAlone, env_of}
+use Rattle.mx_formula.specs.Tasks.{GoesOnAlone, RunsBy, env_of}
 use Rattle.mx_formula.proofs.Readings.{chain_none, part_at, product_none, reading-compare, reading-cond, reading-post, reading-product, reading-sum, sum_none}
 use Rattle.mx_machine.specs.Openings.{IsOpen}
 use Rattle.mx_machine.specs.Past.{HasRun, IsKnown, asking}
@@ -267,23 +267,28 @@ known_choice-loop-arm-preserved t c =
 pub known_call-returns-in-Some-clause-known : goal.known_call-returns-in-Some-clause-known
 known_call-returns-in-Some-clause-known t c =
     let read : (Value → Run) → Run = λ go. reading c.args.first.now (env_of c.args.node.now c.args.scope.now) (λ v. trailed_from (map trailer_read c.args.trailers.now) v (env_of c.args.node.now c.args.scope.now) go) in
-    let asks : (go : Value → Run) → GoesOnAlone c.args.text.now (read go) c.args.events.now c.call_at_once.new.events (asking c.in-Some.to go) = rw (c.in-Some.is, c.get.ensures) at c.in_ok-to.ensures in
-    asked_known c.args.text.now c.args.reach.now.deeper c.args.node.now c.args.held.now.entries c.ask_known.new.held.entries read c.in-Some.to c.args.events.now c.call_at_once.new.events c.ask_known.new.events c.ask_known.result asks (c.ask_known.ensures.known c.args.node.now)
+    let asks : (go : Value → Run) → GoesOnAlone c.args.text.now (read go) c.args.events.now c.call_at_once.new.events (asking c.in-Some.field-0.node go) = rw (c.in-Some.is, c.get.ensures) at c.in_ok-to.ensures.asks in
+    asked_known c.args.text.now c.args.reach.now.deeper c.args.node.now c.args.held.now.entries c.ask_known.new.held.entries read c.in-Some.field-0.node c.args.events.now c.call_at_once.new.events c.ask_known.new.events c.ask_known.result asks (c.ask_known.ensures.known c.args.node.now)
 
 pub known_call-returns-in-Some-clause-behind : goal.known_call-returns-in-Some-clause-behind
 known_call-returns-in-Some-clause-behind t c =
     let read : (Value → Run) → Run = λ go. reading c.args.first.now (env_of c.args.node.now c.args.scope.now) (λ v. trailed_from (map trailer_read c.args.trailers.now) v (env_of c.args.node.now c.args.scope.now) go) in
-    let asks : (go : Value → Run) → GoesOnAlone c.args.text.now (read go) c.args.events.now c.call_at_once.new.events (asking c.in-Some.to go) = rw (c.in-Some.is, c.get.ensures) at c.in_ok-to.ensures in
-    behind_result c.args.events.now c.call_at_once.new.events c.ask_known.new.events c.ask_known.result (behind_alone c.args.text.now (read gives) (asking c.in-Some.to gives) c.args.events.now c.call_at_once.new.events (asks gives)) c.ask_known.ensures.behind
+    let asks : (go : Value → Run) → GoesOnAlone c.args.text.now (read go) c.args.events.now c.call_at_once.new.events (asking c.in-Some.field-0.node go) = rw (c.in-Some.is, c.get.ensures) at c.in_ok-to.ensures.asks in
+    behind_result c.args.events.now c.call_at_once.new.events c.ask_known.new.events c.ask_known.result (behind_alone c.args.text.now (read gives) (asking c.in-Some.field-0.node gives) c.args.events.now c.call_at_once.new.events (asks gives)) c.ask_known.ensures.behind
 
 pub known_call-returns-in-None-clause-behind : goal.known_call-returns-in-None-clause-behind
-known_call-returns-in-None-clause-behind t c = behind_none _ _ (rw c.in-None.is at c.in_ok-to.ensures)
+known_call-returns-in-None-clause-behind t c = behind_none _ _ (rw c.in-None.is at c.in_ok-to.ensures.asks)
 
 pub ask_known-returns-in-Some-clause-known : goal.ask_known-returns-in-Some-clause-known
 ask_known-returns-in-Some-clause-known t c = λ n. rw c.in-Some.is at (c.in_ok-value.ensures.known c.args.reach.now.deeper n)
 
 pub ask_known-run_found-requires : goal.ask_known-run_found-requires
-ask_known-run_found-requires t c = (search rules, (c.requires.memo, (c.requires.room, (rw c.in_default.is at (c.in_ok-value.ensures.known 0 c.args.to)).1)))
+ask_known-run_found-requires t c = (search rules, (c.requires.memo, (c.requires.room, ((rw c.in_default.is at (c.in_ok-value.ensures.known 0 c.args.to)).1, c.requires.formula))))
+
+pub known_call-ask_known-requires : goal.known_call-ask_known-requires
+known_call-ask_known-requires t c =
+    let runs : RunsBy c.args.text.now c.in-Some.field-0.node c.in-Some.field-0.formula.now = rw c.in-Some.is at c.in_ok-to.ensures.formula in
+    (search rules, (c.requires.memo, (c.requires.room, runs)))
 
 pub ask_known-returns-in_ok-push-in-Some-2-clause-known : goal.ask_known-returns-in_ok-push-in-Some-2-clause-known
 ask_known-returns-in_ok-push-in-Some-2-clause-known t c = λ n go.
@@ -299,30 +304,30 @@ ask_known-returns-in_ok-push-in-Some-2-clause-known t c = λ n go.
 pub run_found-hold-requires-clause-new : goal.run_found-hold-requires-clause-new
 run_found-hold-requires-clause-new t c =
     let n : Node = c.in_ok-node.node in
-    let opens : IsOpen c.args.text.now n c.in-Run.opening = rw c.in-Run.is at c.in_ok-opening.ensures in
-    let k : IsKnown c.args.text.now c.in-Some.deeper n c.args.held.now.entries c.known.new.held.entries c.in-Some-only_line.expr.now (env_of n c.in-Run.opening.scope) c.in-Run.opening.events c.known.new.events c.in-Some-2.value = rw (c.in-Some-2.is, c.get.ensures) at c.in_ok-value.ensures.known in
+    let opens : IsOpen c.args.text.now n c.in-Some-2.opening = rw c.in-Some-2.is at c.in_ok-opening.ensures in
+    let k : IsKnown c.args.text.now c.in-Some.deeper n c.args.held.now.entries c.known.new.held.entries c.in-Some-only_line.expr.now (env_of n c.in-Some-2.opening.scope) c.in-Some-2.opening.events c.known.new.events c.in-Some-3.value = rw (c.in-Some-3.is, c.get.ensures) at c.in_ok-value.ensures.known in
     let more : c.args.reach.now.deeper ≡ suc c.in-Some.deeper = omega (arith, c.in-Some.ensures) in
     let out : Has (nodes_of c.args.held.now.entries) n → ⊥ = subst (λ m. Has (nodes_of c.args.held.now.entries) m → ⊥) (sym c.in_ok-node.ensures) c.requires.new in
-    let stands = found_stands c.args.text.now c.in-Some.deeper c.args.held.now.entries c.known.new.held.entries n c.in-Run.opening c.in-Some-only_line.expr.now c.known.new.events c.in-Some-2.value opens c.in-Some-only_line.ensures k in
-    new_now c.args.text.now c.args.reach.now.most c.args.reach.now.deeper c.in-Some.deeper c.args.held.now.entries c.known.new.held.entries n c.known.new.events c.in-Some-2.value more c.in_ok-value.ensures.holds out stands
+    let stands = found_stands c.args.text.now c.in-Some.deeper c.args.held.now.entries c.known.new.held.entries n c.in-Some-2.opening c.in-Some-only_line.expr.now c.known.new.events c.in-Some-3.value opens c.in-Some-only_line.ensures k in
+    new_now c.args.text.now c.args.reach.now.most c.args.reach.now.deeper c.in-Some.deeper c.args.held.now.entries c.known.new.held.entries n c.known.new.events c.in-Some-3.value more c.in_ok-value.ensures.holds out stands
 
-pub run_found-returns-in-Some-2-clause-holds : goal.run_found-returns-in-Some-2-clause-holds
-run_found-returns-in-Some-2-clause-holds t c =
+pub run_found-returns-in-Some-3-clause-holds : goal.run_found-returns-in-Some-3-clause-holds
+run_found-returns-in-Some-3-clause-holds t c =
     let n : Node = c.in_ok-node.node in
-    let opens : IsOpen c.args.text.now n c.in-Run.opening = rw c.in-Run.is at c.in_ok-opening.ensures in
-    let k : IsKnown c.args.text.now c.in-Some.deeper n c.args.held.now.entries c.known.new.held.entries c.in-Some-only_line.expr.now (env_of n c.in-Run.opening.scope) c.in-Run.opening.events c.known.new.events c.in-Some-2.value = rw (c.in-Some-2.is, c.get.ensures) at c.in_ok-value.ensures.known in
+    let opens : IsOpen c.args.text.now n c.in-Some-2.opening = rw c.in-Some-2.is at c.in_ok-opening.ensures in
+    let k : IsKnown c.args.text.now c.in-Some.deeper n c.args.held.now.entries c.known.new.held.entries c.in-Some-only_line.expr.now (env_of n c.in-Some-2.opening.scope) c.in-Some-2.opening.events c.known.new.events c.in-Some-3.value = rw (c.in-Some-3.is, c.get.ensures) at c.in_ok-value.ensures.known in
     let more : c.args.reach.now.deeper ≡ suc c.in-Some.deeper = omega (arith, c.in-Some.ensures) in
     let out : Has (nodes_of c.args.held.now.entries) n → ⊥ = subst (λ m. Has (nodes_of c.args.held.now.entries) m → ⊥) (sym c.in_ok-node.ensures) c.requires.new in
-    let stands = found_stands c.args.text.now c.in-Some.deeper c.args.held.now.entries c.known.new.held.entries n c.in-Run.opening c.in-Some-only_line.expr.now c.known.new.events c.in-Some-2.value opens c.in-Some-only_line.ensures k in
-    holds_ended c.args.text.now c.args.reach.now.most c.args.reach.now.deeper c.in-Some.deeper c.args.held.now.entries c.known.new.held.entries n c.known.new.events c.in-Some-2.value more c.in_ok-value.ensures.holds out stands c.hold.new.held.entries c.hold.result c.hold.ensures.room c.hold.ensures.held c.hold.ensures.lost
+    let stands = found_stands c.args.text.now c.in-Some.deeper c.args.held.now.entries c.known.new.held.entries n c.in-Some-2.opening c.in-Some-only_line.expr.now c.known.new.events c.in-Some-3.value opens c.in-Some-only_line.ensures k in
+    holds_ended c.args.text.now c.args.reach.now.most c.args.reach.now.deeper c.in-Some.deeper c.args.held.now.entries c.known.new.held.entries n c.known.new.events c.in-Some-3.value more c.in_ok-value.ensures.holds out stands c.hold.new.held.entries c.hold.result c.hold.ensures.room c.hold.ensures.held c.hold.ensures.lost
 
-pub run_found-returns-in-Some-2-clause-run : goal.run_found-returns-in-Some-2-clause-run
-run_found-returns-in-Some-2-clause-run t c =
+pub run_found-returns-in-Some-3-clause-run : goal.run_found-returns-in-Some-3-clause-run
+run_found-returns-in-Some-3-clause-run t c =
     let n : Node = c.in_ok-node.node in
-    let opens : IsOpen c.args.text.now n c.in-Run.opening = rw c.in-Run.is at c.in_ok-opening.ensures in
-    let k : IsKnown c.args.text.now c.in-Some.deeper n c.args.held.now.entries c.known.new.held.entries c.in-Some-only_line.expr.now (env_of n c.in-Run.opening.scope) c.in-Run.opening.events c.known.new.events c.in-Some-2.value = rw (c.in-Some-2.is, c.get.ensures) at c.in_ok-value.ensures.known in
+    let opens : IsOpen c.args.text.now n c.in-Some-2.opening = rw c.in-Some-2.is at c.in_ok-opening.ensures in
+    let k : IsKnown c.args.text.now c.in-Some.deeper n c.args.held.now.entries c.known.new.held.entries c.in-Some-only_line.expr.now (env_of n c.in-Some-2.opening.scope) c.in-Some-2.opening.events c.known.new.events c.in-Some-3.value = rw (c.in-Some-3.is, c.get.ensures) at c.in_ok-value.ensures.known in
     let more : c.args.reach.now.deeper ≡ suc c.in-Some.deeper = omega (arith, c.in-Some.ensures) in
     let out : Has (nodes_of c.args.held.now.entries) n → ⊥ = subst (λ m. Has (nodes_of c.args.held.now.entries) m → ⊥) (sym c.in_ok-node.ensures) c.requires.new in
-    let stands = found_stands c.args.text.now c.in-Some.deeper c.args.held.now.entries c.known.new.held.entries n c.in-Run.opening c.in-Some-only_line.expr.now c.known.new.events c.in-Some-2.value opens c.in-Some-only_line.ensures k in
+    let stands = found_stands c.args.text.now c.in-Some.deeper c.args.held.now.entries c.known.new.held.entries n c.in-Some-2.opening c.in-Some-only_line.expr.now c.known.new.events c.in-Some-3.value opens c.in-Some-only_line.ensures k in
     subst (λ m. IfOk c.hold.result (λ o. IfSome o (λ f. (f.node ≡ m) × ((limit depth : ℕ) → depth + c.args.reach.now.deeper ≤ limit → HasRun c.args.text.now limit (suc depth) c.args.held.now.entries c.hold.new.held.entries m f.reply)))) c.in_ok-node.ensures
-    (run_ended c.args.text.now c.args.reach.now.most c.args.reach.now.deeper c.in-Some.deeper c.args.held.now.entries c.known.new.held.entries n c.known.new.events c.in-Some-2.value more c.in_ok-value.ensures.holds out stands c.hold.new.held.entries c.hold.result c.hold.ensures.held)
+    (run_ended c.args.text.now c.args.reach.now.most c.args.reach.now.deeper c.in-Some.deeper c.args.held.now.entries c.known.new.held.entries n c.known.new.events c.in-Some-3.value more c.in_ok-value.ensures.holds out stands c.hold.new.held.entries c.hold.result c.hold.ensures.held)

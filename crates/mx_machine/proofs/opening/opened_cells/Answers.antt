@@ -1,4 +1,4 @@
-use Rattle.std.proofs.Common.{◌≡◌, Option, Some, None, MatchOption, length, true, refl, sym, subst}
+use Rattle.std.proofs.Common.{◌≡◌, Option, Some, None, MatchOption, length, true, sym, subst}
 use Rattle.mx_print.specs.Binding.{is_wrong_count}
 use Rattle.mx_formula.specs.declared.frame.Locals.{Locals}
 use Rattle.mx_formula.specs.Tasks.{BeginsWith}
@@ -7,7 +7,7 @@ use Rattle.mx_meaning.specs.Model.{formula_at}
 use Rattle.mx_meaning.specs.Runs.{NoSuch, WrongCount}
 use Rattle.mx_meaning.specs.Expressions.{path_of}
 use Rattle.mx_machine.specs.Frames.{EndsUnasked}
-use Rattle.mx_machine.proofs.Begins.{no_formula, bad_count, open_by}
+use Rattle.mx_machine.proofs.Begins.{no_formula, bad_count}
 use Rattle.mx_machine.proofs.opening.opened_cells.Goals as goal
 
 pub returns-in_default-formula_at : goal.returns-in_default-formula_at
@@ -35,5 +35,5 @@ returns c =
     let d = c.in-Some-formula_at.ensures in
     let p : path_of c.args.at.now ≡ Some c.in-Some.source = cc in
     let f : formula_at c.args.text.now c.in-Some.source c.args.name.now ≡ Some c.in-Some-formula_at.formula.now = cc in
-    open_by c.args.text.now c.args.at.now c.args.name.now c.args.arguments.now c.in-Some.source c.in-Some-formula_at.formula.now c.args.node.now _ c.requires p f refl c.in_ok-events.ensures c.source.view_is c.in_ok-copy.ensures refl
+    c.in_ok-opened_with.ensures c.args.text.now c.args.at.now c.args.arguments.now c.requires p f
     (subst (λ (first : Option Locals). MatchOption first (is_wrong_count c.in-Some-formula_at.formula.now.params (length c.args.arguments.now) ≡ true) (BeginsWith c.in-Some-formula_at.formula.now c.args.arguments.now)) c.in-Some-2.is c.in_ok-locals.ensures)
