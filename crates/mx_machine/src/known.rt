@@ -12,7 +12,7 @@ ghost use Rattle.mx_machine.specs.Past.{IsKnown, IsKnownAs, GoesBehind, HoldsOn,
 
 use crate::held::{Found, Held, arguments_in, ask_held, hold};
 use crate::opening::{Opening, opened_by};
-use mx_formula::at_hand::at_hand;
+use mx_formula::at_hand::{at_hand, whole};
 use mx_formula::direct::{Called, call_at_once};
 use mx_formula::frame::Scope;
 use mx_formula::locals::only_line;
@@ -207,6 +207,35 @@ fn known_product(
     Ok(Some(total))
 }
 
+/// As `known`. A whole number that is at hand is taken at once, as most comparisons have one.
+#[cycle(known)]
+#[inline(always)]
+fn known_part(
+    alloc: Global,
+    text: &ModelText,
+    node: &Node,
+    held: &mut Held,
+    scope: &Scope,
+    expr: &Expr,
+    room: &mut Items<Value>,
+    events: &mut Items<Event>,
+    reach: &Reach,
+    nested: usize,
+) -> Result<Option<Value>, AllocError>
+    requires memo { IsMemo text.now held.old.entries }
+    requires room { length held.old.entries ≤ reach.now.most }
+    ensures holds { HoldsOn text.now reach.now.most reach.now.deeper held.old.entries held.new.entries }
+    ensures known { IfOk result (λ value. IfSome value (IsKnown text.now reach.now.deeper node.now held.old.entries held.new.entries expr.now (env_of node.now scope.now) events.old events.new)) }
+    ensures behind { OnOk result (GoesBehind events.old events.new) }
+{
+    match whole(node, scope, expr) {
+        Some(number) => Ok(Some(Value::Int(number))),
+        None => known(
+            alloc, text, node, held, scope, expr, room, events, reach, nested,
+        ),
+    }
+}
+
 /// As `known`, for a chain of comparisons.
 #[cycle(known)]
 #[inline(never)]
@@ -230,7 +259,7 @@ fn known_comparison(
     ensures behind { OnOk result (GoesBehind events.old events.new) }
 {
     let first = first.get();
-    let Some(start) = known(
+    let Some(start) = known_part(
         alloc, text, node, held, scope, first, room, events, reach, nested,
     )?
     else {
@@ -241,7 +270,7 @@ fn known_comparison(
         let Comparison::Op(op, right) = comparison else {
             return Ok(None);
         };
-        let Some(value) = known(
+        let Some(value) = known_part(
             alloc, text, node, held, scope, right, room, events, reach, nested,
         )?
         else {

@@ -142,55 +142,55 @@ known_product-returns-clause-known t c = λ go.
 
 pub known_comparison-loop-comparison-init : goal.known_comparison-loop-comparison-init
 known_comparison-loop-comparison-init t c =
-    let first : IsKnown c.args.text.now c.args.reach.now.deeper c.args.node.now c.args.held.now.entries c.known.new.held.entries c.args.first.now (env_of c.args.node.now c.args.scope.now) c.args.events.now c.known.new.events c.in-Some.start = rw (c.in-Some.is, c.get-first.ensures) at c.in_ok-start.ensures.known in
+    let first : IsKnown c.args.text.now c.args.reach.now.deeper c.args.node.now c.args.held.now.entries c.known_part.new.held.entries c.args.first.now (env_of c.args.node.now c.args.scope.now) c.args.events.now c.known_part.new.events c.in-Some.start = rw (c.in-Some.is, c.get-first.ensures) at c.in_ok-start.ensures.known in
     record {
       past = λ go. first (λ v. compared_from (map comparison_read c.args.rest.now) v (env_of c.args.node.now c.args.scope.now) go);
       behind = c.in_ok-start.ensures.behind;
-      holds = c.known.ensures.holds;
+      holds = c.known_part.ensures.holds;
     }
 
 pub known_comparison-returns-in_default-2-clause-behind : goal.known_comparison-returns-in_default-2-clause-behind
-known_comparison-returns-in_default-2-clause-behind t c = behind_then c.args.events.now c.loop-comparison.events c.known-in-loop-comparison.new.events c.loop-comparison.invariant.behind c.in_ok-value.ensures.behind
+known_comparison-returns-in_default-2-clause-behind t c = behind_then c.args.events.now c.loop-comparison.events c.known_part-in-loop-comparison.new.events c.loop-comparison.invariant.behind c.in_ok-value.ensures.behind
 
 pub known_comparison-returns-in_default-2-clause-holds : goal.known_comparison-returns-in_default-2-clause-holds
-known_comparison-returns-in_default-2-clause-holds t c = holds_then c.args.text.now c.args.reach.now.most c.args.reach.now.deeper c.args.held.now.entries c.loop-comparison.held.entries c.known-in-loop-comparison.new.held.entries c.loop-comparison.invariant.holds c.known-in-loop-comparison.ensures.holds
+known_comparison-returns-in_default-2-clause-holds t c = holds_then c.args.text.now c.args.reach.now.most c.args.reach.now.deeper c.args.held.now.entries c.loop-comparison.held.entries c.known_part-in-loop-comparison.new.held.entries c.loop-comparison.invariant.holds c.known_part-in-loop-comparison.ensures.holds
 
 pub known_comparison-returns-in-Ok-false-clause-behind : goal.known_comparison-returns-in-Ok-false-clause-behind
-known_comparison-returns-in-Ok-false-clause-behind t c = behind_then c.args.events.now c.loop-comparison.events c.known-in-loop-comparison.new.events c.loop-comparison.invariant.behind c.in_ok-value.ensures.behind
+known_comparison-returns-in-Ok-false-clause-behind t c = behind_then c.args.events.now c.loop-comparison.events c.known_part-in-loop-comparison.new.events c.loop-comparison.invariant.behind c.in_ok-value.ensures.behind
 
 pub known_comparison-returns-in-Ok-false-clause-holds : goal.known_comparison-returns-in-Ok-false-clause-holds
-known_comparison-returns-in-Ok-false-clause-holds t c = holds_then c.args.text.now c.args.reach.now.most c.args.reach.now.deeper c.args.held.now.entries c.loop-comparison.held.entries c.known-in-loop-comparison.new.held.entries c.loop-comparison.invariant.holds c.known-in-loop-comparison.ensures.holds
+known_comparison-returns-in-Ok-false-clause-holds t c = holds_then c.args.text.now c.args.reach.now.most c.args.reach.now.deeper c.args.held.now.entries c.loop-comparison.held.entries c.known_part-in-loop-comparison.new.held.entries c.loop-comparison.invariant.holds c.known_part-in-loop-comparison.ensures.holds
 
 pub known_comparison-returns-in-Err-clause-behind : goal.known_comparison-returns-in-Err-clause-behind
-known_comparison-returns-in-Err-clause-behind t c = behind_then c.args.events.now c.loop-comparison.events c.known-in-loop-comparison.new.events c.loop-comparison.invariant.behind c.in_ok-value.ensures.behind
+known_comparison-returns-in-Err-clause-behind t c = behind_then c.args.events.now c.loop-comparison.events c.known_part-in-loop-comparison.new.events c.loop-comparison.invariant.behind c.in_ok-value.ensures.behind
 
 pub known_comparison-returns-in-Err-clause-holds : goal.known_comparison-returns-in-Err-clause-holds
-known_comparison-returns-in-Err-clause-holds t c = holds_then c.args.text.now c.args.reach.now.most c.args.reach.now.deeper c.args.held.now.entries c.loop-comparison.held.entries c.known-in-loop-comparison.new.held.entries c.loop-comparison.invariant.holds c.known-in-loop-comparison.ensures.holds
+known_comparison-returns-in-Err-clause-holds t c = holds_then c.args.text.now c.args.reach.now.most c.args.reach.now.deeper c.args.held.now.entries c.loop-comparison.held.entries c.known_part-in-loop-comparison.new.held.entries c.loop-comparison.invariant.holds c.known_part-in-loop-comparison.ensures.holds
 
 pub known_comparison-returns-in_err-value-clause-holds : goal.known_comparison-returns-in_err-value-clause-holds
-known_comparison-returns-in_err-value-clause-holds t c = holds_then c.args.text.now c.args.reach.now.most c.args.reach.now.deeper c.args.held.now.entries c.loop-comparison.held.entries c.known-in-loop-comparison.new.held.entries c.loop-comparison.invariant.holds c.known-in-loop-comparison.ensures.holds
+known_comparison-returns-in_err-value-clause-holds t c = holds_then c.args.text.now c.args.reach.now.most c.args.reach.now.deeper c.args.held.now.entries c.loop-comparison.held.entries c.known_part-in-loop-comparison.new.held.entries c.loop-comparison.invariant.holds c.known_part-in-loop-comparison.ensures.holds
 
 pub known_comparison-returns-in-Ok-false-clause-known : goal.known_comparison-returns-in-Ok-false-clause-known
 known_comparison-returns-in-Ok-false-clause-known t c = λ go.
     let env : Env = (env_of c.args.node.now c.args.scope.now) in
     let l : c.loop-comparison.comparison-index < length c.args.rest.now = omega (arith, ap length c.as_slice-comparison-items.ensures, c.loop-comparison-test.true) in
     let e = c.comparison-item.is ∙ ap (λ xs. get_or xs c.loop-comparison.comparison-index c.comparison-item.result) c.as_slice-comparison-items.ensures in
-    let value : IsKnown c.args.text.now c.args.reach.now.deeper c.args.node.now c.loop-comparison.held.entries c.known-in-loop-comparison.new.held.entries c.in-Op.right env c.loop-comparison.events c.known-in-loop-comparison.new.events c.in-Some-2.value = rw c.in-Some-2.is at c.in_ok-value.ensures.known in
-    past_then c.args.text.now c.args.reach.now.deeper c.args.node.now c.args.held.now.entries c.loop-comparison.held.entries c.known-in-loop-comparison.new.held.entries _ _ _ c.args.events.now c.loop-comparison.events c.known-in-loop-comparison.new.events (c.loop-comparison.invariant.past go)
-    (chain_past c.args.text.now c.args.reach.now.deeper c.args.node.now c.loop-comparison.held.entries c.known-in-loop-comparison.new.held.entries (drop c.loop-comparison.comparison-index c.args.rest.now) _ c.comparison-item.result c.in-Op.op c.in-Op.right env c.loop-comparison.left c.in-Some-2.value (Ok false) c.loop-comparison.events c.known-in-loop-comparison.new.events (part_at c.args.rest.now c.loop-comparison.comparison-index c.comparison-item.result l e) (ap comparison_read c.in-Op.is ∙ op_read c.in-Op.op c.in-Op.right) value (sym c.compare.ensures ∙ c.in-Ok-false.is ∙ ap Ok c.in-Ok-false.field-0-test) go)
+    let value : IsKnown c.args.text.now c.args.reach.now.deeper c.args.node.now c.loop-comparison.held.entries c.known_part-in-loop-comparison.new.held.entries c.in-Op.right env c.loop-comparison.events c.known_part-in-loop-comparison.new.events c.in-Some-2.value = rw c.in-Some-2.is at c.in_ok-value.ensures.known in
+    past_then c.args.text.now c.args.reach.now.deeper c.args.node.now c.args.held.now.entries c.loop-comparison.held.entries c.known_part-in-loop-comparison.new.held.entries _ _ _ c.args.events.now c.loop-comparison.events c.known_part-in-loop-comparison.new.events (c.loop-comparison.invariant.past go)
+    (chain_past c.args.text.now c.args.reach.now.deeper c.args.node.now c.loop-comparison.held.entries c.known_part-in-loop-comparison.new.held.entries (drop c.loop-comparison.comparison-index c.args.rest.now) _ c.comparison-item.result c.in-Op.op c.in-Op.right env c.loop-comparison.left c.in-Some-2.value (Ok false) c.loop-comparison.events c.known_part-in-loop-comparison.new.events (part_at c.args.rest.now c.loop-comparison.comparison-index c.comparison-item.result l e) (ap comparison_read c.in-Op.is ∙ op_read c.in-Op.op c.in-Op.right) value (sym c.compare.ensures ∙ c.in-Ok-false.is ∙ ap Ok c.in-Ok-false.field-0-test) go)
 
 pub known_comparison-loop-comparison-preserved : goal.known_comparison-loop-comparison-preserved
 known_comparison-loop-comparison-preserved t c =
     let env : Env = (env_of c.args.node.now c.args.scope.now) in
     let l : c.loop-comparison.comparison-index < length c.args.rest.now = omega (arith, ap length c.as_slice-comparison-items.ensures, c.loop-comparison-test.true) in
     let e = c.comparison-item.is ∙ ap (λ xs. get_or xs c.loop-comparison.comparison-index c.comparison-item.result) c.as_slice-comparison-items.ensures in
-    let value : IsKnown c.args.text.now c.args.reach.now.deeper c.args.node.now c.loop-comparison.held.entries c.known-in-loop-comparison.new.held.entries c.in-Op.right env c.loop-comparison.events c.known-in-loop-comparison.new.events c.in-Some-2.value = rw c.in-Some-2.is at c.in_ok-value.ensures.known in
+    let value : IsKnown c.args.text.now c.args.reach.now.deeper c.args.node.now c.loop-comparison.held.entries c.known_part-in-loop-comparison.new.held.entries c.in-Op.right env c.loop-comparison.events c.known_part-in-loop-comparison.new.events c.in-Some-2.value = rw c.in-Some-2.is at c.in_ok-value.ensures.known in
     record {
       past = λ go.
-          past_then c.args.text.now c.args.reach.now.deeper c.args.node.now c.args.held.now.entries c.loop-comparison.held.entries c.known-in-loop-comparison.new.held.entries _ _ _ c.args.events.now c.loop-comparison.events c.known-in-loop-comparison.new.events (c.loop-comparison.invariant.past go)
-          (chain_past c.args.text.now c.args.reach.now.deeper c.args.node.now c.loop-comparison.held.entries c.known-in-loop-comparison.new.held.entries (drop c.loop-comparison.comparison-index c.args.rest.now) _ c.comparison-item.result c.in-Op.op c.in-Op.right env c.loop-comparison.left c.in-Some-2.value (Ok true) c.loop-comparison.events c.known-in-loop-comparison.new.events (part_at c.args.rest.now c.loop-comparison.comparison-index c.comparison-item.result l e) (ap comparison_read c.in-Op.is ∙ op_read c.in-Op.op c.in-Op.right) value (sym c.compare.ensures ∙ c.in-Ok-true.is ∙ ap Ok c.in-Ok-true.field-0-test) go);
-      behind = behind_then c.args.events.now c.loop-comparison.events c.known-in-loop-comparison.new.events c.loop-comparison.invariant.behind c.in_ok-value.ensures.behind;
-      holds = holds_then c.args.text.now c.args.reach.now.most c.args.reach.now.deeper c.args.held.now.entries c.loop-comparison.held.entries c.known-in-loop-comparison.new.held.entries c.loop-comparison.invariant.holds c.known-in-loop-comparison.ensures.holds;
+          past_then c.args.text.now c.args.reach.now.deeper c.args.node.now c.args.held.now.entries c.loop-comparison.held.entries c.known_part-in-loop-comparison.new.held.entries _ _ _ c.args.events.now c.loop-comparison.events c.known_part-in-loop-comparison.new.events (c.loop-comparison.invariant.past go)
+          (chain_past c.args.text.now c.args.reach.now.deeper c.args.node.now c.loop-comparison.held.entries c.known_part-in-loop-comparison.new.held.entries (drop c.loop-comparison.comparison-index c.args.rest.now) _ c.comparison-item.result c.in-Op.op c.in-Op.right env c.loop-comparison.left c.in-Some-2.value (Ok true) c.loop-comparison.events c.known_part-in-loop-comparison.new.events (part_at c.args.rest.now c.loop-comparison.comparison-index c.comparison-item.result l e) (ap comparison_read c.in-Op.is ∙ op_read c.in-Op.op c.in-Op.right) value (sym c.compare.ensures ∙ c.in-Ok-true.is ∙ ap Ok c.in-Ok-true.field-0-test) go);
+      behind = behind_then c.args.events.now c.loop-comparison.events c.known_part-in-loop-comparison.new.events c.loop-comparison.invariant.behind c.in_ok-value.ensures.behind;
+      holds = holds_then c.args.text.now c.args.reach.now.most c.args.reach.now.deeper c.args.held.now.entries c.loop-comparison.held.entries c.known_part-in-loop-comparison.new.held.entries c.loop-comparison.invariant.holds c.known_part-in-loop-comparison.ensures.holds;
     }
 
 pub known_comparison-returns-clause-known : goal.known_comparison-returns-clause-known

@@ -16,7 +16,10 @@ abbrev pub decreases-known_product : goal.decreases-known_product
 decreases-known_product l = 4 * l.nested + 1
 
 abbrev pub decreases-known_comparison : goal.decreases-known_comparison
-decreases-known_comparison l = 4 * l.nested + 1
+decreases-known_comparison l = 4 * l.nested + 2
+
+abbrev pub decreases-known_part : goal.decreases-known_part
+decreases-known_part l = 4 * l.nested + 1
 
 abbrev pub decreases-known_choice : goal.decreases-known_choice
 decreases-known_choice l = 4 * l.nested + 1
