@@ -71,9 +71,7 @@ fn opened_cells<'t>(
     let Some(locals) = first_locals(alloc, formula, arguments)? else {
         return Ok(Start::WrongCount);
     };
-    Ok(Start::Run(opened_with(
-        alloc, node, source, name, formula, locals,
-    )?))
+    Ok(Start::Run(opened_with(alloc, node, source, name, formula, locals)?))
 }
 
 /// The run of a node whose cells have this formula looks it up. None where its arguments don't bind.
