@@ -12,5 +12,3 @@ pub mod merge;
 pub mod refusal;
 mod remaining;
 pub mod space;
-#[cfg(test)]
-mod tests;

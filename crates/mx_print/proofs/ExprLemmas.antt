@@ -5,7 +5,7 @@ use Rattle.mx_syntax.specs.declared.expr.Expr.{Expr}
 use Rattle.mx_syntax.specs.declared.expr.Args.{Args, fold-roll-Args}
 use Rattle.mx_syntax.specs.declared.expr.Args.TheVariants as made
 use Rattle.mx_syntax.specs.declared.expr.Args.TheOpen.{Args-F}
-use Rattle.mx_print.specs.Lists.{flat}
+use Rattle.mx_syntax.specs.Lists.{flat}
 use Rattle.mx_print.specs.Texts.{Text, separated}
 use Rattle.mx_print.specs.Expressions.{Piece, at, all_at, printed, args_text, generator_test_text, args_step, comparison_step, piece, trailer_step, arm_step, power_step, product_step, sum_step}
 use Rattle.mx_print.proofs.TextLemmas.{separated_first, separated_more}

@@ -1,7 +1,5 @@
-mod BindLemmas
 mod ExprLemmas
+mod HeightLemmas
 mod LineLemmas
-pub mod ListLemmas
-mod LocalLemmas
 mod StatementLemmas
 pub mod TextLemmas

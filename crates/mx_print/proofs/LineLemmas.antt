@@ -1,5 +1,5 @@
 -- Statements stand at their lines.
-use Rattle.std.proofs.Common.{◌≡◌, ◌≢◌, ℕ, suc, ◌+◌, ◌==◌, ◌<◌, ◌-◌, ◌^◌, min, true, false, List, [], ◌∷◌, ◌++◌, Option, None, Some, length, get_or, map, take, refl, sym, ap, subst, ◌∙◌, append_assoc, append-nil, arith}
+use Rattle.std.proofs.Common.{◌≡◌, ◌≢◌, ℕ, suc, ◌+◌, ◌==◌, ◌<◌, ◌-◌, ◌^◌, min, Bool, true, false, List, [], ◌∷◌, ◌++◌, Option, None, Some, length, get_or, map, take, refl, sym, ap, subst, ◌∙◌, append_assoc, append-nil, arith}
 use Rattle.std.specs.Prelude.{codes, is_some, if◌then◌else◌}
 use Rattle.std.proofs.lemmas.Grind.{common_steps}
 use Rattle.std.proofs.lemmas.Bool.Decides.{nat_tests}
@@ -8,12 +8,14 @@ use Rattle.mx_syntax.specs.declared.stmt.Stmt.{Stmt, fold-roll-Stmt}
 use Rattle.mx_syntax.specs.declared.stmt.Stmt.TheVariants as made
 use Rattle.mx_syntax.specs.declared.stmt.Stmt.TheOpen.{Stmt-F}
 use Rattle.mx_syntax.specs.declared.stmt.IfArm.{IfArm, out-IfArm, fold_out-IfArm}
-use Rattle.mx_print.specs.Lists.{flat}
+use Rattle.mx_syntax.specs.Lists.{flat}
 use Rattle.mx_print.specs.Texts.{Text}
 use Rattle.mx_print.specs.Statements.{margin, block, body_lines, stmt_lines, arm_lines, arm_word, front, if_lines, for_text, stmt_step, arm_step, whole, params_text, lines_by, lines_text}
-use Rattle.mx_print.specs.Lines.{height, arm_height, body_height, arms_height, AtLine, deep, Stands, is_first, StatementsStand, ArmsStand, arm_head, split, HasNoFeed, TextHasItsLines}
-use Rattle.mx_print.proofs.ListLemmas.{flat_append, flat_next, take_next}
+use Rattle.mx_syntax.specs.Heights.{height, arm_height, body_height, arms_height, is_of_one_line}
+use Rattle.mx_print.specs.Lines.{AtLine, deep, Stands, is_first, StatementsStand, ArmsStand, arm_head, split, HasNoFeed, TextHasItsLines}
+use Rattle.mx_syntax.proofs.ListLemmas.{flat_append, flat_next, take_next}
 use Rattle.mx_print.proofs.StatementLemmas.{for_is}
+use Rattle.mx_print.proofs.HeightLemmas.{statement_lines, arms_lines, counts_one}
 
 abbrev indent : List Text → List Text
 indent lines = map (λ (line : Text). codes "    " ++ line) lines
@@ -43,6 +45,10 @@ behind first line fronts lines own h = record {
   whole = ap (λ (ls : List Text). fronts ++ ls) h.whole ∙ sym (append_assoc fronts h.before (deep h.depth own ++ h.after));
   place = omega (arith, h.place, length-append fronts h.before);
 }
+
+-- the same, where it is known how many lines stand in front
+behind_so_many : (first count line : ℕ) (fronts lines own : List Text) → length fronts ≡ count → Stands (first + count) lines line own → Stands first (fronts ++ lines) line own
+behind_so_many first count line fronts lines own many h = behind first line fronts lines own (subst (λ (n : ℕ). Stands (first + n) lines line own) (sym many) h)
 
 followed : (first line : ℕ) (lines back own : List Text) → Stands first lines line own → Stands first (lines ++ back) line own
 followed first line lines back own h = record {
@@ -92,12 +98,12 @@ in_arm first line arms more a other own h =
     subst (λ (ls : List Text). Stands (first + arms_height arms) (front (arm_word (is_first arms)) ls) line own) (sym (arm_is a)) h in
     let among : Stands first (if_lines (map arm_lines (arms ++ a ∷ more))) line own =
     subst (λ (ls : List Text). Stands first ls line own) (sym (if_split arms a more))
-    (behind first line (if_lines (map arm_lines arms)) (front (arm_word (is_first arms)) (arm_lines a) ++ elifs (map arm_lines more)) own (followed (first + arms_height arms) line (front (arm_word (is_first arms)) (arm_lines a)) (elifs (map arm_lines more)) own here)) in
+    (behind_so_many first (arms_height arms) line (if_lines (map arm_lines arms)) (front (arm_word (is_first arms)) (arm_lines a) ++ elifs (map arm_lines more)) own (arms_lines arms) (followed (first + arms_height arms) line (front (arm_word (is_first arms)) (arm_lines a)) (elifs (map arm_lines more)) own here)) in
     subst (λ (ls : List Text). Stands first ls line own) (sym (if_is (arms ++ a ∷ more) other)) (followed first line (if_lines (map arm_lines (arms ++ a ∷ more))) (else_part other) own among)
 
 stands : (first : ℕ) (body : List Stmt) (line : ℕ) (stmt : Stmt) → AtLine first body line stmt → Stands first (body_lines body) line (stmt_lines stmt)
 stands first _ _ stmt (AtLine.here {body = body}) = start first (stmt_lines stmt) (body_lines body)
-stands first _ line stmt (AtLine.later {before = before} {body = body} h) = behind first line (stmt_lines before) (body_lines body) (stmt_lines stmt) (stands (first + height before) body line stmt h)
+stands first _ line stmt (AtLine.later {before = before} {body = body} h) = behind_so_many first (height before) line (stmt_lines before) (body_lines body) (stmt_lines stmt) (statement_lines before) (stands (first + height before) body line stmt h)
 stands first _ line stmt (AtLine.loop {body = body} name over inner h) =
     let within : Stands first (for_text name over ∷ block (map stmt_lines inner)) line (stmt_lines stmt) =
     behind first line (for_text name over ∷ []) (block (map stmt_lines inner)) (stmt_lines stmt) (inward (first + 1) line (body_lines inner) (stmt_lines stmt) (stands (first + 1) inner line stmt h)) in
@@ -111,12 +117,12 @@ stands first _ line stmt (AtLine.otherwise {body = body} arms inner h) =
     let below : Stands (first + arms_height arms + 1) (block (map stmt_lines inner)) line (stmt_lines stmt) =
     inward (first + arms_height arms + 1) line (body_lines inner) (stmt_lines stmt) (stands (first + arms_height arms + 1) inner line stmt h) in
     let within : Stands first (if_lines (map arm_lines arms) ++ (codes "else:" ∷ block (map stmt_lines inner))) line (stmt_lines stmt) =
-    behind first line (if_lines (map arm_lines arms)) (codes "else:" ∷ block (map stmt_lines inner)) (stmt_lines stmt) (behind (first + arms_height arms) line (codes "else:" ∷ []) (block (map stmt_lines inner)) (stmt_lines stmt) below) in
+    behind_so_many first (arms_height arms) line (if_lines (map arm_lines arms)) (codes "else:" ∷ block (map stmt_lines inner)) (stmt_lines stmt) (arms_lines arms) (behind (first + arms_height arms) line (codes "else:" ∷ []) (block (map stmt_lines inner)) (stmt_lines stmt) below) in
     followed first line (stmt_lines (made.If arms (Some inner))) (body_lines body) (stmt_lines stmt) (subst (λ (ls : List Text). Stands first ls line (stmt_lines stmt)) (sym (if_is arms (Some inner))) within)
 
 pub statements_stand : StatementsStand
 statements_stand params body line stmt many at =
-    let from : AtLine 2 body line stmt = subst (λ (t : Option Text). AtLine (if is_some t then 1 else 2) body line stmt) many at in
+    let from : AtLine 2 body line stmt = subst (λ (one : Bool). AtLine (if one then 1 else 2) body line stmt) (sym (counts_one body) ∙ ap is_some many) at in
     let here : Stands 1 ((params_text params ++ codes ":") ∷ block (map stmt_lines body)) line (stmt_lines stmt) =
     behind 1 line ((params_text params ++ codes ":") ∷ []) (block (map stmt_lines body)) (stmt_lines stmt) (inward 2 line (body_lines body) (stmt_lines stmt) (stands 2 body line stmt from)) in
     subst (λ (t : Option Text). Stands 1 (lines_by params body t) line (stmt_lines stmt)) (sym many) here
@@ -124,27 +130,6 @@ statements_stand params body line stmt many at =
 pub arms_stand : ArmsStand
 arms_stand first arms more a other =
     in_arm first (first + arms_height arms) arms more a other (arm_head (is_first arms) a ∷ []) (start (first + arms_height arms) (arm_head (is_first arms) a ∷ []) (block (map stmt_lines (out-IfArm a).body)))
-
--- ---- heights
-
-pub body_height_more : (body : List Stmt) (i : ℕ) (stmt : Stmt) → i < length body → stmt ≡ get_or body i stmt → body_height (take (i + 1) body) ≡ body_height (take i body) + height stmt
-body_height_more body i stmt lt is = ap length (flat_next stmt_lines body i stmt lt is) ∙ length-append (body_lines (take i body)) (stmt_lines stmt)
-
-front_length : (word : Text) (lines : List Text) → length (front word lines) ≡ length lines
-front_length word [] = refl
-front_length word (l ∷ ls) = refl
-
-one_more : (arms : List IfArm) (a : IfArm) → arms_height (arms ++ a ∷ []) ≡ arms_height arms + arm_height a
-one_more arms a =
-    ap length (if_split arms a []) ∙ length-append (if_lines (map arm_lines arms)) (front (arm_word (is_first arms)) (arm_lines a) ++ [])
-    ∙ ap (λ (n : ℕ). arms_height arms + n) (ap length (append-nil (front (arm_word (is_first arms)) (arm_lines a))) ∙ front_length (arm_word (is_first arms)) (arm_lines a))
-
-pub arms_height_more : (arms : List IfArm) (i : ℕ) (a : IfArm) → i < length arms → a ≡ get_or arms i a → arms_height (take (i + 1) arms) ≡ arms_height (take i arms) + arm_height a
-arms_height_more arms i a lt is = ap arms_height (take_next arms i a lt is) ∙ one_more (take i arms) a
-
--- sums that stop at the greatest number
-pub capped_sum : (total sum next more : ℕ) → total ≡ min (min sum (2 ^ 32 - 1) + min next (2 ^ 32 - 1)) (2 ^ 32 - 1) → more ≡ sum + next → total ≡ min more (2 ^ 32 - 1)
-capped_sum total sum next more is same = grind (arith, common_steps)
 
 -- ---- the text and its lines
 

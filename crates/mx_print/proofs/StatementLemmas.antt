@@ -8,10 +8,10 @@ use Rattle.mx_syntax.specs.declared.stmt.Stmt.{Stmt, fold-roll-Stmt}
 use Rattle.mx_syntax.specs.declared.stmt.Stmt.TheVariants as made
 use Rattle.mx_syntax.specs.declared.stmt.Stmt.TheOpen.{Stmt-F}
 use Rattle.mx_syntax.specs.declared.stmt.IfArm.{IfArm}
-use Rattle.mx_print.specs.Lists.{flat}
+use Rattle.mx_syntax.specs.Lists.{flat}
 use Rattle.mx_print.specs.Texts.{Text}
 use Rattle.mx_print.specs.Statements.{margin, line_text, lines_text, block, body_lines, stmt_lines, arm_lines, arm_word, front, if_lines, for_text, stmt_step, arm_step}
-use Rattle.mx_print.proofs.ListLemmas.{flat_append, flat_next, take_next}
+use Rattle.mx_syntax.proofs.ListLemmas.{flat_append, flat_next, take_next}
 use Rattle.mx_print.proofs.ExprLemmas.{flat_again}
 
 pub lines_append : (d : ℕ) (xs ys : List Text) → lines_text d (xs ++ ys) ≡ lines_text d xs ++ lines_text d ys

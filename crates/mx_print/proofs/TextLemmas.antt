@@ -5,7 +5,7 @@ use Rattle.std.proofs.lemmas.List.Folds.{concat-append}
 use Rattle.std.specs.List.{concat}
 use Rattle.std.proofs.lemmas.Bool.Decides.{nat_tests}
 use Rattle.mx_print.specs.Texts.{Text, separated}
-use Rattle.mx_print.proofs.ListLemmas.{take_next}
+use Rattle.mx_syntax.proofs.ListLemmas.{take_next}
 use Rattle.mx_print.specs.Values.{address_of, after_dot, escaped, padded, decimals}
 
 concat_last : (ts : List Text) (t : Text) → concat (ts ++ t ∷ []) ≡ concat ts ++ t

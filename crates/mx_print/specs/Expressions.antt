@@ -19,7 +19,7 @@ use Rattle.mx_syntax.specs.declared.expr.ProductOp.{ProductOp}
 use Rattle.mx_syntax.specs.declared.expr.ProductOp.TheVariants as product
 use Rattle.mx_syntax.specs.declared.expr.Sign.{Sign}
 use Rattle.mx_syntax.specs.declared.expr.Sign.TheVariants as sign
-use Rattle.mx_print.specs.Lists.{flat}
+use Rattle.mx_syntax.specs.Lists.{flat}
 use Rattle.mx_print.specs.Texts.{Text, separated, commas}
 use Rattle.mx_print.specs.Values.{value_text, tuple_text}
 

@@ -1,30 +1,21 @@
 -- The line of the printed text at which each statement stands.
-use Rattle.std.specs.Prelude.{◌≡◌, ◌≢◌, ℕ, ◌+◌, ◌==◌, Bool, true, false, List, [], ◌∷◌, ◌++◌, Option, None, Some, map, length, codes, is_some, if◌then◌else◌}
+use Rattle.std.specs.Prelude.{◌≡◌, ◌≢◌, ℕ, ◌+◌, ◌==◌, Bool, true, false, if◌then◌else◌, List, [], ◌∷◌, ◌++◌, Option, None, Some, map, length, codes, is_some}
 use Rattle.mx_syntax.specs.declared.expr.Expr.{Expr}
 use Rattle.mx_syntax.specs.declared.stmt.Stmt.{Stmt}
 use Rattle.mx_syntax.specs.declared.stmt.Stmt.TheVariants as made
 use Rattle.mx_syntax.specs.declared.stmt.IfArm.{IfArm, out-IfArm}
 use Rattle.mx_syntax.specs.declared.stmt.Param.{Param}
+use Rattle.mx_syntax.specs.Heights.{height, arm_height, body_height, arms_height, is_of_one_line, first_line}
 use Rattle.mx_print.specs.Texts.{Text}
 use Rattle.mx_print.specs.Statements.{stmt_lines, arm_lines, body_lines, if_lines, arm_word, whole, returned, one_line, formula_lines, margin, lines_text}
 
--- how many lines a statement takes, with those within it
-abbrev pub height : Stmt → ℕ
-height stmt = length (stmt_lines stmt)
-
-abbrev pub arm_height : IfArm → ℕ
-arm_height arm = length (arm_lines arm)
-
-abbrev pub body_height : List Stmt → ℕ
-body_height body = length (body_lines body)
-
--- how many lines the arms of an `if` take
-abbrev pub arms_height : List IfArm → ℕ
-arms_height arms = length (if_lines (map arm_lines arms))
-
--- the line of the first statement: the head's own where the formula is of one line, else the next
-abbrev pub first_line : List Stmt → ℕ
-first_line body = if is_some (one_line (map returned body)) then 1 else 2
+-- heights count the lines of the printed text
+pub record HeightsCountLines : Type 0 where
+  pub statement : (stmt : Stmt) → length (stmt_lines stmt) ≡ height stmt
+  pub arm : (arm : IfArm) → length (arm_lines arm) ≡ arm_height arm
+  pub body : (body : List Stmt) → length (body_lines body) ≡ body_height body
+  pub arms : (arms : List IfArm) → length (if_lines (map arm_lines arms)) ≡ arms_height arms
+  pub one : (body : List Stmt) → is_some (one_line (map returned body)) ≡ is_of_one_line body
 
 -- In a body whose first statement stands at the line `first`, the statement stands at `line`: below
 -- the statements before it, and below the head of the loop or the arm that it is in.

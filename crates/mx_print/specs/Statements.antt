@@ -12,7 +12,7 @@ use Rattle.mx_syntax.specs.declared.stmt.Param.{Param}
 use Rattle.mx_syntax.specs.declared.stmt.Formula.{Formula}
 use Rattle.mx_syntax.specs.declared.stmt.Params.{Params}
 use Rattle.mx_value.specs.declared.value.Value.{Value}
-use Rattle.mx_print.specs.Lists.{flat}
+use Rattle.mx_syntax.specs.Lists.{flat}
 use Rattle.mx_print.specs.Texts.{Text, commas}
 use Rattle.mx_print.specs.Values.{value_text, quoted}
 use Rattle.mx_print.specs.Expressions.{at, printed}

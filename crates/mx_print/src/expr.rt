@@ -1,6 +1,6 @@
 //! The one text of an expression, added behind the bytes of a buffer.
 ghost use Rattle.std.specs.Prelude.{◌≡◌, ◌++◌, map, replicate, codes, OnOk};
-ghost use Rattle.mx_print.specs.Lists.{flat};
+ghost use Rattle.mx_syntax.specs.Lists.{flat};
 ghost use Rattle.mx_print.specs.Texts.{separated};
 ghost use Rattle.mx_print.specs.Values.{tuple_text};
 ghost use Rattle.mx_print.specs.Expressions as spec;

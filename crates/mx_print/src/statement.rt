@@ -1,6 +1,6 @@
 //! The lines of statements, added behind the bytes of a buffer.
 ghost use Rattle.std.specs.Prelude.{◌≡◌, ◌++◌, ◌∷◌, [], map, replicate, codes, OnOk};
-ghost use Rattle.mx_print.specs.Lists.{flat};
+ghost use Rattle.mx_syntax.specs.Lists.{flat};
 ghost use Rattle.mx_print.specs.Texts.{commas};
 ghost use Rattle.mx_print.specs.Statements as spec;
 ghost use Rattle.mx_print.specs.Statements.{arm_lines, block, body_lines, display_text, entry_text, front, if_lines, line_text, lines_text, margin, ref_text, return_text, stmt_lines};

@@ -54,7 +54,7 @@ pub enum Sign {
 
 /// An expression. A part of a chain that has no further parts is that part itself, and brackets round one leave no trace.
 #[cycle(tree)]
-#[derive(Drop)]
+#[derive(PartialEq, Eq, Drop)]
 pub enum Expr {
     /// A literal, never a tuple.
     Lit(Value),
@@ -109,7 +109,7 @@ pub enum Expr {
 
 /// An arm of a conditional: the value where the test holds.
 #[cycle(tree)]
-#[derive(Drop)]
+#[derive(PartialEq, Eq, Drop)]
 pub struct Arm {
     pub value: Expr,
     pub test: Expr,
@@ -117,7 +117,7 @@ pub struct Arm {
 
 /// A further part of a chain of comparisons.
 #[cycle(tree)]
-#[derive(Drop)]
+#[derive(PartialEq, Eq, Drop)]
 pub enum Comparison {
     Op(CmpOp, Expr),
     /// `is None`
@@ -128,7 +128,7 @@ pub enum Comparison {
 
 /// A further part of a sum.
 #[cycle(tree)]
-#[derive(Drop)]
+#[derive(PartialEq, Eq, Drop)]
 pub struct SumPart {
     pub op: SumOp,
     pub of: Expr,
@@ -136,7 +136,7 @@ pub struct SumPart {
 
 /// A further part of a product.
 #[cycle(tree)]
-#[derive(Drop)]
+#[derive(PartialEq, Eq, Drop)]
 pub struct ProductPart {
     pub op: ProductOp,
     pub of: Expr,
@@ -144,7 +144,7 @@ pub struct ProductPart {
 
 /// A further part of a power. Its signs apply to the power of this part with all parts to its right.
 #[cycle(tree)]
-#[derive(Drop)]
+#[derive(PartialEq, Eq, Drop)]
 pub struct PowerPart {
     pub signs: List<Sign>,
     pub of: Expr,
@@ -152,7 +152,7 @@ pub struct PowerPart {
 
 /// What stands behind a part.
 #[cycle(tree)]
-#[derive(Drop)]
+#[derive(PartialEq, Eq, Drop)]
 pub enum Trailer {
     /// `(..)`
     Call(Args),
@@ -164,7 +164,7 @@ pub enum Trailer {
 
 /// The arguments of a call.
 #[cycle(tree)]
-#[derive(Drop)]
+#[derive(PartialEq, Eq, Drop)]
 pub enum Args {
     List(List<Expr>),
     /// One generator: `element for name in over if test`.

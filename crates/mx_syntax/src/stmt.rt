@@ -14,7 +14,7 @@ pub enum ArithOp {
 
 /// A statement.
 #[cycle(body)]
-#[derive(Drop)]
+#[derive(PartialEq, Eq, Drop)]
 pub enum Stmt {
     Pass,
     /// `return`, with a value or without one.
@@ -40,14 +40,14 @@ pub enum Stmt {
 
 /// An arm of an `if`: the statements that run where the test holds.
 #[cycle(body)]
-#[derive(Drop)]
+#[derive(PartialEq, Eq, Drop)]
 pub struct IfArm {
     pub test: Expr,
     pub body: List<Stmt>,
 }
 
 /// An entry of the display that an item is made of.
-#[derive(Drop)]
+#[derive(PartialEq, Eq, Drop)]
 pub enum ItemEntry {
     /// References of the item, by name.
     Refs(List<(Label, Expr)>),
@@ -56,21 +56,21 @@ pub enum ItemEntry {
 }
 
 /// A parameter, with its default where it has one.
-#[derive(Drop)]
+#[derive(PartialEq, Eq, Drop)]
 pub struct Param {
     pub name: Label,
     pub default: Option<Value>,
 }
 
 /// The formula of cells. The one-line form `(..) = e` is a body of one `Return`.
-#[derive(Drop)]
+#[derive(PartialEq, Eq, Drop)]
 pub struct Formula {
     pub params: List<Param>,
     pub body: List<Stmt>,
 }
 
 /// The parameters of a space, with the formula of its items where there is one.
-#[derive(Drop)]
+#[derive(PartialEq, Eq, Drop)]
 pub struct Params {
     pub params: List<Param>,
     pub body: Option<List<Stmt>>,

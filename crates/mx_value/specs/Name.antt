@@ -1,8 +1,16 @@
--- Which labels are names: those that Python's grammar takes as identifiers, but for a leading `_`.
+-- Names: when two are the same, and which labels are names, those that Python's grammar takes as identifiers but for a leading `_`.
 use Rattle.std.specs.Prelude.{ℕ, Bool, false, List, [], ◌∷◌, ◌||◌, ◌&&◌, ◌==◌, nat_le, length, codes, not}
 use Rattle.std.specs.List.{list_any, list_all}
 use Rattle.std.specs.Char.{is_ascii_alphabetic, is_ascii_alphanumeric}
 use Rattle.std.specs.Cmp.Lexicographic.{pointwise}
+
+-- the two names have the same bytes
+abbrev pub same_name : List ℕ → List ℕ → Bool
+same_name = pointwise ◌==◌
+
+-- the two paths have the same names
+abbrev pub same_path : List (List ℕ) → List (List ℕ) → Bool
+same_path = pointwise same_name
 
 -- Python's keywords
 abbrev pub keywords : List (List ℕ)
@@ -14,7 +22,7 @@ keywords =
     codes "try" ∷ codes "while" ∷ codes "with" ∷ codes "yield" ∷ codes "None" ∷ codes "True" ∷ codes "False" ∷ []
 
 abbrev pub is_keyword : List ℕ → Bool
-is_keyword bytes = list_any (λ word. pointwise ◌==◌ bytes word) keywords
+is_keyword bytes = list_any (same_name bytes) keywords
 
 -- a letter, a digit or `_`
 abbrev pub is_name_byte : ℕ → Bool

@@ -7,9 +7,6 @@ ghost use Rattle.mx_value.specs.Fixed.{one, IsInRange, checked, fixed_from_int, 
 use crate::rounding::{div_floor, div_half_even, mod_floor};
 use std::marker::Model;
 
-#[cfg(test)]
-mod tests;
-
 /// Why a number could not be computed.
 #[derive(Clone, Copy, Debug, PartialEq, Eq, Drop)]
 pub enum NumFault {

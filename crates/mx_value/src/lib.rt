@@ -16,6 +16,4 @@ pub mod read;
 pub mod refusal;
 pub mod rounding;
 pub mod size;
-#[cfg(test)]
-mod tests;
 pub mod value;

@@ -3,7 +3,7 @@ use Rattle.std.specs.Prelude.{OnOk}
 use Rattle.mx_syntax.specs.declared.expr.Expr.{Expr}
 use Rattle.mx_print.specs.Texts.{Text}
 use Rattle.mx_print.specs.Expressions.{at, printed, arm_text, comparison_text, sum_part_text, product_part_text, power_part_text, trailer_text}
-use Rattle.mx_print.proofs.ListLemmas.{flat_more}
+use Rattle.mx_syntax.proofs.ListLemmas.{flat_more}
 use Rattle.mx_print.proofs.ExprLemmas.{all_first, all_more, generator_whole}
 use Rattle.mx_print.proofs.expr.+print.Goals as goal
 use Rattle.mx_print.proofs.expr.+print.Goals.{push_separated-then-i-gt0+in_ok-push, push_separated-else-i-gt0}

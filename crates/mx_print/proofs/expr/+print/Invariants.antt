@@ -1,5 +1,5 @@
 use Rattle.std.proofs.Common.{◌≡◌, ◌++◌, map, take}
-use Rattle.mx_print.specs.Lists.{flat}
+use Rattle.mx_syntax.specs.Lists.{flat}
 use Rattle.mx_print.specs.Texts.{separated}
 use Rattle.mx_print.specs.Expressions.{printed, all_at, arm_text, comparison_text, sum_part_text, product_part_text, power_part_text, trailer_text}
 use Rattle.mx_print.proofs.expr.+print.Given as goal

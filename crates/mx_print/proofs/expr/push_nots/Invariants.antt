@@ -1,6 +1,6 @@
 use Rattle.std.proofs.Common.{◌≡◌, ◌++◌, replicate}
 use Rattle.std.specs.Prelude.{codes}
-use Rattle.mx_print.specs.Lists.{flat}
+use Rattle.mx_syntax.specs.Lists.{flat}
 use Rattle.mx_print.proofs.expr.push_nots.Given as goal
 
 abbrev pub invariant-loop : goal.invariant-loop

@@ -1,0 +1,5 @@
+pub mod Binding
+pub mod Equality
+pub mod Heights
+pub mod Lists
+pub mod Locals
