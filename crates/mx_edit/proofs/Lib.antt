@@ -1,0 +1,4 @@
+pub mod Keys
+pub mod Results
+pub mod TableSames
+pub mod Tables

@@ -1,0 +1,4 @@
+pub mod Entry
+pub mod Equality
+pub mod Rows
+pub mod Table

@@ -1,0 +1,5 @@
+//! Tests of tables and keys.
+#![tactic(auto)]
+
+#[cfg(test)]
+mod tables;
