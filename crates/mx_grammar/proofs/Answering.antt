@@ -17,7 +17,7 @@ use Rattle.mx_grammar.specs.declared.refusal.ParseRefusal.{ParseRefusal}
 use Rattle.mx_grammar.specs.declared.refusal.ParseRefusal.TheVariants.{Lex, TooNested, Unexpected, TooManyLoops, PrintsTooLong, NoMemory}
 use Rattle.mx_grammar.specs.Words.{is, word_of}
 use Rattle.mx_grammar.specs.Reading.{Words, Parser, parsed, Gives}
-use Rattle.mx_grammar.specs.Spelling.{Language, Spells, Begins, UnexpectedIn, Shallow, DeepAt, words_of, SpellsIn, PlaceOf, NestedAt, UnexpectedAt, Unread, Refused, Answers, Unless, IsOpened, InText, Placed}
+use Rattle.mx_grammar.specs.Spelling.{Language, Spells, Begins, UnexpectedIn, Shallow, DeepAt, words_of, SpellsIn, PlaceOf, NestedAt, UnexpectedAt, Unread, Refused, Answers, Unless, IsOpened, InText, Placed, unopened}
 use Rattle.mx_grammar.proofs.Exact.{ends}
 use Rattle.mx_grammar.proofs.Texts.{Exactly, one_tree, parsed_sound, parsed_unexpected}
 use Rattle.mx_grammar.proofs.OpenCount.{not_both, one_depth}
@@ -121,10 +121,10 @@ module _ {A : Type 0} (L : Language A) (P : ℕ → Parser A) (x : Exactly L P) 
   abbrev refused : ParseRefusal → Result A ParseRefusal
   refused e = Err e
 
-  not_nested : (tokens : List Token) → tokens_of source ≡ Ok tokens → Shallow 64 0 (words_of source tokens) → (p : ℕ) → NestedAt source p → ⊥
+  not_nested : (tokens : List Token) → tokens_of source ≡ Ok tokens → Shallow 64 unopened (words_of source tokens) → (p : ℕ) → NestedAt source p → ⊥
   not_nested tokens lexed shallow p h =
       let same = tokens_same tokens h.tokens (tokens_of source) lexed h.lexed in
-      not_both 64 0 (words_of source h.tokens) h.left (subst (λ (ts : List Token). Shallow 64 0 (words_of source ts)) same shallow) h.deep
+      not_both 64 unopened (words_of source h.tokens) h.left (subst (λ (ts : List Token). Shallow 64 unopened (words_of source ts)) same shallow) h.deep
 
   trees_same : (y z : A) → SpellsIn L source y → SpellsIn L source z → y ≡ z
   trees_same y z a b =
@@ -146,7 +146,7 @@ module _ {A : Type 0} (L : Language A) (P : ℕ → Parser A) (x : Exactly L P) 
   nested_same : (p q : ℕ) → NestedAt source p → NestedAt source q → p ≡ q
   nested_same p q a b =
       let same = tokens_same b.tokens a.tokens (tokens_of source) b.lexed a.lexed in
-      let left = one_depth 64 0 (words_of source a.tokens) a.left b.left a.deep (subst (λ (ts : List Token). DeepAt 64 0 (words_of source ts) b.left) same b.deep) in
+      let left = one_depth 64 unopened (words_of source a.tokens) a.left b.left a.deep (subst (λ (ts : List Token). DeepAt 64 unopened (words_of source ts) b.left) same b.deep) in
       let there : PlaceOf a.tokens a.left q = subst (λ (n : ℕ). PlaceOf a.tokens n q) (sym left) (subst (λ (ts : List Token). PlaceOf ts b.left q) same b.at) in
       place_same a.tokens a.left p q a.at there
 
@@ -196,7 +196,7 @@ module _ {A : Type 0} (L : Language A) (P : ℕ → Parser A) (x : Exactly L P) 
   read_answer tokens words o y g = record {
     tokens = tokens;
     lexed = o.lexed;
-    shallow = subst (Shallow 64 0) o.are o.shallow;
+    shallow = subst (Shallow 64 unopened) o.are o.shallow;
     spells = subst (λ (ts : Words). Spells L ts y) o.are (parsed_sound L P x words y g);
   }
 
@@ -209,7 +209,7 @@ module _ {A : Type 0} (L : Language A) (P : ℕ → Parser A) (x : Exactly L P) 
       record {
         tokens = tokens;
         lexed = o.lexed;
-        shallow = subst (Shallow 64 0) o.are o.shallow;
+        shallow = subst (Shallow 64 unopened) o.are o.shallow;
         left = u.left;
         unexpected = subst (λ (ts : Words). UnexpectedIn L ts u.left) o.are u.unexpected;
         at = subst (λ (k : ℕ). PlaceOf tokens k place) same at;

@@ -1,42 +1,43 @@
 -- Tokens at which too many brackets are open, and those at which none are.
 use Rattle.std.proofs.Common.{◌≡◌, ℕ, suc, ◌≤◌, ◌<◌, [], ◌∷◌, length, refl, arith, inl, inr}
+use Rattle.mx_grammar.specs.declared.nesting.Open.{Open}
 use Rattle.mx_grammar.specs.declared.word.Word.{Word}
 use Rattle.mx_grammar.specs.Reading.{Words}
-use Rattle.mx_grammar.specs.Spelling.{Shallow, DeepAt, behind_word}
+use Rattle.mx_grammar.specs.Spelling.{Shallow, DeepAt, behind_word, open_count, unopened}
 
 -- both cannot be
-pub not_both : (d n : ℕ) (ts : Words) (left : ℕ) → Shallow d n ts → DeepAt d n ts left → ⊥
+pub not_both : (d : ℕ) (n : Open) (ts : Words) (left : ℕ) → Shallow d n ts → DeepAt d n ts left → ⊥
 not_both d n [] left s p = absurd p
-not_both d n (t ∷ ts) left s (inl p) = let q : behind_word t n ≤ d = s.0 in let r : d < behind_word t n = p.0 in absurd (omega arith)
+not_both d n (t ∷ ts) left s (inl p) = let q : open_count (behind_word t n) ≤ d = s.0 in let r : d < open_count (behind_word t n) = p.0 in absurd (omega arith)
 not_both d n (t ∷ ts) left s (inr p) = not_both d (behind_word t n) ts left s.1 p.1
 
 -- there is one such place
-pub one_depth : (d n : ℕ) (ts : Words) (a b : ℕ) → DeepAt d n ts a → DeepAt d n ts b → a ≡ b
+pub one_depth : (d : ℕ) (n : Open) (ts : Words) (a b : ℕ) → DeepAt d n ts a → DeepAt d n ts b → a ≡ b
 one_depth d n [] a b p q = absurd p
 one_depth d n (t ∷ ts) a b (inl p) (inl q) = omega (arith, p.1, q.1)
-one_depth d n (t ∷ ts) a b (inl p) (inr q) = let r : d < behind_word t n = p.0 in let s : behind_word t n ≤ d = q.0 in absurd (omega arith)
-one_depth d n (t ∷ ts) a b (inr p) (inl q) = let r : d < behind_word t n = q.0 in let s : behind_word t n ≤ d = p.0 in absurd (omega arith)
+one_depth d n (t ∷ ts) a b (inl p) (inr q) = let r : d < open_count (behind_word t n) = p.0 in let s : open_count (behind_word t n) ≤ d = q.0 in absurd (omega arith)
+one_depth d n (t ∷ ts) a b (inr p) (inl q) = let r : d < open_count (behind_word t n) = q.0 in let s : open_count (behind_word t n) ≤ d = p.0 in absurd (omega arith)
 one_depth d n (t ∷ ts) a b (inr p) (inr q) = one_depth d (behind_word t n) ts a b p.1 q.1
 
 -- it is a token's
-pub deep_within : (d n : ℕ) (ts : Words) (a : ℕ) → DeepAt d n ts a → (0 < a) × (a ≤ length ts)
+pub deep_within : (d : ℕ) (n : Open) (ts : Words) (a : ℕ) → DeepAt d n ts a → (0 < a) × (a ≤ length ts)
 deep_within d n [] a p = absurd p
 deep_within d n (t ∷ ts) a (inl p) = (omega (arith, p.1), omega (arith, p.1))
 deep_within d n (t ∷ ts) a (inr p) = let h = deep_within d (behind_word t n) ts a p.1 in (h.0, omega (arith, h.1))
 
 -- what is known of the tokens that are left is known of all
-pub record Keeps (d n : ℕ) (rest all : Words) : Type 0 where
-  pub shallow : Shallow d n rest → Shallow d 0 all
-  pub deep : (left : ℕ) → DeepAt d n rest left → DeepAt d 0 all left
+pub record Keeps (d : ℕ) (n : Open) (rest all : Words) : Type 0 where
+  pub shallow : Shallow d n rest → Shallow d unopened all
+  pub deep : (left : ℕ) → DeepAt d n rest left → DeepAt d unopened all left
 
-pub keeps_all : (d : ℕ) (all : Words) → Keeps d 0 all all
+pub keeps_all : (d : ℕ) (all : Words) → Keeps d unopened all all
 keeps_all d all = record { shallow = λ s. s; deep = λ left h. h }
 
-pub keeps_more : (d n : ℕ) (t : Word) (rest all : Words) → behind_word t n ≤ d → Keeps d n (t ∷ rest) all → Keeps d (behind_word t n) rest all
+pub keeps_more : (d : ℕ) (n : Open) (t : Word) (rest all : Words) → open_count (behind_word t n) ≤ d → Keeps d n (t ∷ rest) all → Keeps d (behind_word t n) rest all
 keeps_more d n t rest all le k = record { shallow = λ s. k.shallow (le, s); deep = λ left h. k.deep left (inr (le, h)) }
 
-pub keeps_deep : (d n : ℕ) (t : Word) (rest all : Words) → d < behind_word t n → Keeps d n (t ∷ rest) all → DeepAt d 0 all (suc (length rest))
+pub keeps_deep : (d : ℕ) (n : Open) (t : Word) (rest all : Words) → d < open_count (behind_word t n) → Keeps d n (t ∷ rest) all → DeepAt d unopened all (suc (length rest))
 keeps_deep d n t rest all lt k = k.deep (suc (length rest)) (inl (lt, refl))
 
-pub keeps_none : (d n : ℕ) (all : Words) → Keeps d n [] all → Shallow d 0 all
+pub keeps_none : (d : ℕ) (n : Open) (all : Words) → Keeps d n [] all → Shallow d unopened all
 keeps_none d n all k = k.shallow tt

@@ -4,6 +4,7 @@ use Rattle.mx_lex.specs.declared.Token.{Token}
 use Rattle.mx_lex.specs.declared.LexRefusal.{LexRefusal}
 use Rattle.mx_lex.specs.declared.LexRefusal.TheVariants as lex
 use Rattle.mx_lex.specs.Lexing.{tokens_of}
+use Rattle.mx_grammar.specs.declared.nesting.Open.{Open}
 use Rattle.mx_grammar.specs.declared.word.Word.{Word}
 use Rattle.mx_grammar.specs.declared.word.Word.TheVariants.{Symbol}
 use Rattle.mx_grammar.specs.declared.word.Symbol.TheVariants.{OpenRound, CloseRound, OpenSquare, CloseSquare, OpenCurly, CloseCurly, Indent, Dedent, End}
@@ -44,27 +45,42 @@ pub record UnexpectedIn {A : Type 0} (L : Language A) (ts : List Word) (n : ℕ)
 
 -- ---- brackets and indents
 
--- how many are open behind a token. One that closes nothing leaves 0.
-abbrev pub behind_word : Word → ℕ → ℕ
-behind_word (Symbol OpenRound) n = n + 1
-behind_word (Symbol OpenSquare) n = n + 1
-behind_word (Symbol OpenCurly) n = n + 1
-behind_word (Symbol Indent) n = n + 1
-behind_word (Symbol CloseRound) n = n - 1
-behind_word (Symbol CloseSquare) n = n - 1
-behind_word (Symbol CloseCurly) n = n - 1
-behind_word (Symbol Dedent) n = n - 1
+abbrev pub unopened : Open
+unopened = record { brackets = 0; indents = 0 }
+
+abbrev pub bracketed : Open → Open
+bracketed n = record n { brackets = n.brackets + 1 }
+
+abbrev pub unbracketed : Open → Open
+unbracketed n = record n { brackets = n.brackets - 1 }
+
+-- how many are open behind a token. A bracket that closes none leaves 0 brackets, and never closes an indent.
+abbrev pub behind_word : Word → Open → Open
+behind_word (Symbol OpenRound) n = bracketed n
+behind_word (Symbol OpenSquare) n = bracketed n
+behind_word (Symbol OpenCurly) n = bracketed n
+behind_word (Symbol CloseRound) n = unbracketed n
+behind_word (Symbol CloseSquare) n = unbracketed n
+behind_word (Symbol CloseCurly) n = unbracketed n
+behind_word (Symbol Indent) n = record n { indents = n.indents + 1 }
+behind_word (Symbol Dedent) n = record n { indents = n.indents - 1 }
 behind_word _ n = n
 
--- at no token more than d are open, where n are at the start
-abbrev pub Shallow : ℕ → ℕ → List Word → Type 0
+-- brackets and indents together
+abbrev pub open_count : Open → ℕ
+open_count n = n.brackets + n.indents
+
+-- at no token more than d are open, where these are at the start
+abbrev pub Shallow : ℕ → Open → List Word → Type 0
 Shallow d n [] = Unit {0}
-Shallow d n (t ∷ ts) = (behind_word t n ≤ d) × Shallow d (behind_word t n) ts
+Shallow d n (t ∷ ts) = (open_count (behind_word t n) ≤ d) × Shallow d (behind_word t n) ts
 
 -- the last `left` tokens begin with the first at which more than d are open
-abbrev pub DeepAt : ℕ → ℕ → List Word → ℕ → Type 0
+abbrev pub DeepAt : ℕ → Open → List Word → ℕ → Type 0
 DeepAt d n [] left = ⊥
-DeepAt d n (t ∷ ts) left = ((d < behind_word t n) × (left ≡ suc (length ts))) ⊎ ((behind_word t n ≤ d) × DeepAt d (behind_word t n) ts left)
+DeepAt d n (t ∷ ts) left =
+    ((d < open_count (behind_word t n)) × (left ≡ suc (length ts)))
+    ⊎ ((open_count (behind_word t n) ≤ d) × DeepAt d (behind_word t n) ts left)
 
 -- ---- sources
 
@@ -76,7 +92,7 @@ words_of source tokens = map (word_of source) tokens
 pub record SpellsIn {A : Type 0} (L : Language A) (source : List ℕ) (x : A) : Type 0 where
   pub tokens : List Token
   pub lexed : tokens_of source ≡ Ok tokens
-  pub shallow : Shallow 64 0 (words_of source tokens)
+  pub shallow : Shallow 64 unopened (words_of source tokens)
   pub spells : Spells L (words_of source tokens) x
 
 -- the place is that of the token with which the last n tokens begin
@@ -93,14 +109,14 @@ pub record NestedAt (source : List ℕ) (place : ℕ) : Type 0 where
   pub tokens : List Token
   pub lexed : tokens_of source ≡ Ok tokens
   pub left : ℕ
-  pub deep : DeepAt 64 0 (words_of source tokens) left
+  pub deep : DeepAt 64 unopened (words_of source tokens) left
   pub at : PlaceOf tokens left place
 
 -- The first token that no continuation allows stands at this place.
 pub record UnexpectedAt {A : Type 0} (L : Language A) (source : List ℕ) (place : ℕ) : Type 0 where
   pub tokens : List Token
   pub lexed : tokens_of source ≡ Ok tokens
-  pub shallow : Shallow 64 0 (words_of source tokens)
+  pub shallow : Shallow 64 unopened (words_of source tokens)
   pub left : ℕ
   pub unexpected : UnexpectedIn L (words_of source tokens) left
   pub at : PlaceOf tokens left place
@@ -139,7 +155,7 @@ of_lex e = Lex e
 pub record IsOpened (source : List ℕ) (tokens : List Token) (words : List Word) : Type 0 where
   pub lexed : tokens_of source ≡ Ok tokens
   pub are : words ≡ words_of source tokens
-  pub shallow : Shallow 64 0 words
+  pub shallow : Shallow 64 unopened words
 
 -- the count of a trouble is that of a token
 abbrev pub InText : ℕ → Trouble → Type 0

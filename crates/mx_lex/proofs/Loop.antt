@@ -29,7 +29,7 @@ abbrev after_first : List ℕ → ℕ → Result Step LexRefusal → Tokens
 after_first bs at (Ok step) = tokens_before step.given (tokens_from bs (step.taken - 1) (at + 1) step.next)
 after_first bs at (Err e) = Err e
 
-drop_first : (taken b : ℕ) (bs : List ℕ) → 0 < taken → drop (taken - 1) bs ≡ drop taken (b ∷ bs)
+pub drop_first : (taken b : ℕ) (bs : List ℕ) → 0 < taken → drop (taken - 1) bs ≡ drop taken (b ∷ bs)
 drop_first zero b bs h = absurd (omega arith)
 drop_first (suc k) b bs h = let e : suc k - 1 ≡ k = omega arith in ap (λ n. drop n bs) e
 

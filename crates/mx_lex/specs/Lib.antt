@@ -5,3 +5,4 @@ pub mod Lines
 pub mod Lexing
 pub mod Stacks
 pub mod Laws
+pub mod Fronts

@@ -15,7 +15,7 @@ use mx_list::items::Items;
 use std::alloc::Global;
 
 /// The longest source.
-const MOST_BYTES: usize = 65_536;
+pub const MOST_BYTES: usize = 65_536;
 
 fn spaces_len(rest: &[u8]) -> usize
     ensures value { result ≡ prefix_len (λ b. b == 32) rest.now }
@@ -73,7 +73,7 @@ fn give(token: Option<Token>, tokens: &mut Tokens) -> Result<(), LexRefusal>
 
 /// Reads what stands at a place, and answers the bytes that it takes and how the line goes on.
 #[tactic(auto, unfolding(crate::specs::Lexing::step_at))]
-fn step(
+pub fn step(
     rest: &[u8],
     at: u32,
     line: Line,

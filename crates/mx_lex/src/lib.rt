@@ -2,6 +2,7 @@
 #![tactic(auto)]
 
 mod bytes;
+mod front;
 mod head;
 pub mod laws;
 mod lexer;
@@ -9,10 +10,9 @@ mod line;
 mod number;
 mod spans;
 mod stack;
-#[cfg(test)]
-mod tests;
 mod text;
 
+pub use front::front_of;
 pub use lexer::lex;
 use mx_list::items::Items;
 use std::alloc::{AllocError, AllocFailed};

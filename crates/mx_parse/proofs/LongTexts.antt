@@ -6,7 +6,7 @@ use Rattle.mx_lex.specs.Lexing.{tokens_of}
 use Rattle.mx_grammar.specs.declared.word.Word.{Word}
 use Rattle.mx_grammar.specs.declared.refusal.ParseRefusal.{ParseRefusal}
 use Rattle.mx_grammar.specs.declared.refusal.ParseRefusal.TheVariants.{Lex, TooNested, Unexpected, TooManyLoops, PrintsTooLong, NoMemory}
-use Rattle.mx_grammar.specs.Spelling.{Shallow, words_of, IsOpened, Unread, NestedAt}
+use Rattle.mx_grammar.specs.Spelling.{Shallow, words_of, IsOpened, Unread, NestedAt, unopened}
 use Rattle.mx_grammar.specs.Limits.{IsShort}
 use Rattle.mx_grammar.proofs.OpenCount.{not_both}
 
@@ -19,7 +19,7 @@ lexed_same a b e = cc
 pub not_nested : (text : List ℕ) (tokens : List Token) (words : List Word) → IsOpened text tokens words → (place : ℕ) → NestedAt text place → ⊥
 not_nested text tokens words o place h =
     let same = lexed_same tokens h.tokens (sym o.lexed ∙ h.lexed) in
-    not_both 64 0 (words_of text h.tokens) h.left (subst (Shallow 64 0) (o.are ∙ ap (words_of text) same) o.shallow) h.deep
+    not_both 64 unopened (words_of text h.tokens) h.left (subst (Shallow 64 unopened) (o.are ∙ ap (words_of text) same) o.shallow) h.deep
 
 pub opened_short : (text : List ℕ) (tokens : List Token) (words : List Word) → length text ≤ 65536 → IsOpened text tokens words → IsShort (Some text)
 opened_short text tokens words le o = (le, not_nested text tokens words o)

@@ -4,16 +4,12 @@
 mod block;
 mod display;
 mod formula;
-#[cfg(test)]
-mod formula_tests;
 pub mod laws;
 mod limits;
 mod loops;
 mod parameter;
 mod parse;
 mod statement;
-#[cfg(test)]
-mod tests;
 
 pub use mx_grammar::refusal::ParseRefusal;
 pub use parse::{parse_addr, parse_expr, parse_formula, parse_literal, parse_node, parse_params};

@@ -19,7 +19,8 @@ use Rattle.mx_grammar.specs.Grammar.{Spelling, Listed, Within}
 use Rattle.mx_grammar.specs.Literals.{Literal, Index, Step, Leading, Addr, addr_text}
 use Rattle.mx_round_trip.specs.ReadBack.{ReadsBack}
 use Rattle.mx_round_trip.proofs.Numbers.{glues}
-use Rattle.mx_round_trip.proofs.Counts.{IsClosed, IsNoDeeper, behind_append, closed_append, no_deeper_both, no_deeper_front, same_depth}
+use Rattle.mx_grammar.specs.Spelling.{bracketed, unbracketed}
+use Rattle.mx_round_trip.proofs.Counts.{closes, IsClosed, IsNoDeeper, behind_append, closed_append, no_deeper_both, no_deeper_front, same_depth}
 use Rattle.mx_round_trip.proofs.Flat.{Flat, flat_both, flat_more}
 use Rattle.mx_round_trip.proofs.Printed.{Again, AllAgain, starts, comma_closed}
 use Rattle.mx_round_trip.proofs.Sources.{AreSaid, said_split}
@@ -76,10 +77,10 @@ begun_no_digit a text rest h =
 -- ---- brackets
 
 closed_square : (us : List Word) → IsClosed us → IsClosed (word.Symbol symbol.OpenSquare ∷ us ++ word.Symbol symbol.CloseSquare ∷ [])
-closed_square us h = record { same = λ n. behind_append us (word.Symbol symbol.CloseSquare ∷ []) (n + 1) ∙ ap (λ m. m - 1) (h.same (n + 1)) ∙ omega arith }
+closed_square us h = record { same = λ n. behind_append us (word.Symbol symbol.CloseSquare ∷ []) (bracketed n) ∙ ap unbracketed (h.same (bracketed n)) ∙ closes n }
 
 no_deeper_square : (us ws : List Word) → IsClosed us → IsClosed ws → IsNoDeeper us ws → IsNoDeeper (word.Symbol symbol.OpenSquare ∷ us ++ word.Symbol symbol.CloseSquare ∷ []) (word.Symbol symbol.OpenSquare ∷ ws ++ word.Symbol symbol.CloseSquare ∷ [])
-no_deeper_square us ws cu cw h = let inner = no_deeper_both cu cw h (same_depth (word.Symbol symbol.CloseSquare ∷ [])) in record { shallow = λ d n s. (s.0, inner.shallow d (n + 1) s.1) }
+no_deeper_square us ws cu cw h = let inner = no_deeper_both cu cw h (same_depth (word.Symbol symbol.CloseSquare ∷ [])) in record { shallow = λ d n s. (s.0, inner.shallow d (bracketed n) s.1) }
 
 -- a token that opens and closes nothing, before others
 after_token : (w : Word) → IsClosed (w ∷ []) → (us ws : List Word) → IsNoDeeper us ws → IsNoDeeper (w ∷ us) (w ∷ ws)

@@ -6,7 +6,7 @@ use Rattle.mx_grammar.specs.declared.word.Word.{Word}
 use Rattle.mx_grammar.specs.declared.word.Word.TheVariants.{Symbol}
 use Rattle.mx_grammar.specs.declared.word.Symbol.TheVariants.{Newline, End}
 use Rattle.mx_grammar.specs.Grammar.{Spelling, Line, Within}
-use Rattle.mx_grammar.specs.Spelling.{SpellsIn, Shallow, words_of}
+use Rattle.mx_grammar.specs.Spelling.{SpellsIn, Shallow, words_of, unopened}
 use Rattle.mx_grammar.specs.Literals.{Literal, literal_text}
 use Rattle.mx_round_trip.specs.ReadBack.{ReadsBack}
 use Rattle.mx_round_trip.proofs.Counts.{shallow_split, after_closed}
@@ -18,18 +18,18 @@ use Rattle.mx_round_trip.proofs.Literals.{within_again}
 
 module _ {A : Type 0} (R : ℕ → Spelling A) (F : ℕ → Bool) (text : A → List ℕ) (again : (levels : ℕ) (u : List Word) (x : A) → AreSaid u → R levels u x → Again F (R levels) u x (text x)) where
   -- from what the line spells to what its printed text does
-  line_back : (levels : ℕ) (ws line : List Word) (x : A) → ws ≡ line ++ Symbol End ∷ [] → AreSaid ws → Shallow 64 0 ws → Line (R levels) line x → length (text x) ≤ 65536 → SpellsIn (λ l. Line (R l)) (text x) x
+  line_back : (levels : ℕ) (ws line : List Word) (x : A) → ws ≡ line ++ Symbol End ∷ [] → AreSaid ws → Shallow 64 unopened ws → Line (R levels) line x → length (text x) ≤ 65536 → SpellsIn (λ l. Line (R l)) (text x) x
   line_back levels ws _ x parts are shallow (Line.line {u} h) short =
       let given : ws ≡ u ++ Symbol Newline ∷ Symbol End ∷ [] = parts ∙ append_assoc u (Symbol Newline ∷ []) (Symbol End ∷ []) in
       let said_u : AreSaid u = (said_split u (Symbol Newline ∷ Symbol End ∷ []) (subst AreSaid given are)).0 in
-      let shallow_u : Shallow 64 0 u = (shallow_split 64 0 u (Symbol Newline ∷ Symbol End ∷ []) (subst (Shallow 64 0) given shallow)).0 in
+      let shallow_u : Shallow 64 unopened u = (shallow_split 64 unopened u (Symbol Newline ∷ Symbol End ∷ []) (subst (Shallow 64 unopened) given shallow)).0 in
       let a : Again F (R levels) u x (text x) = again levels u x said_u h in
       let l : Lexed (text x) a.words = whole_line (text x) a.words a.flat a.starts short in
-      let low : Shallow 64 0 (a.words ++ Symbol Newline ∷ Symbol End ∷ []) = after_closed 64 0 a.words (Symbol Newline ∷ Symbol End ∷ []) a.closed (a.few.shallow 64 0 shallow_u) (omega arith, (omega arith, tt)) in
+      let low : Shallow 64 unopened (a.words ++ Symbol Newline ∷ Symbol End ∷ []) = after_closed 64 unopened a.words (Symbol Newline ∷ Symbol End ∷ []) a.closed (a.few.shallow 64 unopened shallow_u) (omega arith, (omega arith, tt)) in
       record {
         tokens = l.tokens;
         lexed = l.lexed;
-        shallow = subst (Shallow 64 0) (sym l.words) low;
+        shallow = subst (Shallow 64 unopened) (sym l.words) low;
         spells = record {
           levels = levels;
           text = a.words ++ Symbol Newline ∷ [];

@@ -13,7 +13,7 @@ use Rattle.mx_syntax.specs.declared.expr.SumOp.{SumOp}
 use Rattle.mx_syntax.specs.declared.expr.ProductPart.{ProductPart, roll-ProductPart, fold-roll-ProductPart}
 use Rattle.mx_syntax.specs.declared.expr.ProductOp.{ProductOp}
 use Rattle.mx_print.specs.Texts.{Text}
-use Rattle.mx_print.specs.Lists.{flat}
+use Rattle.mx_syntax.specs.Lists.{flat}
 use Rattle.mx_print.specs.Expressions.{Piece, form, at, spaced, cmp_text, sum_text, product_text, printed, comparison_text, sum_part_text, product_part_text, args_step, comparison_step, piece, trailer_step, arm_step, power_step, product_step, sum_step}
 use Rattle.mx_grammar.specs.declared.word.Word.{Word}
 use Rattle.mx_grammar.specs.declared.word.Word.TheVariants.{Symbol}

@@ -8,7 +8,7 @@ use Rattle.mx_syntax.specs.declared.expr.Expr.TheVariants as expr
 use Rattle.mx_syntax.specs.declared.expr.Args.TheOpen.{Expr-F}
 use Rattle.mx_syntax.specs.declared.expr.Arm.{Arm, roll-Arm, fold-roll-Arm}
 use Rattle.mx_print.specs.Texts.{Text}
-use Rattle.mx_print.specs.Lists.{flat}
+use Rattle.mx_syntax.specs.Lists.{flat}
 use Rattle.mx_print.specs.Expressions.{Piece, form, at, all_at, printed, arm_text, args_step, comparison_step, piece, trailer_step, arm_step, power_step, product_step, sum_step}
 use Rattle.mx_grammar.specs.declared.word.Word.{Word}
 use Rattle.mx_grammar.specs.declared.word.Word.TheVariants.{Symbol}

@@ -3,7 +3,7 @@ use Rattle.std.proofs.Common.{◌≡◌, ℕ, zero, suc, List, [], ◌∷◌, �
 use Rattle.std.specs.Prelude.{codes}
 use Rattle.mx_syntax.specs.declared.stmt.Stmt.{Stmt}
 use Rattle.mx_print.specs.Texts.{Text}
-use Rattle.mx_print.specs.Lists.{flat}
+use Rattle.mx_syntax.specs.Lists.{flat}
 use Rattle.mx_print.specs.Statements.{block, margin, line_text, lines_text, stmt_lines, body_lines}
 
 pub lines_both : (m : ℕ) (ls ms : List Text) → lines_text m (ls ++ ms) ≡ lines_text m ls ++ lines_text m ms

@@ -1,5 +1,5 @@
 -- The printed text of what a source spells is cut at its line feeds into its lines.
-use Rattle.std.proofs.Common.{◌≡◌, ℕ, ◌+◌, List, [], ◌∷◌, ◌++◌, true, map, Option, None, Some, refl, sym, ap, ◌∙◌, subst}
+use Rattle.std.proofs.Common.{◌≡◌, ℕ, ◌+◌, Bool, List, [], ◌∷◌, ◌++◌, true, map, Option, None, Some, refl, sym, ap, ◌∙◌, subst}
 use Rattle.std.specs.Prelude.{codes, is_some, if◌then◌else◌}
 use Rattle.mx_syntax.specs.declared.stmt.Stmt.{Stmt}
 use Rattle.mx_syntax.specs.declared.stmt.Stmt.TheVariants as stmt
@@ -9,7 +9,8 @@ use Rattle.mx_syntax.specs.declared.stmt.Formula.{Formula}
 use Rattle.mx_syntax.specs.declared.stmt.Params.{Params}
 use Rattle.mx_print.specs.Texts.{Text}
 use Rattle.mx_print.specs.Statements.{whole, display_text, block, stmt_lines, body_lines, params_text, returned, one_line, lines_by, formula_lines, params_lines, lines_text, print_params}
-use Rattle.mx_print.specs.Lines.{AtLine, Stands, arms_height, arm_head, first_line, is_first, split, StatementsStand, ArmsStand, TextHasItsLines}
+use Rattle.mx_syntax.specs.Heights.{arms_height, first_line}
+use Rattle.mx_print.specs.Lines.{AtLine, HeightsCountLines, Stands, arm_head, is_first, split, StatementsStand, ArmsStand, TextHasItsLines}
 use Rattle.mx_grammar.specs.declared.word.Word.{Word}
 use Rattle.mx_grammar.specs.declared.word.Word.TheVariants.{Symbol}
 use Rattle.mx_grammar.specs.declared.word.Symbol.TheVariants as symbol
@@ -130,7 +131,7 @@ alone_at first _ line s shown one (AtLine.otherwise {body = body} arms inner h) 
 
 -- ---- the text is cut into its lines
 
-module _ (stand : StatementsStand) (below : ArmsStand) (cut : TextHasItsLines) where
+module _ (count : HeightsCountLines) (stand : StatementsStand) (below : ArmsStand) (cut : TextHasItsLines) where
   -- a body with an `if` takes more than one line
   arm_stands : (params : List Param) (body : List Stmt) (line : ℕ) (arms more : List IfArm) (a : IfArm) (other : Option (List Stmt)) → AtLine (first_line body) body line (stmt.If (arms ++ a ∷ more) other)
       → Stands 1 (formula_lines params body) (line + arms_height arms) (arm_head (is_first arms) a ∷ [])
@@ -142,7 +143,7 @@ module _ (stand : StatementsStand) (below : ArmsStand) (cut : TextHasItsLines) w
       by : (o : Option Text) → one_line (map returned body) ≡ o → Stands 1 (formula_lines params body) (line + arms_height arms) (arm_head (is_first arms) a ∷ [])
       by None many = stands_within 1 line (line + arms_height arms) (formula_lines params body) (stmt_lines s) (arm_head (is_first arms) a ∷ []) (stand params body line s many at) (below line arms more a other)
       by (Some shown) one =
-          let from : AtLine 1 body line s = subst (λ (o : Option Text). AtLine (if is_some o then 1 else 2) body line s) one at in
+          let from : AtLine 1 body line s = subst (λ (b : Bool). AtLine (if b then 1 else 2) body line s) (sym (count.one body) ∙ ap is_some one) at in
           let gives : returned s ≡ Some shown = (alone_at 1 body line s shown one from).1 in
           let none : returned s ≡ None = if_returns (arms ++ a ∷ more) other in
           absurd cc
@@ -156,7 +157,7 @@ module _ (stand : StatementsStand) (below : ArmsStand) (cut : TextHasItsLines) w
         statements = λ line s many at. subst (λ ls. Stands 1 ls line (stmt_lines s)) (sym same) (stand params body line s many at);
         tests = λ line arms more a other at. subst (λ ls. Stands 1 ls (line + arms_height arms) (arm_head (is_first arms) a ∷ [])) (sym same) (arm_stands params body line arms more a other at);
         alone = λ line s shown one at.
-            let from : AtLine 1 body line s = subst (λ (o : Option Text). AtLine (if is_some o then 1 else 2) body line s) one at in
+            let from : AtLine 1 body line s = subst (λ (b : Bool). AtLine (if b then 1 else 2) body line s) (sym (count.one body) ∙ ap is_some one) at in
             let only = alone_at 1 body line s shown one from in
             record { place = only.0; shows = only.1; whole = same ∙ ap (λ (o : Option Text). lines_by params body o) one };
       }

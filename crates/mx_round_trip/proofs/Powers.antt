@@ -11,7 +11,7 @@ use Rattle.mx_syntax.specs.declared.expr.PowerPart.{PowerPart, roll-PowerPart, f
 use Rattle.mx_syntax.specs.declared.expr.Sign.{Sign}
 use Rattle.mx_syntax.specs.declared.expr.Sign.TheVariants as sign
 use Rattle.mx_print.specs.Texts.{Text}
-use Rattle.mx_print.specs.Lists.{flat}
+use Rattle.mx_syntax.specs.Lists.{flat}
 use Rattle.mx_print.specs.Expressions.{Piece, form, at, sign_byte, printed, power_part_text, args_step, comparison_step, piece, trailer_step, arm_step, power_step, product_step, sum_step}
 use Rattle.mx_grammar.specs.declared.word.Word.{Word}
 use Rattle.mx_grammar.specs.declared.word.Word.TheVariants.{Symbol}

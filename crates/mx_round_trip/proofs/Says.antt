@@ -2,7 +2,7 @@
 use Rattle.std.proofs.Common.{◌≡◌, ℕ, ◌≤◌, List, [], ◌∷◌, ◌++◌, Bool, false, map, sym, ap, ◌∙◌, subst, append_assoc, append-nil}
 use Rattle.mx_lex.specs.Bytes.{first_passes}
 use Rattle.mx_print.specs.Texts.{commas}
-use Rattle.mx_print.specs.Lists as lists
+use Rattle.mx_syntax.specs.Lists as lists
 use Rattle.mx_grammar.specs.declared.word.Word.{Word}
 use Rattle.mx_grammar.specs.declared.word.Word.TheVariants.{Symbol}
 use Rattle.mx_grammar.specs.declared.word.Symbol.TheVariants.{Comma}

@@ -4,25 +4,26 @@ use Rattle.std.proofs.lemmas.Bool.{leb-true, leb-false}
 use Rattle.std.proofs.lemmas.List.{length-map}
 use Rattle.mx_lex.specs.declared.Token.{Token}
 use Rattle.mx_lex.specs.Lexing.{tokens_of}
+use Rattle.mx_grammar.specs.declared.nesting.Open.{Open}
 use Rattle.mx_grammar.specs.declared.word.Word.{Word}
-use Rattle.mx_grammar.specs.Spelling.{Shallow, DeepAt, behind_word, words_of, PlaceOf}
+use Rattle.mx_grammar.specs.Spelling.{Shallow, DeepAt, behind_word, open_count, words_of, PlaceOf, unopened}
 use Rattle.mx_grammar.specs.Words.{word_of}
 use Rattle.mx_grammar.specs.Limits.{IsShort}
 use Rattle.mx_grammar.proofs.OpenCount.{deep_within}
 
 -- either holds of all tokens
-record Deep (d n : ℕ) (ws : List Word) : Type 0 where
+record Deep (d : ℕ) (n : Open) (ws : List Word) : Type 0 where
   left : ℕ
   deep : DeepAt d n ws left
 
-shallow_or_deep : (d n : ℕ) (ws : List Word) → Shallow d n ws ⊎ Deep d n ws
+shallow_or_deep : (d : ℕ) (n : Open) (ws : List Word) → Shallow d n ws ⊎ Deep d n ws
 shallow_or_deep d n [] = inl tt
-shallow_or_deep d n (w ∷ ws) = by (leb (behind_word w n) d) refl (shallow_or_deep d (behind_word w n) ws)
+shallow_or_deep d n (w ∷ ws) = by (leb (open_count (behind_word w n)) d) refl (shallow_or_deep d (behind_word w n) ws)
   where
-    by : (b : Bool) → leb (behind_word w n) d ≡ b → Shallow d (behind_word w n) ws ⊎ Deep d (behind_word w n) ws → Shallow d n (w ∷ ws) ⊎ Deep d n (w ∷ ws)
-    by true h (inl s) = inl (leb-true (behind_word w n) d h, s)
-    by true h (inr p) = inr (record { left = p.left; deep = inr (leb-true (behind_word w n) d h, p.deep) })
-    by false h other = inr (record { left = suc (length ws); deep = inl (leb-false (behind_word w n) d h, refl) })
+    by : (b : Bool) → leb (open_count (behind_word w n)) d ≡ b → Shallow d (behind_word w n) ws ⊎ Deep d (behind_word w n) ws → Shallow d n (w ∷ ws) ⊎ Deep d n (w ∷ ws)
+    by true h (inl s) = inl (leb-true (open_count (behind_word w n)) d h, s)
+    by true h (inr p) = inr (record { left = p.left; deep = inr (leb-true (open_count (behind_word w n)) d h, p.deep) })
+    by false h other = inr (record { left = suc (length ws); deep = inl (leb-false (open_count (behind_word w n)) d h, refl) })
 
 record HasPlace (tokens : List Token) (n : ℕ) : Type 0 where
   place : ℕ
@@ -42,13 +43,13 @@ has_place (t ∷ ts) n some most = by (leb n (length ts)) refl (λ less. has_pla
         record { place = t.at; is = record { front = []; token = t; others = ts; parts = refl; count = omega arith; is = refl } }
 
 -- where no place is nested too deep, no token opens too many
-pub short_shallow : (text : List ℕ) (tokens : List Token) → IsShort (Some text) → tokens_of text ≡ Ok tokens → Shallow 64 0 (words_of text tokens)
-short_shallow text tokens short lexed = by (shallow_or_deep 64 0 (words_of text tokens))
+pub short_shallow : (text : List ℕ) (tokens : List Token) → IsShort (Some text) → tokens_of text ≡ Ok tokens → Shallow 64 unopened (words_of text tokens)
+short_shallow text tokens short lexed = by (shallow_or_deep 64 unopened (words_of text tokens))
   where
-    by : Shallow 64 0 (words_of text tokens) ⊎ Deep 64 0 (words_of text tokens) → Shallow 64 0 (words_of text tokens)
+    by : Shallow 64 unopened (words_of text tokens) ⊎ Deep 64 unopened (words_of text tokens) → Shallow 64 unopened (words_of text tokens)
     by (inl s) = s
     by (inr p) =
-        let within = deep_within 64 0 (words_of text tokens) p.left p.deep in
+        let within = deep_within 64 unopened (words_of text tokens) p.left p.deep in
         let same : length (words_of text tokens) ≡ length tokens = length-map tokens (word_of text) in
         let q = has_place tokens p.left within.0 (omega (arith, within.1, same)) in
         absurd (short.1 q.place (record { tokens = tokens; lexed = lexed; left = p.left; deep = p.deep; at = q.is }))

@@ -10,7 +10,7 @@ use Rattle.mx_syntax.specs.declared.stmt.Stmt.TheOpen.{Stmt-F}
 use Rattle.mx_syntax.specs.declared.stmt.IfArm.{IfArm, roll-IfArm, fold-roll-IfArm}
 use Rattle.mx_syntax.specs.declared.stmt.ItemEntry.{ItemEntry}
 use Rattle.mx_print.specs.Texts.{Text}
-use Rattle.mx_print.specs.Lists.{flat}
+use Rattle.mx_syntax.specs.Lists.{flat}
 use Rattle.mx_print.specs.Statements.{whole, display_text, block, front, if_lines, else_lines, for_text, stmt_step, arm_step, stmt_lines, arm_lines, body_lines, returned_step, any_arm, returned, line_text, lines_text}
 use Rattle.mx_grammar.specs.declared.word.Word.{Word}
 use Rattle.mx_grammar.specs.declared.word.Word.TheVariants as word

@@ -12,7 +12,7 @@ use Rattle.mx_syntax.specs.declared.expr.Args.TheOpen.{Expr-F, Args-F, Trailer-F
 use Rattle.mx_syntax.specs.declared.expr.Trailer.{Trailer, fold-roll-Trailer}
 use Rattle.mx_syntax.specs.declared.expr.Trailer.TheVariants as trailer
 use Rattle.mx_print.specs.Texts.{Text, commas}
-use Rattle.mx_print.specs.Lists.{flat}
+use Rattle.mx_syntax.specs.Lists.{flat}
 use Rattle.mx_print.specs.Expressions.{Piece, form, at, gap, begins_with_dot, printed, args_text, trailer_text, generator_test_text, args_step, comparison_step, piece, trailer_step, arm_step, power_step, product_step, sum_step}
 use Rattle.mx_grammar.specs.declared.word.Word.{Word}
 use Rattle.mx_grammar.specs.declared.word.Word.TheVariants as word

@@ -6,7 +6,8 @@ use Rattle.mx_syntax.specs.declared.stmt.IfArm.{IfArm}
 use Rattle.mx_syntax.specs.declared.stmt.Param.{Param}
 use Rattle.mx_print.specs.Texts.{Text}
 use Rattle.mx_print.specs.Statements.{params_text, stmt_lines, returned, one_line, formula_lines}
-use Rattle.mx_print.specs.Lines.{AtLine, Stands, arms_height, arm_head, first_line, is_first, split}
+use Rattle.mx_syntax.specs.Heights.{arms_height, first_line}
+use Rattle.mx_print.specs.Lines.{AtLine, Stands, arm_head, is_first, split}
 
 -- The statement stands at line 1, the only line: the parameters, and behind the `=` what it returns.
 pub record StandsAlone (lines : List Text) (params : List Param) (line : ℕ) (stmt : Stmt) (shown : Text) : Type 0 where

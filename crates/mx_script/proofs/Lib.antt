@@ -1,5 +1,6 @@
 pub mod Lists
 pub mod HeadRules
-pub mod HeadAnswers
-pub mod OneHead
+pub mod HeadForms
+pub mod PartAnswers
+pub mod OnePart
 pub mod OneCommand

@@ -17,6 +17,10 @@ abbrev pub space_of : List (List ℕ) → List (List ℕ)
 space_of [] = codes "Main" ∷ []
 space_of (name ∷ path) = name ∷ path
 
+-- the path of all names
+abbrev pub whole_of : Target → List (List ℕ)
+whole_of t = t.path ++ t.name ∷ []
+
 pub data Further : List Word → List ℕ → Type 0 where
   further : {n : List ℕ} → Further (Symbol symbol.Dot ∷ Name n ∷ []) n
 

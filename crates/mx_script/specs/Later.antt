@@ -23,7 +23,7 @@ use Rattle.mx_syntax.specs.declared.stmt.IfArm.{IfArm, fold-IfArm}
 use Rattle.mx_syntax.specs.declared.stmt.Stmt.TheOpen.{Stmt-F, IfArm-F}
 use Rattle.mx_syntax.specs.declared.stmt.Param.{Param}
 use Rattle.mx_syntax.specs.declared.stmt.Formula.{Formula}
-use Rattle.mx_print.specs.Locals.{Name, locals_of}
+use Rattle.mx_syntax.specs.Locals.{Name, locals_of}
 use Rattle.mx_script.specs.Builtin.{is_builtin}
 
 -- whether a part holds a later form, where these are the formula's locals

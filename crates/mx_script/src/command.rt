@@ -5,17 +5,21 @@ ghost use Rattle.mx_lex.specs.Lexing.{tokens_of};
 ghost use Rattle.mx_grammar.specs.Reading.{Gives, parsed, line};
 ghost use Rattle.mx_grammar.specs.Spelling.{words_of, InText};
 ghost use Rattle.mx_script.specs.declared.command.Command.{Command};
+ghost use Rattle.mx_script.specs.declared.command.Command.TheVariants as command;
+ghost use Rattle.mx_edit.specs.declared.edit.Edit.TheVariants as edit;
 ghost use Rattle.mx_grammar.specs.declared.refusal.ParseRefusal.{ParseRefusal};
 ghost use Rattle.mx_script.specs.declared.command.FormRefusal.{FormRefusal};
-ghost use Rattle.mx_script.specs.Texts.{behind_spaces};
-ghost use Rattle.mx_script.specs.Heads.{space_of};
+ghost use Rattle.mx_script.specs.Heads.{space_of, whole_of};
+ghost use Rattle.mx_script.specs.Parts.{Says, PartRefused, Misplaced, moved};
 ghost use Rattle.mx_script.specs.Commands as spec;
-ghost use Rattle.mx_script.specs.Commands.{HeadNames, HeadRefused, Misplaced, Defines, Evaluates, ReadsAs, Unless, moved};
+ghost use Rattle.mx_script.specs.Commands.{head_form, HeadNames, HeadRefused, Defines, Names, Asks, ReadsAs, Unless};
 ghost use Rattle.mx_script.specs.HeadParsers.{head_by};
 
 use crate::head::{Target, head_in, opened_in};
 use crate::later::{is_later_formula, is_later_node};
-use crate::text::{head_length, spaces, word_length};
+use crate::table::{Asked, CommandWord, Form, Named, rest_of, word_of};
+use crate::text::{head_length, spaces, strip_spaces, word_length};
+use mx_edit::edit::Edit;
 use mx_grammar::source::{Source, place};
 use mx_grammar::trouble::Trouble;
 use mx_grammar::word::Word;
@@ -24,17 +28,22 @@ use mx_lex::{LexRefusal, Token, lex};
 use mx_list::list::List;
 use mx_parse::{ParseRefusal, parse_formula, parse_node};
 use mx_syntax::stmt::Formula;
-use mx_value::label::Label;
 use mx_value::node::{Node, Path};
 use std::alloc::{AllocError, Global};
 
 /// A command of a script.
 #[derive(Drop)]
 pub enum Command {
-    /// Defines cells: the path of their space, their name and their formula.
-    Cells(Path, Label, Formula),
+    /// Changes the model text.
+    Edit(Edit),
     /// Evaluates a node.
     Eval(Node),
+    /// What a node reads.
+    Precedents(Node),
+    /// Which held nodes ask a node.
+    Succs(Node),
+    /// The layers of a path.
+    Order(Path),
 }
 
 /// Why a text is no command. Of several causes the first in this order is given.
@@ -63,24 +72,6 @@ impl From<AllocError> for FormRefusal {
     }
 }
 
-/// What the first word of a command does.
-#[derive(Clone, Copy, Debug, PartialEq, Eq)]
-pub enum CommandWord {
-    Define,
-    Evaluate,
-}
-
-fn command_word(word: &[u8]) -> Option<CommandWord>
-    ensures { result ≡ spec.word_of word.now }
-{
-    match word {
-        b"cells" => Some(CommandWord::Define),
-        b"def" => Some(CommandWord::Define),
-        b"eval" => Some(CommandWord::Evaluate),
-        _ => None,
-    }
-}
-
 /// The place with so many bytes in front of it.
 fn further(lead: usize, place: u32) -> Result<u32, AllocError>
     ensures { IfOk result (λ p. p ≡ lead + place) }
@@ -96,7 +87,7 @@ fn further(lead: usize, place: u32) -> Result<u32, AllocError>
 
 /// A lexing trouble of a text with so many bytes in front of it.
 fn move_trouble(lead: usize, trouble: LexRefusal) -> Result<LexRefusal, AllocError>
-    ensures { IfOk result (λ moved. moved ≡ spec.moved lead trouble) }
+    ensures { IfOk result (λ m. m ≡ moved lead trouble) }
 {
     match trouble {
         LexRefusal::BadByte(place) => Ok(LexRefusal::BadByte(further(lead, place)?)),
@@ -155,20 +146,29 @@ fn named_in(alloc: Global, opens: bool, words: &[Word]) -> Result<Target, Troubl
     opened_in(alloc, words)
 }
 
+/// The cells that a part of a command names, or why it is refused. An opening parenthesis stands behind the part, or has to
+/// be in it.
+fn names_in(alloc: Global, lead: usize, opens: bool, part: &[u8]) -> Result<Target, FormRefusal>
+    ensures names { IfOk result (Says (head_form opens) part.now) }
+    ensures refused { IfErr result (λ e. e ≢ FormRefusal.NoMemory → PartRefused (head_form opens) lead part.now e) }
+{
+    let source = match head_tokens(alloc, part) {
+        Ok(source) => source,
+        Err(trouble) => return Err(no_tokens(lead, trouble)),
+    };
+    match named_in(alloc, opens, source.words.as_slice()) {
+        Ok(target) => Ok(target),
+        Err(trouble) => Err(misplaced(lead, source.tokens.as_slice(), trouble)),
+    }
+}
+
 /// The cells that the head of a text names, or why it is refused.
 fn head(alloc: Global, lead: usize, text: &[u8]) -> Result<Target, FormRefusal>
     ensures names { IfOk result (HeadNames text.now) }
     ensures refused { IfErr result (λ e. e ≢ FormRefusal.NoMemory → HeadRefused lead text.now e) }
 {
     let end = head_length(text);
-    let source = match head_tokens(alloc, &text[..end]) {
-        Ok(source) => source,
-        Err(trouble) => return Err(no_tokens(lead, trouble)),
-    };
-    match named_in(alloc, end < text.len(), source.words.as_slice()) {
-        Ok(target) => Ok(target),
-        Err(trouble) => Err(misplaced(lead, source.tokens.as_slice(), trouble)),
-    }
+    names_in(alloc, lead, end < text.len(), &text[..end])
 }
 
 /// The path of the space, or that of `Main` where there is none.
@@ -191,7 +191,11 @@ fn defined(alloc: Global, target: Target, formula: Formula) -> Result<Command, F
         return Err(FormRefusal::NotBuilt);
     }
     let Target { path, name } = target;
-    Ok(Command::Cells(space_at(alloc, path)?, name, formula))
+    Ok(Command::Edit(Edit::SetCells {
+        path: space_at(alloc, path)?,
+        name,
+        formula,
+    }))
 }
 
 /// The refusal for a formula that is refused.
@@ -219,55 +223,144 @@ fn definition(alloc: Global, lead: usize, text: &[u8]) -> Result<Command, FormRe
     }
 }
 
+/// The path of all names.
+fn whole(alloc: Global, target: Target) -> Result<Path, AllocError>
+    ensures { IfOk result (λ p. p ≡ whole_of target) }
+{
+    let Target { path, name } = target;
+    let mut names = Vec::new(alloc);
+    for label in path.as_slice() {
+        names.push(label.copy()?)?;
+    }
+    names.push(name)?;
+    List::from_vec(alloc, names)
+}
+
+/// What a word does with the names behind it.
+fn named_command(alloc: Global, named: Named, target: Target) -> Result<Command, AllocError>
+    ensures { IfOk result (λ c. c ≡ spec.named_command named target) }
+{
+    match named {
+        Named::NewSpace => {
+            let Target { path, name } = target;
+            Ok(Command::Edit(Edit::NewSpace { parent: path, name }))
+        }
+        Named::DelSpace => Ok(Command::Edit(Edit::DelSpace {
+            path: whole(alloc, target)?,
+        })),
+        Named::DelParams => Ok(Command::Edit(Edit::SetParams {
+            path: whole(alloc, target)?,
+            params: None,
+        })),
+        Named::Order => Ok(Command::Order(whole(alloc, target)?)),
+        Named::DelCells => {
+            let Target { path, name } = target;
+            Ok(Command::Edit(Edit::DelCells {
+                path: space_at(alloc, path)?,
+                name,
+            }))
+        }
+        Named::Allow => allowed(alloc, target, true),
+        Named::Disallow => allowed(alloc, target, false),
+        Named::DelRef => {
+            let Target { path, name } = target;
+            Ok(Command::Edit(Edit::DelRef {
+                path: space_at(alloc, path)?,
+                name,
+            }))
+        }
+    }
+}
+
+/// Whether cells may give None, as a command.
+fn allowed(alloc: Global, target: Target, flag: bool) -> Result<Command, AllocError>
+    ensures { IfOk result (λ c. c ≡ command.Edit (edit.SetAllowNone (space_of target.path) target.name flag)) }
+{
+    let Target { path, name } = target;
+    Ok(Command::Edit(Edit::SetAllowNone {
+        path: space_at(alloc, path)?,
+        name,
+        flag,
+    }))
+}
+
+/// What a text says that is a word with names behind it.
+fn naming(alloc: Global, named: Named, lead: usize, text: &[u8]) -> Result<Command, FormRefusal>
+    ensures { result ≢ Err FormRefusal.NoMemory → Names named lead text.now result }
+{
+    match names_in(alloc, lead, true, text) {
+        Ok(target) => match named_command(alloc, named, target) {
+            Ok(command) => Ok(command),
+            Err(_) => Err(FormRefusal::NoMemory),
+        },
+        Err(refusal) => Err(refusal),
+    }
+}
+
 /// The node that a text spells, as a command.
-fn evaluation(alloc: Global, source: &[u8]) -> Result<Command, FormRefusal>
-    ensures { result ≢ Err FormRefusal.NoMemory → Evaluates source.now result }
+fn asking(alloc: Global, asked: Asked, source: &[u8]) -> Result<Command, FormRefusal>
+    ensures { result ≢ Err FormRefusal.NoMemory → Asks asked source.now result }
 {
     match parse_node(alloc, source) {
-        Ok(node) => asked(node),
+        Ok(node) => asked_command(asked, node),
         Err(ParseRefusal::NoMemory) => Err(FormRefusal::NoMemory),
         Err(refusal) => Err(FormRefusal::Parse(refusal)),
     }
 }
 
-/// A node as a command, where its arguments are of the kinds that are run so far.
-fn asked(node: Node) -> Result<Command, FormRefusal>
-    ensures { result ≡ spec.asked (Ok node) }
+/// What is asked about a node. An evaluation is read where the node's arguments are of the kinds that are run so far.
+fn asked_command(asked: Asked, node: Node) -> Result<Command, FormRefusal>
+    ensures { result ≡ spec.asked_command asked node }
 {
-    if is_later_node(&node) {
-        return Err(FormRefusal::NotBuilt);
+    match asked {
+        Asked::Value => {
+            if is_later_node(&node) {
+                return Err(FormRefusal::NotBuilt);
+            }
+            Ok(Command::Eval(node))
+        }
+        Asked::Precedents => Ok(Command::Precedents(node)),
+        Asked::Successors => Ok(Command::Succs(node)),
     }
-    Ok(Command::Eval(node))
 }
 
-/// The text behind its leading spaces.
-fn strip_spaces(text: &[u8]) -> &[u8]
-    ensures { result.now ≡ behind_spaces text.now }
-{
-    let lead = spaces(text);
-    &text[lead..]
-}
-
-fn read(alloc: Global, text: &[u8]) -> Result<Command, FormRefusal>
-    ensures { result ≢ Err FormRefusal.NoMemory → ReadsAs text.now result }
+fn read(alloc: Global, words: &[CommandWord], text: &[u8]) -> Result<Command, FormRefusal>
+    ensures { result ≢ Err FormRefusal.NoMemory → ReadsAs words.now text.now result }
 {
     let lead = spaces(text);
     let text = &text[lead..];
     let end = word_length(text);
-    match command_word(&text[..end]) {
-        Some(CommandWord::Define) => definition(alloc, lead, text),
-        Some(CommandWord::Evaluate) => evaluation(alloc, strip_spaces(&text[end..])),
+    match word_of(words, &text[..end]) {
+        Some(word) => rest(alloc, rest_of(word).form, lead, text),
         None => Err(FormRefusal::UnknownWord),
     }
 }
 
-/// The command that a text says: its lines without their ends, joined by LF. The words are `cells` and `def`, with the cells'
-/// name, maybe behind the path of their space, and their formula, and `eval` with a node.
-pub fn read_command(alloc: Global, text: &[u8]) -> Result<Command, FormRefusal>
-    // The answer is what the text says, or the first cause of a refusal.
-    ensures found { result ≢ Err FormRefusal.NoMemory → ReadsAs text.now result }
-    // What the text says is the answer, and so is the first cause, unless memory runs out.
-    ensures only { (answer : Result Command FormRefusal) → ReadsAs text.now answer → Unless answer result }
+/// What a text says whose word has a form of this kind behind it.
+fn rest(alloc: Global, form: Form, lead: usize, text: &[u8]) -> Result<Command, FormRefusal>
+    ensures { result ≢ Err FormRefusal.NoMemory → spec.ReadsRest form lead text.now result }
 {
-    read(alloc, text)
+    match form {
+        Form::Cells => definition(alloc, lead, text),
+        Form::Names(named) => naming(alloc, named, lead, text),
+        Form::Node(asked) => {
+            let end = word_length(text);
+            asking(alloc, asked, strip_spaces(&text[end..]))
+        }
+    }
+}
+
+/// The command that a text says: its lines without their ends, joined by LF. Its first word is one of `words`; the words and
+/// what stands behind each are those of `table`.
+pub fn read_command(
+    alloc: Global,
+    words: &[CommandWord],
+    text: &[u8],
+) -> Result<Command, FormRefusal>
+    // The answer is what the text says, or the first cause of a refusal.
+    ensures found { result ≢ Err FormRefusal.NoMemory → ReadsAs words.now text.now result }
+    // What the text says is the answer, and so is the first cause, unless memory runs out.
+    ensures only { (answer : Result Command FormRefusal) → ReadsAs words.now text.now answer → Unless answer result }
+{
+    read(alloc, words, text)
 }

@@ -6,10 +6,10 @@ ghost use Rattle.mx_script.specs.Later.{part_of, args_of, comparison_of, trailer
 
 use crate::builtin::is_builtin;
 use mx_list::list::List;
-use mx_print::locals::locals_of;
 use mx_syntax::expr::{
     Args, Arm, CmpOp, Comparison, Expr, ProductOp, ProductPart, SumPart, Trailer,
 };
+use mx_syntax::locals::locals_of;
 use mx_syntax::stmt::{Formula, IfArm, Param, Stmt};
 use mx_value::label::Label;
 use mx_value::node::Node;

@@ -5,8 +5,7 @@ mod builtin;
 mod command;
 mod head;
 mod later;
-#[cfg(test)]
-mod tests;
-mod text;
+pub mod table;
+pub mod text;
 
 pub use command::{Command, FormRefusal, read_command};

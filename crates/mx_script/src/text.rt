@@ -46,3 +46,11 @@ pub fn head_length(text: &[u8]) -> usize
     }
     count
 }
+
+/// The text behind its leading spaces.
+pub fn strip_spaces(text: &[u8]) -> &[u8]
+    ensures { result.now ≡ spec.behind_spaces text.now }
+{
+    let lead = spaces(text);
+    &text[lead..]
+}

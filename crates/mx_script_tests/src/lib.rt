@@ -1,0 +1,5 @@
+//! Tests of the calls that read commands.
+#![tactic(auto)]
+
+#[cfg(test)]
+mod commands;
