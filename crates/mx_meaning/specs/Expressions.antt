@@ -23,9 +23,10 @@ use Rattle.mx_syntax.specs.declared.expr.SumPart.{SumPart, fold-SumPart}
 use Rattle.mx_syntax.specs.declared.expr.CmpOp.{CmpOp}
 use Rattle.mx_syntax.specs.declared.expr.SumOp.{SumOp}
 use Rattle.mx_syntax.specs.declared.expr.ProductOp.{ProductOp}
-use Rattle.mx_print.specs.Binding.{bound, is_wrong_count}
+use Rattle.mx_syntax.specs.Binding.{bound, is_wrong_count}
 use Rattle.mx_meaning.specs.declared.key.Key.TheVariants as key
-use Rattle.mx_meaning.specs.Model.{KeyResult, CellsHere, FormulaHere, same_name}
+use Rattle.mx_value.specs.Name.{same_name}
+use Rattle.mx_meaning.specs.Model.{KeyResult, CellsHere, FormulaHere}
 use Rattle.mx_meaning.specs.Runs.{Run, Looks, Asks, Env, Reading, fault, not_built, computed}
 use Rattle.mx_meaning.specs.Operators.{added, multiplied, compared, truth, denied_truth, signed}
 

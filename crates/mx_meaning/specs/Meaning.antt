@@ -5,7 +5,7 @@ use Rattle.mx_value.specs.declared.value.Value.{Value}
 use Rattle.mx_value.specs.declared.value.Segment.{Segment}
 use Rattle.mx_value.specs.declared.node.Node.{Node}
 use Rattle.mx_value.specs.declared.node.Node.TheVariants.{Cell, Item}
-use Rattle.mx_print.specs.Binding.{bound, is_wrong_count}
+use Rattle.mx_syntax.specs.Binding.{bound, is_wrong_count}
 use Rattle.mx_meaning.specs.declared.key.Key.{Key}
 use Rattle.mx_meaning.specs.declared.key.Key.TheVariants as key
 use Rattle.mx_meaning.specs.declared.event.Reply.{Reply}

@@ -1,9 +1,9 @@
 -- The model text, and what a run learns of it by a key.
-use Rattle.std.specs.Prelude.{List, [], ◌∷◌, Option, None, Some, Bool, false, nat_eq, if◌then◌else◌, codes}
-use Rattle.std.specs.Cmp.Lexicographic.{pointwise}
+use Rattle.std.specs.Prelude.{List, [], ◌∷◌, Option, None, Some, Bool, false, if◌then◌else◌, codes}
 use Rattle.std.specs.Map.{lookup}
 use Rattle.mx_value.specs.declared.label.Label.{Label}
 use Rattle.mx_value.specs.declared.value.Value.{Value}
+use Rattle.mx_value.specs.Name.{same_name, same_path}
 use Rattle.mx_syntax.specs.declared.stmt.Formula.{Formula}
 use Rattle.mx_meaning.specs.declared.key.Key.{Key}
 use Rattle.mx_meaning.specs.declared.key.Key.TheVariants.{Name, Global, Cells, Params, Exists, Input, Table}
@@ -14,13 +14,6 @@ Text = List (Label × Formula)
 
 abbrev pub main_path : List Label
 main_path = codes "Main" ∷ []
-
--- the two names have the same bytes
-abbrev pub same_name : Label → Label → Bool
-same_name = pointwise nat_eq
-
-abbrev pub same_path : List Label → List Label → Bool
-same_path = pointwise same_name
 
 -- what the model text has under a key
 pub data KeyResult : Type 0 where

@@ -11,11 +11,11 @@ use Rattle.mx_syntax.specs.declared.stmt.Stmt.TheOpen.{Stmt-F, IfArm-F}
 use Rattle.mx_syntax.specs.declared.stmt.IfArm.{IfArm, para-IfArm}
 use Rattle.mx_syntax.specs.declared.stmt.Param.{Param}
 use Rattle.mx_syntax.specs.declared.stmt.Formula.{Formula}
-use Rattle.mx_print.specs.Binding.{bound}
-use Rattle.mx_print.specs.Lines.{height, arm_height, first_line}
-use Rattle.mx_print.specs.Lists.{flat}
-use Rattle.mx_print.specs.Locals.{bound_by, add_all}
-use Rattle.mx_meaning.specs.Model.{same_name}
+use Rattle.mx_syntax.specs.Binding.{bound}
+use Rattle.mx_syntax.specs.Heights.{height, arm_height, first_line}
+use Rattle.mx_syntax.specs.Lists.{flat}
+use Rattle.mx_syntax.specs.Locals.{bound_by, add_all}
+use Rattle.mx_value.specs.Name.{same_name}
 use Rattle.mx_meaning.specs.Runs.{Run, Ends, Faults, Env, Reading, fault, computed, gives}
 use Rattle.mx_meaning.specs.Operators.{truth, changed}
 use Rattle.mx_meaning.specs.Expressions.{reading, named, tested}

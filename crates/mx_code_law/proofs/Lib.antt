@@ -1,0 +1,10 @@
+pub mod Places
+pub mod Locals
+pub mod Steps
+pub mod Forms
+pub mod Calls
+pub mod Trees
+pub mod Bodies
+pub mod Statements
+pub mod Formulas
+pub mod Opened
