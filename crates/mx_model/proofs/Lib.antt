@@ -1,1 +1,3 @@
-pub mod Texts
+mod Changes
+pub mod MemberLemmas
+mod SmallModels

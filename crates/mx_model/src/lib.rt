@@ -1,4 +1,7 @@
-//! The model text: what a model is made of, by name.
+//! The model text: what a model is made of, what each key leads to in it, and how edits change it.
 #![tactic(auto)]
 
+pub mod laws;
+mod members;
+mod space;
 pub mod text;

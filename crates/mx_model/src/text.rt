@@ -1,140 +1,288 @@
-//! The model text: the cells of the one space Main.
-ghost use Rattle.std.specs.Prelude.{◌≡◌, ◌↔◌, [], Some, is_some, length, codes, IsTrue, IfOk, OnOk, OnErr, option_copied};
+//! The model text.
+ghost use Rattle.std.specs.Prelude.{◌≡◌, ◌<◌, ◌∷◌, [], codes, Some, length, slice_get, option_copied, option_map, IfOk};
 ghost use Rattle.std.specs.Map.{lookup};
-ghost use Rattle.mx_meaning.specs.Model.{same_name, same_path, main_path, define, formula_at};
-ghost use Rattle.mx_meaning.specs.Expressions.{path_of};
+ghost use Rattle.mx_value.specs.Name.{same_name};
+ghost use Rattle.mx_model.specs.Records.{beginning, empty_space};
+ghost use Rattle.mx_model.specs.Layers.{id_of, space_of, base_lists};
+ghost use Rattle.mx_model.specs.Keys.{input_of};
+ghost use Rattle.mx_model.specs.Readers.{path_in, formula_in, allows_in, reference_in, params_in, name_at, cells_at, reference_at};
 
-use indexmap::IndexMap;
+use crate::members::Members;
+use crate::space::Space;
+use indexmap::{IndexMap, IndexSet};
+use mx_c3::lists::{BaseLists, Order};
+use mx_c3::space::SpaceId;
+use mx_edit::reference::RefValue;
+use mx_edit::table::Table;
 use mx_list::list::List;
-use mx_syntax::stmt::Formula;
+use mx_list::shared::Shared;
+use mx_syntax::stmt::{Formula, Params};
 use mx_value::label::Label;
-use mx_value::node::Path;
-use mx_value::value::{Addr, Segment};
+use mx_value::node::{Node, Path};
+use mx_value::value::Value;
 use std::alloc::{AllocError, Global};
 use std::marker::Model;
 
-/// Cells by name, in order of first definition.
+/// What a model is made of. Copies share what they are made of. Contracts see its `ModelRecord`.
 #[derive(Drop)]
 pub struct ModelText {
-    /// The name of the one space, and its path.
-    main: Label,
-    path: Path,
-    cells: IndexMap<Label, Formula>,
+    /// The paths of the spaces, in order of creation, by hash.
+    paths: Shared<IndexSet<Path>>,
+    spaces: Vec<Shared<Space>>,
+    /// The bases of each space by its place.
+    lists: Shared<BaseLists>,
+    globals: Shared<Members<RefValue>>,
+    inputs: Shared<IndexMap<Node, Shared<Value>>>,
+    tables: Shared<Members<Table>>,
 }
 
 impl Model for ModelText {
-    ghost use Rattle.std.specs.Prelude.{◌≡◌, codes};
-    ghost use Rattle.std.specs.Coded.{codes as known};
+    ghost use Rattle.std.specs.Coded.{codes};
     ghost use Rattle.mx_value.specs.contracts.value.Value as value;
+    ghost use Rattle.mx_value.specs.contracts.node.Node as node;
     ghost use Rattle.mx_syntax.specs.contracts.expr.Expr as expr;
     ghost use Rattle.mx_syntax.specs.contracts.stmt.Stmt as stmt;
-    ghost use Rattle.mx_meaning.specs.Model.{Text, main_path};
+    ghost use Rattle.mx_edit.specs.contracts.reference.RefValue as ref_value;
+    ghost use Rattle.mx_model.specs.Records.{ModelRecord};
+    ghost use Rattle.mx_model.specs.Indexed.{IsIndexed};
 
-    ghost Value = { Text };
+    ghost Value = { ModelRecord };
 
-    ghost coded = { Prim.hlevel (known, value.the_row.coded, expr.the_row.coded, stmt.the_row.coded) };
+    ghost coded = { Prim.hlevel (codes, value.the_row.coded, node.the_row.coded, expr.the_row.coded, stmt.the_row.coded, ref_value.the_row.coded) };
 
-    ghost view = { λ t. t.cells.entries };
+    ghost view = { λ t. record { spaces = t.spaces.items; globals = t.globals; inputs = t.inputs.entries; tables = t.tables } };
 
-    ghost invariant = { λ t. (t.main ≡ codes "Main") × (t.path ≡ main_path) };
+    ghost invariant = { λ t. IsIndexed t.paths.keys t.lists (record { spaces = t.spaces.items; globals = t.globals; inputs = t.inputs.entries; tables = t.tables }) };
 }
 
 impl ModelText {
+    /// The text of a new model, which has the one empty space Main.
     pub fn new(alloc: Global) -> Result<ModelText, AllocError>
-        ensures { IfOk result (λ t. t ≡ []) }
+        ensures { IfOk result (λ t. t ≡ beginning) }
     {
-        let Ok(main) = Label::new(alloc, b"Main") else {
-            return Err(AllocError);
-        };
-        let mut names = Vec::new(alloc);
-        names.push(main.copy()?)?;
+        let path = main_path(alloc)?;
+        let paths = one_path(alloc, path.copy()?)?;
+        let spaces = one_space(alloc, path)?;
+        let lists = one_list(alloc)?;
         Ok(ModelText {
-            main,
-            path: List::from_vec(alloc, names)?,
-            cells: IndexMap::new(alloc),
+            paths: Shared::new(alloc, paths)?,
+            spaces,
+            lists: Shared::new(alloc, lists)?,
+            globals: Shared::new(alloc, Members::new(alloc))?,
+            inputs: Shared::new(alloc, IndexMap::new(alloc))?,
+            tables: Shared::new(alloc, Members::new(alloc))?,
         })
     }
 
-    /// The path of the space Main.
-    pub fn path(&self) -> &Path
-        ensures { result.now ≡ main_path }
+    /// The number of defined spaces.
+    pub fn space_count(&self) -> u32
+        ensures { result ≡ length self.now.spaces }
     {
-        &self.path
+        self.spaces.len() as u32
     }
 
-    /// Whether this is the path of the space Main.
-    pub fn has_path(&self, path: &Path) -> bool
-        ensures { result ≡ same_path path.now main_path }
+    /// The place of the defined space at a path, in order of creation, from 0.
+    pub fn id_of(&self, path: &Path) -> Option<SpaceId>
+        ensures { result ≡ id_of self.now path.now }
     {
-        match path.as_slice() {
-            [name] => *name == self.main,
-            _ => false,
+        match self.paths.get().get_index_of(path) {
+            Some(place) => Some(SpaceId(place as u32)),
+            None => None,
         }
     }
 
-    /// Whether this is the address of the space Main.
-    pub fn has_space(&self, at: &Addr) -> bool
-        ensures { IsTrue result ↔ path_of at.now ≡ Some main_path }
+    /// A defined space.
+    fn space(&self, s: SpaceId) -> &Space
+        requires { s.0 < length self.now.spaces }
+        ensures { space_of self.now s ≡ Some result.now }
     {
-        match at.as_slice() {
-            [Segment::Name(name)] => name.same(&self.main),
-            _ => false,
+        self.spaces[s.0 as usize].get()
+    }
+
+    /// The path of a defined space.
+    pub fn path_of(&self, s: SpaceId) -> &Path
+        requires { s.0 < length self.now.spaces }
+        ensures { path_in self.now s ≡ Some result.now }
+    {
+        self.space(s).path()
+    }
+
+    /// The bases of a defined space.
+    pub fn bases_of(&self, s: SpaceId) -> &Order
+        requires { s.0 < length self.now.spaces }
+        ensures { slice_get (base_lists self.now) s.0 ≡ Some result.now }
+    {
+        self.lists.get().bases(s)
+    }
+
+    /// The bases of all spaces, by place.
+    pub fn base_lists(&self) -> &BaseLists
+        ensures { result.now ≡ base_lists self.now }
+    {
+        self.lists.get()
+    }
+
+    /// The formula of a space's own cells.
+    pub fn formula(&self, s: SpaceId, name: &Label) -> Option<&Formula>
+        requires { s.0 < length self.now.spaces }
+        ensures { option_copied result ≡ formula_in self.now s name.now }
+    {
+        match self.space(s).cells(name) {
+            Some(cells) => Some(&cells.formula),
+            None => None,
         }
     }
 
-    /// The source of the namespace at an address without items: the address's names.
-    pub fn source_of(&self, alloc: Global, at: &Addr) -> Result<Option<Path>, AllocError>
-        ensures { IfOk result (λ p. p ≡ path_of at.now) }
+    /// Whether the formula of a space's own cells may give None. False where there are no such cells.
+    pub fn allows_none(&self, s: SpaceId, name: &Label) -> bool
+        requires { s.0 < length self.now.spaces }
+        ensures { result ≡ allows_in self.now s name.now }
     {
-        if self.has_space(at) {
-            return Ok(Some(self.path.copy()?));
+        match self.space(s).cells(name) {
+            Some(cells) => cells.allow_none,
+            None => false,
         }
-        names_of(alloc, at)
     }
 
-    /// The formula of the cells that a path binds to a name.
-    pub fn formula_at(&self, path: &Path, name: &Label) -> Option<&Formula>
-        ensures { option_copied result ≡ formula_at self.now path.now name.now }
+    /// The own parameters of a space.
+    pub fn params(&self, s: SpaceId) -> Option<&Params>
+        requires { s.0 < length self.now.spaces }
+        ensures { option_copied result ≡ params_in self.now s }
     {
-        if self.has_path(path) {
-            return self.cells.get(name);
+        self.space(s).params()
+    }
+
+    /// An own reference of a space.
+    pub fn reference(&self, s: SpaceId, name: &Label) -> Option<&RefValue>
+        requires { s.0 < length self.now.spaces }
+        ensures { option_copied result ≡ reference_in self.now s name.now }
+    {
+        self.space(s).reference(name)
+    }
+
+    /// A reference of the model.
+    pub fn global(&self, name: &Label) -> Option<&RefValue>
+        ensures { option_copied result ≡ lookup (same_name name.now) self.now.globals }
+    {
+        self.globals.get().get(name)
+    }
+
+    /// The value that was put in for a node.
+    pub fn input(&self, node: &Node) -> Option<&Value>
+        ensures { option_copied result ≡ input_of self.now node.now }
+    {
+        match self.inputs.get().get(node) {
+            Some(value) => Some(value.get()),
+            None => None,
         }
-        None
     }
 
-    /// Whether the space Main has cells of this name.
-    pub fn has_cells(&self, name: &Label) -> bool
-        ensures { result ≡ is_some (lookup (same_name name.now) self.now) }
+    pub fn table(&self, name: &Label) -> Option<&Table>
+        ensures { option_copied result ≡ lookup (same_name name.now) self.now.tables }
     {
-        self.cells.contains_key(name)
+        self.tables.get().get(name)
     }
 
-    pub fn count(&self) -> usize
-        ensures { result ≡ length self.now }
+    /// The name of a space's own cells by place, from 0.
+    pub fn cells_at(&self, s: SpaceId, place: u32) -> Option<&Label>
+        requires { s.0 < length self.now.spaces }
+        ensures { option_copied result ≡ cells_at self.now s place }
     {
-        self.cells.len()
+        self.space(s).cells_at(place)
     }
 
-    /// Defines cells. Cells that are there keep their place.
-    pub fn define(&mut self, name: Label, formula: Formula) -> Result<(), AllocError>
-        ensures ok { OnOk result (self.new ≡ define self.old name formula) }
-        ensures err { OnErr result (self.new ≡ self.old) }
+    /// The name of a space's own reference by place, from 0.
+    pub fn reference_at(&self, s: SpaceId, place: u32) -> Option<&Label>
+        requires { s.0 < length self.now.spaces }
+        ensures { option_copied result ≡ reference_at self.now s place }
     {
-        self.cells.insert(name, formula)?;
-        Ok(())
+        self.space(s).reference_at(place)
+    }
+
+    /// The name of a reference of the model by place, from 0.
+    pub fn global_at(&self, place: u32) -> Option<&Label>
+        ensures { option_copied result ≡ name_at self.now.globals place }
+    {
+        self.globals.get().name_at(place as usize)
+    }
+
+    /// The name of a table by place, from 0.
+    pub fn table_at(&self, place: u32) -> Option<&Label>
+        ensures { option_copied result ≡ name_at self.now.tables place }
+    {
+        self.tables.get().name_at(place as usize)
+    }
+
+    /// The node of an input by place, from 0.
+    pub fn input_at(&self, place: u32) -> Option<&Node>
+        ensures { option_copied result ≡ option_map (λ i. i.0) (slice_get self.now.inputs place) }
+    {
+        let (node, _) = self.inputs.get().get_index(place as usize)?;
+        Some(node)
+    }
+
+    /// An equal text, which shares all that it holds.
+    pub fn copy(&self, alloc: Global) -> Result<ModelText, AllocError>
+        ensures { IfOk result (λ t. t ≡ self.now) }
+    {
+        let spaces = copy_spaces(alloc, self.spaces.as_slice())?;
+        Ok(ModelText {
+            paths: self.paths.copy()?,
+            spaces,
+            lists: self.lists.copy()?,
+            globals: self.globals.copy()?,
+            inputs: self.inputs.copy()?,
+            tables: self.tables.copy()?,
+        })
     }
 }
 
-/// The names of an address without items.
-fn names_of(alloc: Global, at: &Addr) -> Result<Option<Path>, AllocError>
-    ensures { IfOk result (λ p. p ≡ path_of at.now) }
+/// The same spaces, shared.
+fn copy_spaces(alloc: Global, spaces: &[Shared<Space>]) -> Result<Vec<Shared<Space>>, AllocError>
+    ensures { IfOk result (λ copies. copies.items ≡ spaces.now) }
 {
-    let mut names = Vec::new(alloc);
-    for segment in at.as_slice() {
-        match segment {
-            Segment::Name(name) => names.push(name.copy()?)?,
-            Segment::Item(_) => return Ok(None),
-        }
+    let mut copies = Vec::new(alloc);
+    for space in spaces {
+        copies.push(space.copy()?)?;
     }
-    Ok(Some(List::from_vec(alloc, names)?))
+    Ok(copies)
+}
+
+/// The path of the space Main.
+fn main_path(alloc: Global) -> Result<Path, AllocError>
+    ensures { IfOk result (λ path. path ≡ codes "Main" ∷ []) }
+{
+    let Ok(main) = Label::new(alloc, b"Main") else {
+        return Err(AllocError);
+    };
+    let mut names = Vec::new(alloc);
+    names.push(main)?;
+    List::from_vec(alloc, names)
+}
+
+/// This path alone.
+fn one_path(alloc: Global, path: Path) -> Result<IndexSet<Path>, AllocError>
+    ensures { IfOk result (λ paths. paths.keys ≡ path ∷ []) }
+{
+    let mut paths = IndexSet::new(alloc);
+    paths.insert(path)?;
+    Ok(paths)
+}
+
+/// The empty space of a path alone.
+fn one_space(alloc: Global, path: Path) -> Result<Vec<Shared<Space>>, AllocError>
+    ensures { IfOk result (λ spaces. spaces.items ≡ empty_space path ∷ []) }
+{
+    let mut spaces = Vec::new(alloc);
+    spaces.push(Shared::new(alloc, Space::new(alloc, path, List::empty(alloc)?))?)?;
+    Ok(spaces)
+}
+
+/// One space without bases.
+fn one_list(alloc: Global) -> Result<BaseLists, AllocError>
+    ensures { IfOk result (λ lists. lists ≡ [] ∷ []) }
+{
+    let mut lists = BaseLists::new(alloc);
+    lists.push(Order::from_vec(alloc, Vec::new(alloc))?)?;
+    Ok(lists)
 }

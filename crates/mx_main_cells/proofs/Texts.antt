@@ -6,7 +6,8 @@ use Rattle.mx_value.specs.declared.label.Label.{Label}
 use Rattle.mx_value.specs.declared.value.Segment.{Segment, out-Segment}
 use Rattle.mx_syntax.specs.declared.stmt.Formula.{Formula}
 use Rattle.mx_meaning.specs.Expressions.{joined, name_in, path_of}
-use Rattle.mx_meaning.specs.Model.{Text, same_name, define}
+use Rattle.mx_value.specs.Name.{same_name}
+use Rattle.mx_meaning.specs.Model.{Text, define}
 
 pub define_same : (text : Text) (name : Label) (f : Formula) → insert_entry same_name text name f ≡ define text name f
 define_same [] name f = refl

@@ -1,7 +1,7 @@
 use Rattle.std.proofs.Common.{◌≡◌, ◌≤◌, true, false, length, ap, arith}
 use Rattle.mx_meaning.specs.Model.{main_path}
-use Rattle.mx_model.proofs.Texts.{path_long}
-use Rattle.mx_model.proofs.text.ModelText.has_space.Goals as goal
+use Rattle.mx_main_cells.proofs.Texts.{path_long}
+use Rattle.mx_main_cells.proofs.text.ModelText.has_space.Goals as goal
 
 pub returns-in_default-3 : goal.returns-in_default-3
 returns-in_default-3 c = (

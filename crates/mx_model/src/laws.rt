@@ -1,0 +1,21 @@
+//! Laws of the definitions.
+ghost use Rattle.mx_model.specs.Laws.{ChangesAreTold};
+ghost use Rattle.mx_model.specs.Rows.{DiamondInOrder, CrossedHasNoOrder, ChildIsDerived, HiddenChildStays, NoBaseNoChild, BaseBringsItsRecord, RefusalsInTurn, ChildAsBaseIsRing};
+
+/// The test of changed keys says exactly where what a key leads to differs, for proofs. Does nothing when it runs.
+pub fn key_laws()
+    ensures { ChangesAreTold }
+{}
+
+/// What the definitions say of small models, for proofs: the layers of a diamond of bases, bases without an order, derived
+/// and hidden children, what a base brings, and the refusals of edits. Does nothing when it runs.
+pub fn small_models()
+    ensures diamond { DiamondInOrder }
+    ensures crossed { CrossedHasNoOrder }
+    ensures derived { ChildIsDerived }
+    ensures hidden { HiddenChildStays }
+    ensures no_base { NoBaseNoChild }
+    ensures alone { BaseBringsItsRecord }
+    ensures refusals { RefusalsInTurn }
+    ensures ring { ChildAsBaseIsRing }
+{}

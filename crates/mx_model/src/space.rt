@@ -1,0 +1,116 @@
+//! A defined space of a text.
+ghost use Rattle.std.specs.Prelude.{◌≡◌, option_copied, option_map};
+ghost use Rattle.mx_model.specs.Records.{empty_space};
+ghost use Rattle.std.specs.Map.{lookup};
+ghost use Rattle.mx_value.specs.Name.{same_name};
+ghost use Rattle.mx_model.specs.Readers.{cells_of, name_at};
+
+use crate::members::Members;
+use mx_edit::reference::RefValue;
+use mx_list::list::List;
+use mx_syntax::stmt::{Formula, Params};
+use mx_value::label::Label;
+use mx_value::node::Path;
+use std::alloc::Global;
+use std::marker::Model;
+
+/// Cells: their formula, and whether it may give None.
+#[derive(Drop)]
+pub struct Cells {
+    pub formula: Formula,
+    pub allow_none: bool,
+}
+
+impl Model for Cells {
+    ghost use Rattle.std.specs.Coded.{codes};
+    ghost use Rattle.mx_value.specs.contracts.value.Value as value;
+    ghost use Rattle.mx_syntax.specs.contracts.expr.Expr as expr;
+    ghost use Rattle.mx_syntax.specs.contracts.stmt.Stmt as stmt;
+    ghost use Rattle.mx_model.specs.Records.{CellsRecord};
+
+    ghost Value = { CellsRecord };
+
+    ghost coded = { Prim.hlevel (codes, value.the_row.coded, expr.the_row.coded, stmt.the_row.coded) };
+
+    ghost view = { λ c. record { formula = c.formula; allow_none = c.allow_none } };
+}
+
+/// A defined space: its path, its bases, its parameters, and its own cells and references.
+#[derive(Drop)]
+pub struct Space {
+    pub path: Path,
+    pub bases: List<Path>,
+    pub params: Option<Params>,
+    pub cells: Members<Cells>,
+    pub references: Members<RefValue>,
+}
+
+impl Model for Space {
+    ghost use Rattle.std.specs.Coded.{codes};
+    ghost use Rattle.mx_value.specs.contracts.value.Value as value;
+    ghost use Rattle.mx_syntax.specs.contracts.expr.Expr as expr;
+    ghost use Rattle.mx_syntax.specs.contracts.stmt.Stmt as stmt;
+    ghost use Rattle.mx_edit.specs.contracts.reference.RefValue as ref_value;
+    ghost use Rattle.mx_model.specs.Records.{SpaceRecord};
+
+    ghost Value = { SpaceRecord };
+
+    ghost coded = { Prim.hlevel (codes, value.the_row.coded, expr.the_row.coded, stmt.the_row.coded, ref_value.the_row.coded) };
+
+    ghost view = { λ s. record { path = s.path; bases = s.bases; params = s.params; cells = s.cells; references = s.references } };
+}
+
+impl Space {
+    /// A space without members.
+    pub fn new(alloc: Global, path: Path, bases: List<Path>) -> Space
+        ensures { result ≡ record (empty_space path) { bases = bases } }
+    {
+        Space {
+            path,
+            bases,
+            params: None,
+            cells: Members::new(alloc),
+            references: Members::new(alloc),
+        }
+    }
+
+    pub fn path(&self) -> &Path
+        ensures { result.now ≡ self.now.path }
+    {
+        &self.path
+    }
+
+    /// The cells of a name.
+    pub fn cells(&self, name: &Label) -> Option<&Cells>
+        ensures { option_copied result ≡ cells_of self.now name.now }
+    {
+        self.cells.get(name)
+    }
+
+    /// The reference of a name.
+    pub fn reference(&self, name: &Label) -> Option<&RefValue>
+        ensures { option_copied result ≡ lookup (same_name name.now) self.now.references }
+    {
+        self.references.get(name)
+    }
+
+    pub fn params(&self) -> Option<&Params>
+        ensures { option_copied result ≡ self.now.params }
+    {
+        self.params.as_ref()
+    }
+
+    /// The name of the cells at a place, from 0.
+    pub fn cells_at(&self, place: u32) -> Option<&Label>
+        ensures { option_copied result ≡ name_at self.now.cells place }
+    {
+        self.cells.name_at(place as usize)
+    }
+
+    /// The name of the reference at a place, from 0.
+    pub fn reference_at(&self, place: u32) -> Option<&Label>
+        ensures { option_copied result ≡ name_at self.now.references place }
+    {
+        self.references.name_at(place as usize)
+    }
+}
