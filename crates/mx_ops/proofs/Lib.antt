@@ -1,2 +1,14 @@
-pub mod Places
-pub mod Signs
+pub mod Alone
+pub mod Called
+pub mod Counts
+pub mod Fits
+pub mod Mismatches
+pub mod Nearest
+pub mod Options
+pub mod Orders
+pub mod Powers
+pub mod Printables
+pub mod Quotients
+pub mod Roots
+pub mod Sizes
+pub mod Tests

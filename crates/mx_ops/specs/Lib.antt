@@ -1,1 +1,11 @@
-pub mod Fitting
+pub mod Answers
+pub mod Arithmetic
+pub mod Builtins
+pub mod Kinds
+pub mod Names
+pub mod Numbers
+pub mod Order
+pub mod Ranges
+pub mod Rows
+pub mod Table
+pub mod Truth

@@ -1,4 +1,20 @@
-//! What operators give, over whole numbers and flags.
+//! What operators give: a table of rows over all kinds of values, and the calls that go by it.
 #![tactic(auto)]
 
-pub mod arithmetic;
+pub mod answer;
+pub mod apply;
+mod binary;
+pub mod builtin;
+pub mod compute;
+pub mod decimal;
+pub mod index;
+pub mod number;
+pub mod op;
+pub mod order;
+pub mod parts;
+pub mod range;
+pub mod text;
+pub mod truth;
+pub mod tuple;
+mod unary;
+pub mod whole;
