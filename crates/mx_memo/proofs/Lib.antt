@@ -1,0 +1,14 @@
+pub mod Places
+pub mod Sweeping
+pub mod Steps
+pub mod Edges
+pub mod Keeping
+pub mod Touching
+pub mod RollingBack
+pub mod Pushing
+pub mod Reading
+pub mod KeyPushing
+pub mod Restoring
+pub mod Sources
+pub mod Table
+pub mod Going

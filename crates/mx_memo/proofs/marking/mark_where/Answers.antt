@@ -1,0 +1,9 @@
+use Rattle.std.proofs.Common.{◌≡◌, ℕ, Option, Some, None}
+use Rattle.std.specs.Prelude.{IsSome, IfSome}
+use Rattle.std.specs.FinMap as map
+use Rattle.mx_graph.specs.declared.ids.NodeId.{NodeId}
+use Rattle.mx_memo.proofs.Going.{live_node}
+use Rattle.mx_memo.proofs.marking.mark_where.Goals as goal
+
+pub mark_if-requires : goal.mark_if-requires
+mark_if-requires g c = live_node c.args.graph.now.nodes c.loop-node.graph.nodes c.args.order.now c.requires c.loop-node.node-index c.loop-node.invariant.live

@@ -1,0 +1,25 @@
+use Rattle.std.proofs.Common.{◌∙◌, length, ap, subst, arith}
+use Rattle.mx_memo.specs.Memos.{Memory}
+use Rattle.mx_memo.proofs.Keeping.{entries_length}
+use Rattle.mx_memo.proofs.memo.Memo.drop_where.Goals as goal
+
+pub overflow_sub-result : goal.overflow_sub-result
+overflow_sub-result g c = c.drop_where.ensures.less
+
+pub invariant_of-self : goal.invariant_of-self
+invariant_of-self g c = record {
+  whole = c.drop_where.ensures.whole;
+  found = c.drop_where.ensures.found;
+  counted = c.drop_where.ensures.count;
+  few = let less = c.drop_where.ensures.less in let few = c.self.invariant.few in omega (arith, less, few);
+}
+
+pub returns-clause-count : goal.returns-clause-count
+returns-clause-count g c =
+    let was = c.self.invariant.counted in
+    let seen = entries_length c.self.inside.graph.edges c.self.inside.slots.items 0 c.self.inside.order.items in
+    let left = entries_length c.drop_where.new.graph.edges c.drop_where.new.slots.items 0 c.drop_where.new.order.items in
+    let now = c.drop_where.ensures.count in
+    let less = c.drop_where.ensures.less in
+    let view = ap (λ (m : Memory). length m.held) c.self.view_is in
+    omega (arith, was, seen, left, now, less, view)

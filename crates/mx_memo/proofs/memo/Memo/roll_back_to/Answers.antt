@@ -1,0 +1,16 @@
+use Rattle.std.proofs.Common.{◌<◌, ◌∙◌, List, subst, arith}
+use Rattle.mx_memo.specs.Kept.{IsTouched, Sifts, entries}
+use Rattle.mx_memo.specs.Memos.{Memory}
+use Rattle.mx_memo.proofs.memo.Memo.roll_back_to.Goals as goal
+
+pub invariant_of-self : goal.invariant_of-self
+invariant_of-self c = record {
+  whole = c.drop_after.ensures.whole;
+  found = c.drop_after.ensures.found;
+  counted = c.drop_after.ensures.count;
+  few = let less = c.drop_after.ensures.less in let few = c.self.invariant.few in omega (arith, less, few);
+}
+
+pub returns-clause-drops : goal.returns-clause-drops
+returns-clause-drops c =
+    subst (λ (m : Memory). Sifts (IsTouched (λ r. c.args.stamp < r.stamp) m.held) m.held (entries c.drop_after.new.graph.edges c.drop_after.new.slots.items 0 c.drop_after.new.order.items)) c.self.view_is c.drop_after.ensures.sifts

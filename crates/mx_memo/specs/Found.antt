@@ -1,0 +1,55 @@
+-- How a node is found.
+use Rattle.std.specs.Prelude.{◌≡◌, ℕ, Bool, if◌then◌else◌, List, Option, Some, None}
+use Rattle.mx_graph.specs.declared.ids.NodeId.{NodeId}
+use Rattle.mx_value.specs.declared.node.Node.{Node as Asked}
+use Rattle.mx_value.specs.Equality.{node_eq}
+use Rattle.mx_memo.specs.declared.slot.Body.{Body}
+use Rattle.mx_memo.specs.declared.slot.Held.{Held}
+use Rattle.mx_memo.specs.declared.slot.Slot.{Slot}
+use Rattle.mx_memo.specs.declared.slot.Slot.TheVariants.{Free, Node, Watch}
+use Rattle.mx_memo.specs.Places.{slot_at, at}
+use Rattle.mx_memo.specs.Kept.{Kept, Has, body_of}
+
+-- the node that the vertex q is
+abbrev pub node_at : List Slot → ℕ → Asked
+node_at slots q = (body_of (slot_at slots q)).node
+
+-- the table leads from each held node to its vertex
+abbrev pub IsFound : (Asked → Option NodeId) → List Slot → List (Option NodeId) → Type 0
+IsFound look slots order = (p : ℕ) (id : NodeId) → at order p ≡ Some id → look (node_at slots id.at) ≡ Some id
+
+-- the table without what a slot holds
+abbrev pub look_without : Slot → (Asked → Option NodeId) → Asked → Option NodeId
+look_without Free look n = look n
+look_without (Node h) look n = if node_eq h.body.node n then None else look n
+look_without (Watch w) look n = look n
+
+-- the vertex q is this node
+pub record IsNodeAt (slots : List Slot) (q : ℕ) (n : Asked) : Type 0 where
+  pub held : Held
+  pub slot : slot_at slots q ≡ Node held
+  pub is : held.body.node ≡ n
+
+-- a node is held, under this id
+pub record IsHeldAs (held : List Kept) (id : ℕ) (n : Asked) : Type 0 where
+  pub entry : Kept
+  pub among : Has held entry
+  pub id_is : entry.id ≡ id
+  pub node_is : entry.body.node ≡ n
+
+-- no held node is this one
+abbrev pub IsNew : List Kept → Asked → Type 0
+IsNew held n = (r : Kept) → Has held r → r.body.node ≡ n → ⊥
+
+-- the vertex q is a held node with this body
+pub record IsBodyAt (slots : List Slot) (q : ℕ) (body : Body) : Type 0 where
+  pub held : Held
+  pub slot : slot_at slots q ≡ Node held
+  pub is : held.body ≡ body
+
+-- a node of this id is held, with this body
+pub record IsHeldWith (held : List Kept) (id : ℕ) (body : Body) : Type 0 where
+  pub entry : Kept
+  pub among : Has held entry
+  pub id_is : entry.id ≡ id
+  pub body_is : entry.body ≡ body

@@ -1,0 +1,7 @@
+pub mod Places
+pub mod Marked
+pub mod Kept
+pub mod Restoring
+pub mod Held
+pub mod Found
+pub mod Memos

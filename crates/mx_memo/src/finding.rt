@@ -1,0 +1,64 @@
+//! The table of the held nodes.
+ghost use Rattle.std.specs.Prelude.{◌≡◌, true, if◌then◌else◌, Some, ℕ};
+ghost use Rattle.std.specs.HashMap.{get as look_up};
+ghost use Rattle.mx_value.specs.declared.node.Node.{Node as Asked};
+ghost use Rattle.mx_value.specs.Equality.{node_eq};
+ghost use Rattle.mx_memo.specs.Places.{slot_at};
+ghost use Rattle.mx_memo.specs.Found.{IsNodeAt, look_without};
+
+use crate::slot::Slot;
+use mx_graph::NodeId;
+use mx_list::shared::Shared;
+use mx_value::equality::equality_laws;
+use mx_value::node::Node;
+use std::collections::HashMap;
+
+/// The vertices of the held nodes.
+pub type Table = HashMap<Shared<Node>, NodeId>;
+
+/// Whether two nodes are the same.
+fn is_same_node(a: &Shared<Node>, b: &Node) -> bool
+    ensures yes { result ≡ true → a.now ≡ b.now }
+    ensures no { a.now ≡ b.now → result ≡ true }
+{
+    equality_laws();
+    *a.get() == *b
+}
+
+/// Whether the vertex is this node.
+pub fn holds_node(slots: &[Slot], id: NodeId, node: &Node) -> bool
+    ensures yes { result ≡ true → IsNodeAt slots.now id.at node.now }
+    ensures no { IsNodeAt slots.now id.at node.now → result ≡ true }
+{
+    let Some(slot) = slots.get(id.index()) else {
+        return false;
+    };
+    match slot {
+        Slot::Node(held) => is_same_node(&held.body.node, node),
+        Slot::Watch(_) => false,
+        Slot::Free => false,
+    }
+}
+
+/// Takes the node of a slot out of the table.
+pub fn forget(slots: &[Slot], table: &mut Table, at: usize)
+    ensures { (n : Asked) → look_up node_eq table.new n ≡ look_without (slot_at slots.now at) (look_up node_eq table.old) n }
+{
+    let Some(slot) = slots.get(at) else {
+        return;
+    };
+    match slot {
+        Slot::Node(held) => {
+            let _ = table.remove(&held.body.node);
+        }
+        Slot::Watch(_) => {}
+        Slot::Free => {}
+    }
+}
+
+/// The law of `==` on nodes, for proofs. Does nothing when it runs.
+pub fn node_laws()
+    ensures { (a b : Asked) → (node_eq a b ≡ true → a ≡ b) × (a ≡ b → node_eq a b ≡ true) }
+{
+    equality_laws();
+}

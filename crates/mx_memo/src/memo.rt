@@ -1,0 +1,210 @@
+//! The memo.
+ghost use Rattle.std.specs.Prelude.{◌≡◌, ◌<◌, ◌≤◌, ◌+◌, ◌↔◌, Err, IfOk, IfSome, IfNone, MatchOption, OnErr, length};
+ghost use Rattle.mx_memo.specs.declared.refusal.HoldRefusal.TheVariants.{Full};
+ghost use Rattle.mx_memo.specs.Kept.{Has, IsHeld, IsTouched, HasChanged, IsToGo, Sifts};
+ghost use Rattle.mx_memo.specs.Held.{entry_with};
+ghost use Rattle.mx_memo.specs.Found.{IsHeldAs, IsHeldWith, IsNew};
+ghost use Rattle.mx_memo.specs.Memos.{AreHeld, HoldsLast, nothing_held, most_held};
+
+use crate::drops::{drop_after, drop_changed, drop_where};
+use crate::finding::{Table, holds_node, node_laws};
+use crate::holding::{hold_with, vertices_of};
+use crate::refusal::HoldRefusal;
+use crate::slot::{Body, Slot};
+use crate::test_of_key::KeyTest;
+use crate::test_of_node::NodeTest;
+use crate::vertices::body_at;
+use mx_edit::key::Key;
+use mx_graph::{NoMemory, NodeId, ReadGraph};
+use mx_list::shared::Shared;
+use mx_value::node::Node;
+use std::alloc::Global;
+use std::collections::HashMap;
+use std::marker::Model;
+
+/// The most nodes that are held.
+const MOST: u32 = 4_000_000;
+
+/// Held nodes in order of holding, with what their runs read.
+#[derive(Drop)]
+pub struct Memo {
+    alloc: Global,
+    graph: ReadGraph,
+    slots: Vec<Slot>,
+    // The held nodes by their stamps less 1. The place of one that was dropped is free.
+    order: Vec<Option<NodeId>>,
+    // The keys, each at the place that its slot tells.
+    keys: Vec<Option<NodeId>>,
+    count: u32,
+    // The vertices of the held nodes.
+    table: Table,
+}
+
+impl Model for Memo {
+    ghost use Rattle.std.specs.Coded.{codes};
+    ghost use Rattle.mx_value.specs.contracts.value.Value as value;
+    ghost use Rattle.mx_value.specs.contracts.value.Segment as segment;
+    ghost use Rattle.mx_memo.specs.Memos.{Memory, memory_of, IsSound};
+
+    ghost Value = { Memory };
+
+    ghost coded = { Prim.hlevel (codes, value.the_row.coded, segment.the_row.coded) };
+
+    ghost view = { memory_of };
+
+    ghost invariant = { IsSound };
+}
+
+impl Memo {
+    /// A memo that holds nothing.
+    pub fn new(alloc: Global) -> Result<Memo, NoMemory>
+        ensures { IfOk result (λ m. m ≡ nothing_held) }
+    {
+        Ok(Memo {
+            alloc,
+            graph: ReadGraph::new(alloc)?,
+            slots: Vec::new(alloc),
+            order: Vec::new(alloc),
+            keys: Vec::new(alloc),
+            count: 0,
+            table: HashMap::new(alloc),
+        })
+    }
+
+    /// How many nodes are held.
+    pub fn count(&self) -> u32
+        ensures { result ≡ length self.now.held }
+    {
+        self.count
+    }
+
+    /// The last stamp that was given, 0 where none was.
+    pub fn last_stamp(&self) -> usize
+        ensures { result ≡ self.now.last }
+    {
+        self.order.len()
+    }
+
+    /// The held node that is this one.
+    pub fn find(&self, node: &Shared<Node>) -> Option<NodeId>
+        ensures some { IfSome result (λ id. IsHeldAs self.now.held id.at node.now) }
+        ensures none { IfNone result (IsNew self.now.held node.now) }
+    {
+        let Some(id) = self.table.get(node) else {
+            return None;
+        };
+        if holds_node(&self.slots, *id, node.get()) {
+            return Some(*id);
+        }
+        None
+    }
+
+    /// What a held node is and gives, and what its run read. None exactly where no node of this id is held.
+    pub fn body(&self, id: NodeId) -> Option<&Body>
+        ensures { MatchOption result (IsHeld self.now.held id.at → ⊥) (λ body. IsHeldWith self.now.held id.at body.now) }
+    {
+        body_at(&self.slots, id)
+    }
+
+    /// Holds a node behind all others, with the keys that its run looked up and the held nodes that it asked, each once
+    /// and in order of first occurrence. `Full` comes exactly where as many are held as may be. After an error the memo is
+    /// as before.
+    pub fn hold(&mut self, body: Body, keys: &[Key], asks: &[NodeId]) -> Result<NodeId, HoldRefusal>
+        requires new { IsNew self.old.held body.node }
+        requires asks { AreHeld self.old.held asks.now }
+        ensures held { IfOk result (λ id. HoldsLast self.old self.new (entry_with (self.old.last + 1) id.at body keys.now asks.now)) }
+        ensures full { (result ≡ Err Full) ↔ (most_held ≤ length self.old.held) }
+        ensures lost { OnErr result (self.new ≡ self.old) }
+    {
+        if self.count >= MOST {
+            return Err(HoldRefusal::Full);
+        }
+        node_laws();
+        let Ok(node) = body.node.copy() else {
+            return Err(HoldRefusal::NoMemory);
+        };
+        let Ok(()) = self.table.reserve(1) else {
+            return Err(HoldRefusal::NoMemory);
+        };
+        let found = vertices_of(
+            self.alloc,
+            &mut self.graph,
+            &mut self.slots,
+            &self.order,
+            &mut self.keys,
+            keys,
+            asks,
+        );
+        let Ok(sources) = found else {
+            return Err(HoldRefusal::NoMemory);
+        };
+        let held = hold_with(
+            &mut self.graph,
+            &mut self.slots,
+            &mut self.order,
+            &self.keys,
+            body,
+            &sources,
+        );
+        let Ok(id) = held else {
+            return Err(HoldRefusal::NoMemory);
+        };
+        self.count += 1;
+        let _ = self.table.insert(node, id);
+        Ok(id)
+    }
+
+    /// Drops the nodes that were held after a stamp, and all that reach them.
+    pub fn roll_back_to(&mut self, stamp: usize)
+        ensures drops { Sifts (IsTouched (λ r. stamp < r.stamp) self.old.held) self.old.held self.new.held }
+        ensures last { self.new.last ≡ self.old.last }
+    {
+        drop_after(
+            &mut self.graph,
+            &mut self.slots,
+            &mut self.order,
+            &mut self.keys,
+            &mut self.count,
+            &mut self.table,
+            stamp,
+        );
+    }
+
+    /// Keeps exactly the nodes that neither looked a changed key up nor reach one that did, and tells how many are dropped.
+    pub fn keep_unchanged<T: KeyTest>(&mut self, test: &T) -> u32
+        ensures drops { Sifts (IsTouched (HasChanged (T.changed test.now)) self.old.held) self.old.held self.new.held }
+        ensures count { result + length self.new.held ≡ length self.old.held }
+        ensures last { self.new.last ≡ self.old.last }
+    {
+        let before = self.count;
+        drop_changed(
+            &mut self.graph,
+            &mut self.slots,
+            &mut self.order,
+            &mut self.keys,
+            &mut self.count,
+            &mut self.table,
+            test,
+        );
+        before - self.count
+    }
+
+    /// Drops the held nodes that are to go, with all that reach one of them, and tells how many are dropped.
+    pub fn drop_where<T: NodeTest>(&mut self, test: &T) -> u32
+        ensures drops { Sifts (IsTouched (IsToGo (T.goes test.now)) self.old.held) self.old.held self.new.held }
+        ensures count { result + length self.new.held ≡ length self.old.held }
+        ensures last { self.new.last ≡ self.old.last }
+    {
+        let before = self.count;
+        drop_where(
+            &mut self.graph,
+            &mut self.slots,
+            &mut self.order,
+            &mut self.keys,
+            &mut self.count,
+            &mut self.table,
+            test,
+        );
+        before - self.count
+    }
+}

@@ -1,0 +1,167 @@
+//! Random scripts of holding, dropping, rolling back, clearing and editing beside a plain list.
+use crate::plain::{List, NODES, Plain, marks, set};
+use crate::scripts::{OneKey, OneNode, asks_of, body, key, node};
+use mx_memo::{Every, Memo};
+use mx_value::value::Value;
+use std::alloc::Global;
+use std::process::Abort;
+use std::test::Fail;
+
+/// The linear congruential generator of Knuth's MMIX.
+#[derive(Drop)]
+struct Draws {
+    state: u64,
+}
+
+impl Draws {
+    fn below(&mut self, bound: u64) -> usize {
+        let product = self.state.wrapping_mul(6_364_136_223_846_793_005);
+        self.state = product.wrapping_add(1_442_695_040_888_963_407);
+        ((self.state >> 33) % bound.max(1)) as usize
+    }
+}
+
+/// A memo beside a plain list of what it holds.
+#[derive(Drop)]
+struct Pair {
+    memo: Memo,
+    list: List,
+}
+
+impl Pair {
+    fn hold(&mut self, rt: &impl Abort, alloc: Global, draws: &mut Draws) -> Result<(), Fail> {
+        let n = draws.below(10);
+        let new = node(alloc, n)?;
+        let None = self.memo.find(&new) else {
+            assert!(rt; self.list.is_held(n));
+            return Ok(());
+        };
+        assert!(rt; !self.list.is_held(n));
+        let mut wanted = Vec::new(alloc);
+        let mut asked = Vec::new(alloc);
+        for m in 0..NODES {
+            if m != n && draws.below(3) == 0 {
+                wanted.push(m)?;
+                if self.list.is_held(m) {
+                    asked.push(m)?;
+                }
+            }
+        }
+        let mut keys = Vec::new(alloc);
+        let mut looked = Vec::new(alloc);
+        for k in 0..5 {
+            if draws.below(3) == 0 {
+                keys.push(key(alloc, k)?)?;
+                looked.push(k)?;
+            }
+        }
+        let value = i64::try_from(draws.below(1000))?;
+        let asks = asks_of(alloc, &self.memo, &wanted)?;
+        assert_eq!(rt; asks.len(), asked.len());
+        let stamp = self.memo.last_stamp().saturating_add(1);
+        let held = self.memo.hold(body(alloc, new, value)?, &keys, &asks);
+        assert!(rt; held.is_ok());
+        self.list.hold(
+            n,
+            Plain {
+                value,
+                stamp,
+                keys: looked,
+                asks: asked,
+            },
+        );
+        Ok(())
+    }
+
+    fn roll_back(&mut self, alloc: Global, draws: &mut Draws) -> Result<(), Fail> {
+        let back = draws.below(4);
+        let stamp = self.memo.last_stamp().saturating_sub(back);
+        self.memo.roll_back_to(stamp);
+        let mut gone = marks(alloc)?;
+        for (n, entry) in self.list.held.iter().enumerate() {
+            if let Some(plain) = entry {
+                if plain.stamp > stamp {
+                    set(&mut gone, n);
+                }
+            }
+        }
+        let _ = self.list.drop_from(&mut gone);
+        Ok(())
+    }
+
+    fn edit(&mut self, rt: &impl Abort, alloc: Global, draws: &mut Draws) -> Result<(), Fail> {
+        let changed = draws.below(5);
+        let test = OneKey {
+            key: key(alloc, changed)?,
+        };
+        let dropped = self.memo.keep_unchanged(&test);
+        let mut gone = marks(alloc)?;
+        for (n, entry) in self.list.held.iter().enumerate() {
+            if let Some(plain) = entry {
+                for k in &plain.keys {
+                    if *k == changed {
+                        set(&mut gone, n);
+                    }
+                }
+            }
+        }
+        assert_eq!(rt; self.list.drop_from(&mut gone), dropped);
+        Ok(())
+    }
+
+    fn clear(&mut self, rt: &impl Abort, alloc: Global, draws: &mut Draws) -> Result<(), Fail> {
+        let n = draws.below(10);
+        let mut gone = marks(alloc)?;
+        if draws.below(8) == 0 {
+            let dropped = self.memo.drop_where(&Every);
+            for m in 0..NODES {
+                set(&mut gone, m);
+            }
+            assert_eq!(rt; self.list.drop_from(&mut gone), dropped);
+            return Ok(());
+        }
+        let test = OneNode {
+            node: node(alloc, n)?,
+        };
+        let dropped = self.memo.drop_where(&test);
+        set(&mut gone, n);
+        assert_eq!(rt; self.list.drop_from(&mut gone), dropped);
+        Ok(())
+    }
+
+    fn compare(&self, rt: &impl Abort, alloc: Global) -> Result<(), Fail> {
+        assert_eq!(rt; self.memo.count(), self.list.count());
+        assert_eq!(rt; self.memo.last_stamp(), self.list.last);
+        for (n, entry) in self.list.held.iter().enumerate() {
+            let found = self.memo.find(&node(alloc, n)?);
+            assert_eq!(rt; found.is_some(), entry.is_some());
+            if let (Some(id), Some(plain)) = (found, entry) {
+                let held = self.memo.body(id).ok_or("no body")?;
+                assert!(rt; held.reply.get().value == Value::Int(plain.value));
+            }
+        }
+        Ok(())
+    }
+}
+
+#[test]
+fn what_is_held_is_that_of_a_plain_list(rt: HostRuntime) -> Result<(), Fail> {
+    let mut draws = Draws { state: 1 };
+    let alloc = rt.alloc();
+    for _ in 0..300 {
+        let mut pair = Pair {
+            memo: Memo::new(alloc)?,
+            list: List::new(alloc)?,
+        };
+        for _ in 0..12 {
+            match draws.below(8) {
+                0 => pair.roll_back(alloc, &mut draws)?,
+                1 => pair.edit(&rt, alloc, &mut draws)?,
+                2 => pair.clear(&rt, alloc, &mut draws)?,
+                _ => pair.hold(&rt, alloc, &mut draws)?,
+            }
+            pair.compare(&rt, alloc)?;
+        }
+    }
+    Ok(())
+}
