@@ -1,0 +1,5 @@
+//! Tests of the generated model.
+#![tactic(auto)]
+
+#[cfg(test)]
+mod vectors;
