@@ -5,7 +5,8 @@ use Rattle.std.specs.List.{AllByRecursion}
 use Rattle.mx_outside.specs.declared.sink.WriteFailure.{WriteFailure}
 use Rattle.mx_outside.specs.declared.sink.WriteFailure.TheVariants as write
 use Rattle.mx_outside.proofs.Bytes.{append_known-nil}
-use Rattle.mx_cli.specs.Script.{Lines, split_lines, Command, Taken, taken, complete, pending_after, complete_commands, commands, GrowsTo, HasNoLf}
+use Rattle.mx_cli.specs.Script.{taken, complete, pending_after, complete_commands, commands}
+use Rattle.mx_script.specs.Script.{Lines, split_lines, Command, Taken, GrowsTo, HasNoLf}
 use Rattle.mx_cli.specs.Answer.{State, first_state}
 use Rattle.mx_cli.specs.Transcript.{Runs, Begins, Wrote, IsWithin, IsCut}
 use Rattle.mx_cli.specs.Session.{TakesLine, pending_of}

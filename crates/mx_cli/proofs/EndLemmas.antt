@@ -5,7 +5,8 @@ use Rattle.std.specs.Option.{option_to_list}
 use Rattle.std.specs.Io.KnownBytes.{append_known}
 use Rattle.mx_outside.specs.declared.sink.WriteFailure.{WriteFailure}
 use Rattle.mx_outside.proofs.Bytes.{append_known-append}
-use Rattle.mx_cli.specs.Script.{split_lines, last_line, Command, Taken, taken, complete, pending_after, complete_commands, commands, HasNoLf}
+use Rattle.mx_cli.specs.Script.{taken, complete, pending_after, complete_commands, commands}
+use Rattle.mx_script.specs.Script.{split_lines, last_line, Command, Taken, HasNoLf}
 use Rattle.mx_cli.specs.Answer.{State, first_state}
 use Rattle.mx_cli.specs.Transcript.{Runs, Begins, Wrote, IsOutput}
 use Rattle.mx_cli.specs.Session.{TakesLine, pending_of}

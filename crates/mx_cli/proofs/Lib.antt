@@ -1,4 +1,4 @@
-pub mod Words
+pub mod WordLemmas
 pub mod RunLemmas
 pub mod TakeLemmas
 pub mod ScriptLemmas
@@ -6,3 +6,4 @@ pub mod AtLemmas
 pub mod EndLemmas
 pub mod EndsLemmas
 pub mod WithinLemmas
+pub mod Known

@@ -4,7 +4,7 @@ use Rattle.std.specs.Io.KnownBytes.{append_known}
 use Rattle.mx_outside.specs.Outside.{TakesFront}
 use Rattle.mx_outside.proofs.Bytes.{append_known-append}
 use Rattle.mx_outside.specs.declared.sink.WriteFailure.{WriteFailure}
-use Rattle.mx_cli.specs.Script.{Command, Taken}
+use Rattle.mx_script.specs.Script.{Command, Taken}
 use Rattle.mx_cli.specs.Session.{TakesLine}
 use Rattle.mx_cli.specs.declared.take.Pending.{Pending}
 use Rattle.mx_cli.specs.Answer.{State, Step}

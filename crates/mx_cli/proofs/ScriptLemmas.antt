@@ -2,7 +2,8 @@
 use Rattle.std.proofs.Common.{◌≡◌, ◌≢◌, ℕ, suc, ◌+◌, ◌==◌, if◌then◌else◌, Bool, true, false, List, [], ◌∷◌, ◌++◌, Option, None, length, refl, sym, ap, ◌∙◌, subst, append_assoc, append-nil, arith}
 use Rattle.std.proofs.lemmas.Bool.Decides.{nat_tests}
 use Rattle.std.specs.Option.{option_to_list}
-use Rattle.mx_cli.specs.Script.{Lines, onto, split_lines, last_line, Command, taken, complete, pending_after, complete_commands, commands, GrowsTo, HasNoLf, AreLines}
+use Rattle.mx_cli.specs.Script.{taken, complete, pending_after, complete_commands, commands}
+use Rattle.mx_script.specs.Script.{Lines, onto, split_lines, last_line, Command, GrowsTo, HasNoLf, AreLines}
 
 -- lines that come after an open one: it goes on in the first of them
 abbrev pub glued : List ℕ → List (List ℕ) → List (List ℕ)

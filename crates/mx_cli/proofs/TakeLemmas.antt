@@ -2,7 +2,8 @@
 use Rattle.std.proofs.Common.{◌≡◌, ℕ, false, List, [], ◌∷◌, ◌++◌, Option, Some, Result, Err, refl, sym, ap, ◌∙◌, subst}
 use Rattle.std.specs.Option.{option_to_list}
 use Rattle.mx_outside.specs.declared.sink.WriteFailure.{WriteFailure}
-use Rattle.mx_cli.specs.Script.{Command, Taken, started, taken, goes_on, without_cr}
+use Rattle.mx_cli.specs.Script.{started, taken}
+use Rattle.mx_script.specs.Script.{Command, Taken, goes_on, without_cr}
 use Rattle.mx_cli.specs.Answer.{State}
 use Rattle.mx_cli.specs.Transcript.{Runs, Begins, Wrote}
 use Rattle.mx_cli.specs.Session.{TakesLine, pending_of, command_of}

@@ -2,7 +2,7 @@
 use Rattle.std.proofs.Common.{◌≡◌, ℕ, ◌≤◌, List, [], ◌∷◌, ◌++◌, Option, None, Some, length, sym, ap, ◌∙◌, subst, append_assoc, arith, length-append}
 use Rattle.std.specs.List.{AllByRecursion}
 use Rattle.std.specs.Io.KnownBytes.{prepend_known}
-use Rattle.mx_cli.specs.Script.{Lines, split_lines}
+use Rattle.mx_script.specs.Script.{Lines, split_lines}
 use Rattle.mx_cli.specs.Transcript.{IsWithin, IsCut}
 use Rattle.mx_cli.proofs.ScriptLemmas.{glued, glued_rest, split_lines-append}
 

@@ -5,7 +5,11 @@ use Rattle.mx_value.specs.declared.node.Node.{Node}
 use Rattle.mx_value.specs.declared.refusal.EvalRefusal.{EvalRefusal}
 use Rattle.mx_value.specs.declared.refusal.EvalRefusal.TheVariants as refusal
 use Rattle.mx_syntax.specs.declared.stmt.Formula.{Formula}
+use Rattle.mx_edit.specs.declared.edit.Edit.{Edit as ScriptEdit}
+use Rattle.mx_edit.specs.declared.edit.Edit.TheVariants as script
+use Rattle.mx_script.specs.declared.command.Command.{Command as ScriptCommand}
 use Rattle.mx_script.specs.declared.command.Command.TheVariants as command
+use Rattle.mx_cli.specs.Script.{program_words}
 use Rattle.mx_script.specs.declared.command.FormRefusal.{FormRefusal}
 use Rattle.mx_script.specs.declared.command.FormRefusal.TheVariants as form
 use Rattle.mx_script.specs.Commands.{ReadsAs}
@@ -17,7 +21,7 @@ use Rattle.mx_engine.specs.declared.edit.Edit.TheVariants.{SetCells}
 use Rattle.mx_engine.specs.declared.edit.EditRefusal.{EditRefusal}
 use Rattle.mx_engine.specs.declared.edit.EditRefusal.TheVariants as edit
 use Rattle.mx_engine.specs.Edits.{applied, refusal_of, IsRefusedBy, first_limit}
-use Rattle.mx_cli.specs.Script.{Command}
+use Rattle.mx_script.specs.Script.{Command}
 use Rattle.mx_cli.specs.Text.{eval_block, edit_block}
 use Rattle.mx_cli.specs.Refusals.{refused_block}
 
@@ -52,9 +56,29 @@ pub record Evaluates (s : State) (n : Node) (block : List ℕ) (new : State) : T
   pub text : block ≡ eval_block outcome (length new.held - length s.held)
   pub state : new ≡ record s { held = new.held }
 
+-- the commands of the words that this program knows
+abbrev pub IsKnownEdit : ScriptEdit → Type 0
+IsKnownEdit (script.SetCells path name formula) = Unit {0}
+IsKnownEdit _ = ⊥
+
+abbrev pub IsKnown : ScriptCommand → Type 0
+IsKnown (command.Edit e) = IsKnownEdit e
+IsKnown (command.Eval n) = Unit {0}
+IsKnown _ = ⊥
+
+-- what an edit of a script does
+abbrev pub EditsAs : State → ScriptEdit → List ℕ → State → Type 0
+EditsAs s (script.SetCells path name formula) block new = Edits s (SetCells path name formula) block new
+EditsAs s _ block new = ⊥
+
+-- what a command does from a state: the block that it writes, and the next state
+abbrev pub CarriesOut : State → ScriptCommand → List ℕ → State → Type 0
+CarriesOut s (command.Edit e) block new = EditsAs s e block new
+CarriesOut s (command.Eval n) block new = Evaluates s n block new
+CarriesOut s _ block new = ⊥
+
 -- One command from a state writes its block and leaves the next state.
 pub data Step (s : State) (c : Command) (block : List ℕ) (new : State) : Type 0 where
   -- a text that is refused changes nothing
-  refused : (e : FormRefusal) → e ≢ form.NoMemory → ReadsAs c.text (Err e) → block ≡ refused_block c.number e → new ≡ s → Step s c block new
-  cells : (path : List (List ℕ)) (name : List ℕ) (formula : Formula) → ReadsAs c.text (Ok (command.Cells path name formula)) → Edits s (SetCells path name formula) block new → Step s c block new
-  eval : (n : Node) → ReadsAs c.text (Ok (command.Eval n)) → Evaluates s n block new → Step s c block new
+  refused : (e : FormRefusal) → e ≢ form.NoMemory → ReadsAs program_words c.text (Err e) → block ≡ refused_block c.number e → new ≡ s → Step s c block new
+  carried : (k : ScriptCommand) → ReadsAs program_words c.text (Ok k) → CarriesOut s k block new → Step s c block new

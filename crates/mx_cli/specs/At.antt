@@ -1,7 +1,8 @@
 -- Where a session stands in a script, and how it ends.
 use Rattle.std.specs.Prelude.{◌≡◌, ℕ, List, Option, None, Result, Ok, Err, length}
 use Rattle.mx_outside.specs.declared.sink.WriteFailure.{WriteFailure}
-use Rattle.mx_cli.specs.Script.{Command, split_lines, pending_after, complete_commands, commands}
+use Rattle.mx_cli.specs.Script.{pending_after, complete_commands, commands}
+use Rattle.mx_script.specs.Script.{Command, split_lines}
 use Rattle.mx_cli.specs.Answer.{State, first_state}
 use Rattle.mx_cli.specs.Transcript.{Runs, Begins, IsWithin, IsCut, IsOutput, Transcript}
 use Rattle.mx_cli.specs.Session.{pending_of}

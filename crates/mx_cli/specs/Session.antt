@@ -2,7 +2,7 @@
 use Rattle.std.specs.Prelude.{◌≡◌, ℕ, Option, Result, Ok, Err, List}
 use Rattle.std.specs.Option.{option_map}
 use Rattle.mx_outside.specs.declared.sink.WriteFailure.{WriteFailure}
-use Rattle.mx_cli.specs.Script.{Command, Taken}
+use Rattle.mx_script.specs.Script.{Command, Taken}
 use Rattle.mx_cli.specs.Answer.{State}
 use Rattle.mx_cli.specs.Transcript.{Runs, Begins}
 use Rattle.mx_cli.specs.declared.take.Pending.{Pending}

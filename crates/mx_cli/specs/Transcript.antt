@@ -2,7 +2,8 @@
 use Rattle.std.specs.Prelude.{◌≡◌, ◌≤◌, ℕ, List, [], ◌∷◌, ◌++◌, Option, length}
 use Rattle.std.specs.List.{AllByRecursion}
 use Rattle.std.specs.Io.KnownBytes.{prepend_known, append_known}
-use Rattle.mx_cli.specs.Script.{Command, split_lines, complete_commands, commands}
+use Rattle.mx_cli.specs.Script.{complete_commands, commands}
+use Rattle.mx_script.specs.Script.{Command, split_lines}
 use Rattle.mx_cli.specs.Answer.{State, first_state, Step}
 
 -- the commands write this output, one block after another, and lead from one state to another

@@ -1,12 +1,14 @@
 //! The answer to one command.
 ghost use Rattle.std.specs.Prelude.{◌≡◌, ◌≤◌, ◌∷◌, [], MatchResult, IfOk, OnOk, IsErrOf};
 ghost use Rattle.mx_outside.specs.Outside.{Rose};
-ghost use Rattle.mx_cli.specs.Answer.{Step, Edits, Evaluates, first_state};
+ghost use Rattle.mx_cli.specs.Answer.{Step, IsKnown, IsKnownEdit, CarriesOut, EditsAs, Edits, Evaluates, first_state};
 ghost use Rattle.mx_cli.specs.Transcript.{Runs, Begins, Wrote};
 
 use crate::refusal::push_refused_command;
 use crate::text::{push_accepted, push_refusal_block, push_refused, push_value_block};
-use mx_engine::edit::Edit;
+use crate::words::WORDS;
+use mx_edit::edit::Edit;
+use mx_engine::edit::Edit as EngineEdit;
 use mx_engine::engine::Engine;
 use mx_engine::steps::Steps;
 use mx_outside::{Sink, WriteFailure, write_whole};
@@ -81,19 +83,61 @@ fn step<L: Ledger>(
     requires { block.old.items ≡ [] }
     ensures { OnOk result (Step engine.old (record { number = number; text = text.now }) block.new.items engine.new) }
 {
-    match read_command(alloc, text) {
-        Ok(Command::Cells(path, name, formula)) => {
-            define(engine, block, path, name, formula)?;
-            return Ok(());
-        }
-        Ok(Command::Eval(node)) => {
-            evaluate(engine, block, &node, steps)?;
+    match read_command(alloc, &WORDS, text) {
+        Ok(command) => {
+            carry_out(engine, block, command, steps)?;
             return Ok(());
         }
         Err(refusal) => {
             push_refused_command(block, number, refusal)?;
             return Ok(());
         }
+    }
+}
+
+/// Does what a command says.
+fn carry_out<L: Ledger>(
+    engine: &mut Engine,
+    block: &mut Vec<u8>,
+    command: Command,
+    steps: &mut Steps<L>,
+) -> Result<(), AllocError>
+    requires empty { block.old.items ≡ [] }
+    requires known { IsKnown command }
+    ensures { OnOk result (CarriesOut engine.old command block.new.items engine.new) }
+{
+    match command {
+        Command::Edit(edit) => return carry_edit(engine, block, edit),
+        Command::Eval(node) => return evaluate(engine, block, &node, steps),
+        Command::Precedents(_) => unreachable!(),
+        Command::Succs(_) => unreachable!(),
+        Command::Order(_) => unreachable!(),
+    }
+}
+
+/// Makes an edit.
+fn carry_edit(engine: &mut Engine, block: &mut Vec<u8>, edit: Edit) -> Result<(), AllocError>
+    requires empty { block.old.items ≡ [] }
+    requires known { IsKnownEdit edit }
+    ensures { OnOk result (EditsAs engine.old edit block.new.items engine.new) }
+{
+    match edit {
+        Edit::SetCells {
+            path,
+            name,
+            formula,
+        } => return define(engine, block, path, name, formula),
+        Edit::NewSpace { .. } => unreachable!(),
+        Edit::DelSpace { .. } => unreachable!(),
+        Edit::SetBases { .. } => unreachable!(),
+        Edit::DelCells { .. } => unreachable!(),
+        Edit::SetAllowNone { .. } => unreachable!(),
+        Edit::SetRef { .. } => unreachable!(),
+        Edit::DelRef { .. } => unreachable!(),
+        Edit::SetParams { .. } => unreachable!(),
+        Edit::SetInput { .. } => unreachable!(),
+        Edit::DelInput { .. } => unreachable!(),
+        Edit::SetTable { .. } => unreachable!(),
     }
 }
 
@@ -106,9 +150,9 @@ fn define(
     formula: Formula,
 ) -> Result<(), AllocError>
     requires { block.old.items ≡ [] }
-    ensures { OnOk result (Edits engine.old (Edit.SetCells path name formula) block.new.items engine.new) }
+    ensures { OnOk result (Edits engine.old (EngineEdit.SetCells path name formula) block.new.items engine.new) }
 {
-    let edit = Edit::SetCells {
+    let edit = EngineEdit::SetCells {
         path,
         name,
         formula,

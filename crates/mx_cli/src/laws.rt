@@ -1,6 +1,7 @@
 //! Laws of the lines and commands of a script.
 ghost use Rattle.std.specs.Prelude.{◌++◌, ℕ, List};
-ghost use Rattle.mx_cli.specs.Script.{split_lines, complete_commands, commands, AreLines, GrowsTo};
+ghost use Rattle.mx_cli.specs.Script.{complete_commands, commands};
+ghost use Rattle.mx_script.specs.Script.{split_lines, AreLines, GrowsTo};
 
 /// The lines of a script, with an LF behind each, give the script back, and no LF stands in one.
 pub fn lines_give_the_script()

@@ -1,6 +1,6 @@
 //! The parts of a line that decide what it is.
 ghost use Rattle.std.specs.Prelude.{◌≡◌, ◌≢◌, ◌<◌, ℕ, length, slice_index, IfSome, IfNone};
-ghost use Rattle.mx_cli.specs.Script.{without_cr, skip_spaces, is_blank, goes_on, takes_lines};
+ghost use Rattle.mx_script.specs.Script.{without_cr, is_blank, goes_on};
 
 /// The place of the first LF, from 0.
 pub fn line_end(bytes: &[u8]) -> Option<usize>
@@ -27,17 +27,6 @@ pub fn strip_cr(line: &[u8]) -> &[u8]
     }
 }
 
-/// The line behind its leading spaces.
-pub fn strip_spaces(line: &[u8]) -> &[u8]
-    ensures { result.now ≡ skip_spaces line.now }
-{
-    let mut rest = line;
-    while let [b' ', after @ ..] = rest {
-        rest = after;
-    }
-    rest
-}
-
 /// Whether a line, behind its leading spaces, gives no command: it is empty or a comment.
 pub fn blank(text: &[u8]) -> bool
     ensures { result ≡ is_blank text.now }
@@ -56,14 +45,4 @@ pub fn continues(line: &[u8]) -> bool
         [] => true,
         [first, ..] => *first == b' ' || *first == b'#',
     }
-}
-
-/// Whether the command of a text takes the lines that go on.
-pub fn open_ended(text: &[u8]) -> bool
-    ensures { result ≡ takes_lines text.now }
-{
-    let cells = text.starts_with(b"cells ") || text == b"cells".as_slice();
-    let def = text.starts_with(b"def ") || text == b"def".as_slice();
-    let params = text.starts_with(b"params ") || text == b"params".as_slice();
-    cells || def || params
 }

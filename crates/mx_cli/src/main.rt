@@ -18,6 +18,7 @@ mod take;
 mod tests;
 mod text;
 mod top;
+mod words;
 #[cfg(test)]
 mod worked;
 

@@ -1,7 +1,7 @@
 //! A script as it is read: each command is answered as soon as it is complete.
 ghost use Rattle.std.specs.Prelude.{◌≡◌, ◌≤◌, ◌<◌, ◌++◌, ◌∷◌, [], ℕ, List, length, take, IsErrOf, IfOk};
 ghost use Rattle.mx_outside.specs.Outside.{Rose};
-ghost use Rattle.mx_cli.specs.Script.{HasNoLf};
+ghost use Rattle.mx_script.specs.Script.{HasNoLf};
 ghost use Rattle.mx_cli.specs.Transcript.{Wrote};
 
 use crate::answer::Interpreter;

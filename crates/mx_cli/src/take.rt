@@ -2,15 +2,19 @@
 ghost use Rattle.std.specs.Prelude.{◌≡◌, ◌≤◌, ◌++◌, ◌∷◌, ℕ, IsErrOf, IfOk, MatchResult};
 ghost use Rattle.std.specs.Option.{option_to_list};
 ghost use Rattle.mx_outside.specs.Outside.{Rose};
-ghost use Rattle.mx_cli.specs.Script.{started, taken, without_cr};
+ghost use Rattle.mx_cli.specs.Script.{started, taken};
+ghost use Rattle.mx_script.specs.Script.{without_cr};
 ghost use Rattle.mx_cli.specs.Answer.{State};
 ghost use Rattle.mx_cli.specs.Transcript.{Wrote, Runs, Begins};
 ghost use Rattle.mx_cli.specs.Session.{TakesLine, pending_of, command_of};
 
 use crate::answer::Interpreter;
-use crate::line::{blank, continues, open_ended, strip_cr, strip_spaces};
+use crate::line::{blank, continues, strip_cr};
+use crate::words::WORDS;
 use mx_engine::steps::Steps;
 use mx_outside::{Sink, WriteFailure};
+use mx_script::table::takes_lines;
+use mx_script::text::strip_spaces;
 use std::alloc::{AllocError, Global};
 use std::sync::ledger::Ledger;
 
@@ -49,7 +53,7 @@ fn start_line<K: Sink, L: Ledger>(
     if blank(text) {
         return Ok(None);
     }
-    if open_ended(text) {
+    if takes_lines(&WORDS, text) {
         let Ok(text) = Vec::from_slice(alloc, line) else {
             return Err(WriteFailure::NoMemory);
         };

@@ -2,7 +2,8 @@
 use Rattle.std.specs.Prelude.{◌≡◌, ℕ, ◌≤◌, Bool, true, false, not, ◌&&◌, Option, None, Some, Result, Ok, Err, List, [], length, nat_le, is_some, if◌then◌else◌}
 use Rattle.std.specs.Map.{lookup}
 use Rattle.mx_value.specs.Name.{is_name}
-use Rattle.mx_meaning.specs.Model.{Text, define, same_name, same_path, main_path}
+use Rattle.mx_value.specs.Name.{same_name, same_path}
+use Rattle.mx_meaning.specs.Model.{Text, define, main_path}
 use Rattle.mx_meaning.specs.Held.{Entry, IsMemo}
 use Rattle.mx_meaning.specs.State.{most_held}
 use Rattle.mx_engine.specs.declared.edit.Edit.{Edit}

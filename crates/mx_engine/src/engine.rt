@@ -13,7 +13,7 @@ use mx_machine::binding::bound_form;
 use mx_machine::held::Held;
 use mx_machine::machine::{Spare, Waiting, eval};
 use mx_machine::steps::Steps;
-use mx_model::text::ModelText;
+use mx_main_cells::text::ModelText;
 use mx_syntax::stmt::Formula;
 use mx_value::label::Label;
 use mx_value::name::is_name;

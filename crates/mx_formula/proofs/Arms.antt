@@ -3,7 +3,7 @@ use Rattle.std.proofs.Common.{◌≡◌, ◌∙◌, ℕ, ◌+◌, List, ◌∷�
 use Rattle.mx_value.specs.declared.value.Value.{Value}
 use Rattle.mx_syntax.specs.declared.stmt.Stmt.{Stmt}
 use Rattle.mx_syntax.specs.declared.stmt.IfArm.{IfArm, out-IfArm, roll-out-IfArm, para-roll-IfArm}
-use Rattle.mx_print.specs.Lines.{arm_height}
+use Rattle.mx_syntax.specs.Heights.{arm_height}
 use Rattle.mx_meaning.specs.Runs.{Run, Env}
 use Rattle.mx_meaning.specs.Operators.{truth}
 use Rattle.mx_meaning.specs.Expressions.{reading, tested}

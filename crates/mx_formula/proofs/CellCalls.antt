@@ -1,8 +1,8 @@
 -- Calls of cells that are there.
 use Rattle.std.proofs.Common.{◌≡◌, ◌∙◌, true, false, Bool, List, [], ◌∷◌, ◌++◌, Option, Some, length, if◌then◌else◌, Result, Ok, Err, refl, ap}
 use Rattle.std.specs.Prelude.{IsErrOf, IsTrue, ◌↔◌}
-use Rattle.mx_print.specs.declared.bind.BindRefusal.{BindRefusal}
-use Rattle.mx_print.specs.declared.bind.BindRefusal.TheVariants.{WrongCount as BadCount}
+use Rattle.mx_syntax.specs.declared.bind.BindRefusal.{BindRefusal}
+use Rattle.mx_syntax.specs.declared.bind.BindRefusal.TheVariants.{WrongCount as BadCount}
 use Rattle.std.specs.List.{list_all}
 use Rattle.mx_value.specs.declared.label.Label.{Label}
 use Rattle.mx_value.specs.declared.value.Value.{Value}
@@ -11,7 +11,7 @@ use Rattle.mx_value.specs.declared.node.Node.TheVariants.{Cell}
 use Rattle.mx_value.specs.declared.fault.FaultKind.TheVariants.{TypeMismatch, WrongCountInside}
 use Rattle.mx_value.specs.Plain.{is_plain}
 use Rattle.mx_syntax.specs.declared.stmt.Formula.{Formula}
-use Rattle.mx_print.specs.Binding.{bound, is_wrong_count}
+use Rattle.mx_syntax.specs.Binding.{bound, is_wrong_count}
 use Rattle.mx_meaning.specs.declared.key.Key.TheVariants as key
 use Rattle.mx_meaning.specs.declared.event.Event.{Event}
 use Rattle.mx_meaning.specs.declared.event.Event.TheVariants.{Looked}

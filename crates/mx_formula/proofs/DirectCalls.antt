@@ -13,7 +13,8 @@ use Rattle.mx_syntax.specs.declared.stmt.Formula.{Formula}
 use Rattle.mx_meaning.specs.declared.key.Key.TheVariants as key
 use Rattle.mx_meaning.specs.declared.event.Event.{Event}
 use Rattle.mx_meaning.specs.declared.event.Event.TheVariants.{Looked}
-use Rattle.mx_meaning.specs.Model.{Text, FormulaHere, formula_at, main_path, same_name, same_path, cells_here}
+use Rattle.mx_value.specs.Name.{same_name, same_path}
+use Rattle.mx_meaning.specs.Model.{Text, FormulaHere, formula_at, main_path, cells_here}
 use Rattle.mx_meaning.specs.Runs.{Run, Looks, Env, Reading}
 use Rattle.mx_meaning.specs.Expressions.{reading, named, named_result, sought, local_of, path_of, called, call_result, cells_in, arguments_from, trailed_from, trailer_read, Arguments}
 use Rattle.mx_formula.specs.Tasks.{GoesOnAlone, cells_at}

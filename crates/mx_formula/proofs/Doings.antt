@@ -1,5 +1,5 @@
 -- How each statement is done.
-use Rattle.std.proofs.Common.{◌≡◌, ◌∙◌, ℕ, ◌+◌, List, [], ◌∷◌, Option, Some, None, sym, ap, false, is_some, if◌then◌else◌}
+use Rattle.std.proofs.Common.{◌≡◌, ◌∙◌, ℕ, ◌+◌, List, [], ◌∷◌, Option, Some, None, sym, ap, Bool, false, if◌then◌else◌}
 use Rattle.mx_value.specs.declared.label.Label.{Label}
 use Rattle.mx_value.specs.declared.value.Value.{Value}
 use Rattle.mx_value.specs.declared.value.Value.TheVariants.{Nothing}
@@ -12,8 +12,7 @@ use Rattle.mx_syntax.specs.declared.stmt.Stmt.TheFolds.{para-roll-Stmt}
 use Rattle.mx_syntax.specs.declared.stmt.IfArm.{IfArm}
 use Rattle.mx_syntax.specs.declared.stmt.ItemEntry.{ItemEntry}
 use Rattle.mx_syntax.specs.declared.stmt.ArithOp.{ArithOp}
-use Rattle.mx_print.specs.Lines.{height, first_line}
-use Rattle.mx_print.specs.Statements.{one_line, returned, returned_step, any_arm}
+use Rattle.mx_syntax.specs.Heights.{height, first_line, returns, returns_step, any_arm}
 use Rattle.mx_meaning.specs.Runs.{Run, Env, fault, computed}
 use Rattle.mx_meaning.specs.Operators.{changed}
 use Rattle.mx_meaning.specs.Expressions.{reading, named}
@@ -57,7 +56,7 @@ no_statement body line env after back e = ap (λ (b : List Stmt). doing_from b l
 
 -- a formula of one line is its expression
 pub first_line-return : (e : Expr) → first_line (made.Return (Some e) ∷ []) ≡ 1
-first_line-return e = ap (λ (t : Option (List ℕ)). if is_some (one_line (t ∷ [])) then 1 else 2) (ap returned (sym (made.rolls-Return (Some e))) ∙ fold-roll-Stmt (Option (List ℕ)) (Unit {0}) returned_step any_arm (Stmt-F.Return (Some e)))
+first_line-return e = ap (λ (one : Bool). if one then 1 else 2) (ap returns (sym (made.rolls-Return (Some e))) ∙ fold-roll-Stmt Bool (Unit {0}) returns_step any_arm (Stmt-F.Return (Some e)))
 
 pub one_line_done : (e : Expr) (env : Env) → env.line ≡ 1 → doing_from (made.Return (Some e) ∷ []) (first_line (made.Return (Some e) ∷ [])) env (λ x. ended false env.node Nothing) (ended false env.node) ≡ reading e env (ended false env.node)
 one_line_done e env l =

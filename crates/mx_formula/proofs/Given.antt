@@ -6,7 +6,7 @@ use Rattle.mx_value.specs.declared.label.Label.{Label}
 use Rattle.mx_value.specs.declared.value.Value.{Value}
 use Rattle.mx_syntax.specs.declared.stmt.Param.{Param}
 use Rattle.mx_meaning.specs.Expressions.{local_of}
-use Rattle.mx_meaning.specs.Model.{same_name}
+use Rattle.mx_value.specs.Name.{same_name}
 use Rattle.mx_meaning.specs.Statements.{given_locals, set_in}
 use Rattle.mx_value.proofs.Enums.{text_decides}
 use Rattle.mx_formula.specs.declared.frame.Local.{Local}

@@ -30,7 +30,7 @@ use Rattle.mx_syntax.specs.declared.expr.CmpOp.{CmpOp}
 use Rattle.mx_syntax.specs.declared.expr.Comparison.{Comparison}
 use Rattle.mx_syntax.specs.declared.stmt.Param.{Param}
 use Rattle.mx_syntax.specs.declared.stmt.Formula.{Formula}
-use Rattle.mx_print.specs.Binding.{bound, is_wrong_count}
+use Rattle.mx_syntax.specs.Binding.{bound, is_wrong_count}
 use Rattle.mx_formula.specs.declared.frame.Next.{Next}
 use Rattle.mx_formula.specs.declared.frame.Next.TheVariants.{Eval, Give, Ask, Fault}
 use Rattle.mx_formula.specs.declared.frame.Stop.{Stop}

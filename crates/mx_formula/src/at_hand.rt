@@ -9,10 +9,10 @@ ghost use Rattle.mx_formula.specs.Tasks.{env_of, IsRead};
 use crate::frame::Scope;
 use crate::locals::{int_of, local, local_int, local_number, whole_number};
 use mx_list::list::List;
-use mx_ops::arithmetic::{add, compare, multiply};
 use mx_syntax::expr::{CmpOp, Comparison, Expr, ProductPart, SumPart};
 use mx_value::node::Node;
 use mx_value::value::Value;
+use mx_whole_ops::arithmetic::{add, compare, multiply};
 use std::alloc::{AllocError, Global};
 
 /// The value of an expression of these forms, unless it is a fault. It needs no task.

@@ -1,6 +1,6 @@
 //! Names, and calls of what they are.
 ghost use Rattle.std.specs.Prelude.{◌≡◌, ◌↔◌, ◌++◌, ◌∷◌, [], List as Many, map, drop, length, Some, None, false, IfOk, IfSome, OnOk, MatchOption, IsTrue, IsErrOf};
-ghost use Rattle.mx_print.specs.Binding.{bound, is_wrong_count};
+ghost use Rattle.mx_syntax.specs.Binding.{bound, is_wrong_count};
 ghost use Rattle.mx_value.specs.declared.value.Value.{Value, out-Value};
 ghost use Rattle.mx_meaning.specs.Model.{Text, FormulaHere};
 ghost use Rattle.mx_meaning.specs.Runs.{Run, Env, computed};
@@ -16,10 +16,10 @@ use crate::locals::{are_normal, local};
 use mx_list::items::Items;
 use mx_list::list::List;
 use mx_list::shared::Shared;
+use mx_main_cells::text::ModelText;
 use mx_meaning::event::Event;
 use mx_meaning::key::Key;
-use mx_model::text::ModelText;
-use mx_print::bind::{BindRefusal, bind};
+use mx_syntax::bind::{BindRefusal, bind};
 use mx_syntax::expr::{Args, Expr, Trailer};
 use mx_syntax::stmt::Formula;
 use mx_value::fault::FaultKind;

@@ -10,11 +10,11 @@ use crate::copies::{copy_expr, copy_shared};
 use crate::frame::{ChainTask, Next, PartsTask, ProductTask, Scope, SumTask, Task};
 use mx_list::list::List;
 use mx_list::shared::Shared;
-use mx_ops::arithmetic::{add, compare, multiply, truth};
 use mx_syntax::expr::{CmpOp, Comparison, Expr, ProductOp, ProductPart, SumOp, SumPart};
 use mx_value::fault::FaultKind;
 use mx_value::node::Node;
 use mx_value::value::Value;
+use mx_whole_ops::arithmetic::{add, compare, multiply, truth};
 use std::alloc::{AllocError, Global};
 
 pub fn enter_sum(

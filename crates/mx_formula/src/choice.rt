@@ -10,10 +10,10 @@ use crate::copies::{copy_expr, copy_shared};
 use crate::frame::{Next, Scope, Task, TestTask};
 use mx_list::list::List;
 use mx_list::shared::Shared;
-use mx_ops::arithmetic::truth;
 use mx_syntax::expr::{Arm, Expr};
 use mx_value::node::Node;
 use mx_value::value::Value;
+use mx_whole_ops::arithmetic::truth;
 use std::alloc::{AllocError, Global};
 
 /// The next test of a conditional, or its last part.

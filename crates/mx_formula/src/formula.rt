@@ -18,15 +18,15 @@ use crate::frame::{BlockTask, Next, Scope, Task, TrailTask};
 use crate::locals::only_line;
 use crate::statement::{assign_on, block_on, change_on, if_on};
 use mx_list::items::Items;
+use mx_main_cells::text::ModelText;
 use mx_meaning::event::Event;
-use mx_model::text::ModelText;
-use mx_ops::arithmetic::{deny, sign};
-use mx_print::line::first_line;
 use mx_syntax::expr::Expr;
+use mx_syntax::height::first_line;
 use mx_syntax::stmt::Formula;
 use mx_value::fault::FaultKind;
 use mx_value::node::Node;
 use mx_value::value::Value;
+use mx_whole_ops::arithmetic::{deny, sign};
 use std::alloc::{AllocError, Global};
 
 /// The first step of a formula. A formula of one line is its expression.

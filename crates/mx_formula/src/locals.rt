@@ -1,8 +1,8 @@
 //! The locals of a run: its parameters, and the names that its statements bind.
 ghost use Rattle.std.specs.Prelude.{◌≡◌, ◌++◌, ◌∷◌, ◌<◌, [], List as Many, Some, is_some, IfSome, drop, true, map, length, IfOk, OnOk, IsTrue, MatchOption};
 ghost use Rattle.mx_value.specs.Normal.{normal_of};
-ghost use Rattle.mx_print.specs.Binding.{is_wrong_count};
-ghost use Rattle.mx_meaning.specs.Model.{same_name};
+ghost use Rattle.mx_syntax.specs.Binding.{is_wrong_count};
+ghost use Rattle.mx_value.specs.Name.{same_name};
 ghost use Rattle.mx_meaning.specs.Expressions.{local_of};
 ghost use Rattle.mx_formula.specs.declared.frame.Local.{Local};
 ghost use Rattle.mx_meaning.specs.Statements.{given_locals, unset_locals, set_in, set_local};
@@ -13,9 +13,9 @@ ghost use Rattle.mx_formula.specs.Tasks.{env_of, own_local, locals_in, arguments
 use crate::frame::{Local, Locals, Scope};
 use mx_list::items::Items;
 use mx_list::list::List;
-use mx_print::bind::{BindRefusal, bind};
-use mx_print::locals::names_bound;
+use mx_syntax::bind::{BindRefusal, bind};
 use mx_syntax::expr::Expr;
+use mx_syntax::locals::names_bound;
 use mx_syntax::stmt::{Formula, Param, Stmt};
 use mx_value::label::Label;
 use mx_value::node::Node;

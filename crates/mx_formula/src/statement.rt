@@ -5,7 +5,7 @@ ghost use Rattle.mx_meaning.specs.Runs.{Env, computed};
 ghost use Rattle.mx_meaning.specs.Operators.{truth, changed};
 ghost use Rattle.mx_meaning.specs.Expressions.{reading, named, tested};
 ghost use Rattle.mx_meaning.specs.Statements.{doing, doing_from, arms_doing, set_local, ended};
-ghost use Rattle.mx_print.specs.Lines.{height};
+ghost use Rattle.mx_syntax.specs.Heights.{height};
 ghost use Rattle.mx_formula.specs.Tasks.{after, returning, run_at, env_of, GoesOnAlone};
 
 use crate::calls::seek;
@@ -14,16 +14,16 @@ use crate::frame::{BlockTask, ChangeTask, IfTask, Next, Scope, Task};
 use crate::locals::set;
 use mx_list::items::Items;
 use mx_list::list::List;
+use mx_main_cells::text::ModelText;
 use mx_meaning::event::Event;
-use mx_model::text::ModelText;
-use mx_ops::arithmetic::{change, truth};
-use mx_print::line::{arm_height, height};
 use mx_syntax::expr::Expr;
+use mx_syntax::height::{arm_height, height};
 use mx_syntax::stmt::{ArithOp, IfArm, Stmt};
 use mx_value::fault::FaultKind;
 use mx_value::label::Label;
 use mx_value::node::Node;
 use mx_value::value::Value;
+use mx_whole_ops::arithmetic::{change, truth};
 use std::alloc::{AllocError, Global};
 
 /// The next statement of a block, or its end.

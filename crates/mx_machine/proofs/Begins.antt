@@ -12,7 +12,7 @@ use Rattle.mx_meaning.specs.declared.event.Event.TheVariants.{Looked}
 use Rattle.mx_meaning.specs.Model.{Text, formula_at, formula_here}
 use Rattle.mx_meaning.specs.Runs.{Run, Ends, NoSuch, WrongCount, Env}
 use Rattle.mx_meaning.specs.Expressions.{path_of}
-use Rattle.mx_print.specs.Binding.{is_wrong_count}
+use Rattle.mx_syntax.specs.Binding.{is_wrong_count}
 use Rattle.mx_meaning.specs.Statements.{first_env, formula_done}
 use Rattle.mx_meaning.specs.Meaning.{Leads, body, cells_run, item_run, formula_run}
 use Rattle.mx_meaning.specs.Chains.{asks_of}

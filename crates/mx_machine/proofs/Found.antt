@@ -14,7 +14,7 @@ use Rattle.mx_meaning.specs.Runs.{Outcome, Gives, Faults, Ends}
 use Rattle.mx_meaning.specs.Runs.{Env}
 use Rattle.mx_meaning.specs.Expressions.{reading}
 use Rattle.mx_meaning.specs.Statements.{doing_from, ended, formula_done}
-use Rattle.mx_print.specs.Lines.{first_line}
+use Rattle.mx_syntax.specs.Heights.{first_line}
 use Rattle.mx_syntax.specs.declared.expr.Expr.{Expr}
 use Rattle.mx_syntax.specs.declared.stmt.Stmt.{Stmt}
 use Rattle.mx_syntax.specs.declared.stmt.Stmt.TheVariants.{Return}

@@ -5,8 +5,8 @@ ghost use Rattle.mx_meaning.specs.Meaning.{bound_node, cell_at};
 
 use mx_formula::locals::copy_values;
 use mx_list::items::Items;
-use mx_model::text::ModelText;
-use mx_print::bind::{BindRefusal, bind};
+use mx_main_cells::text::ModelText;
+use mx_syntax::bind::{BindRefusal, bind};
 use mx_value::label::Label;
 use mx_value::node::Node;
 use mx_value::value::{Addr, Value};

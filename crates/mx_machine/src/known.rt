@@ -19,13 +19,13 @@ use mx_formula::locals::only_line;
 use mx_list::items::Items;
 use mx_list::list::List;
 use mx_list::shared::Shared;
+use mx_main_cells::text::ModelText;
 use mx_meaning::event::Event;
-use mx_model::text::ModelText;
-use mx_ops::arithmetic::{add, compare, multiply, truth};
 use mx_syntax::expr::{Arm, Comparison, Expr, ProductPart, SumPart, Trailer};
 use mx_syntax::stmt::Formula;
 use mx_value::node::Node;
 use mx_value::value::Value;
+use mx_whole_ops::arithmetic::{add, compare, multiply, truth};
 use std::alloc::{AllocError, Global};
 
 /// How many expressions a search enters, each within the one before. It bounds the recursion, and with it the machine's own

@@ -10,7 +10,7 @@ use crate::held::Held;
 use crate::known::{NESTED, Reach, run_found};
 use crate::steps::Steps;
 use mx_list::items::Items;
-use mx_model::text::ModelText;
+use mx_main_cells::text::ModelText;
 use mx_syntax::stmt::Formula;
 use mx_value::node::Node;
 use mx_value::value::Value;

@@ -1,6 +1,6 @@
 use Rattle.std.proofs.Common.{◌∙◌, sym, arith, Some, drop}
 use Rattle.mx_cli.proofs.WithinLemmas.{no_cut}
-use Rattle.mx_cli.proofs.Words.{sure_status}
+use Rattle.mx_cli.proofs.WordLemmas.{sure_status}
 use Rattle.mx_cli.proofs.sure.answer_script.Goals as goal
 
 pub returns-clause-complete : goal.returns-clause-complete

@@ -1,7 +1,7 @@
 use Rattle.std.proofs.Common.{arith}
 use Rattle.std.proofs.lemmas.Slice.Eq.{slice_eq-Decides}
 use Rattle.std.proofs.lemmas.Bool.Decides.{Decides-eqb}
-use Rattle.mx_cli.proofs.Words.{one_word}
+use Rattle.mx_cli.proofs.WordLemmas.{one_word}
 use Rattle.mx_cli.proofs.top.is_run.Goals as goal
 
 pub returns-then-len-eq1 : goal.returns-then-len-eq1

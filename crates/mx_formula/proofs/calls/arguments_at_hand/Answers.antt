@@ -4,7 +4,7 @@ use Rattle.mx_meaning.specs.Runs.{Env}
 use Rattle.mx_meaning.specs.Expressions.{arguments_from, reading}
 use Rattle.mx_formula.specs.Tasks.{env_of, IsRead}
 use Rattle.mx_formula.proofs.Alone.{at_some}
-use Rattle.mx_ops.proofs.Places.{drop_at}
+use Rattle.mx_whole_ops.proofs.Places.{drop_at}
 use Rattle.mx_formula.proofs.Readings.{argument_by}
 use Rattle.mx_formula.proofs.calls.arguments_at_hand.Goals as goal
 

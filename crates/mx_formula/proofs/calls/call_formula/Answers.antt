@@ -5,8 +5,8 @@ use Rattle.std.specs.List.{list_all}
 use Rattle.mx_value.specs.declared.value.Value.{Value}
 use Rattle.mx_value.specs.declared.fault.FaultKind.TheVariants.{WrongCountInside}
 use Rattle.mx_value.specs.Plain.{is_plain}
-use Rattle.mx_print.specs.Binding.{is_wrong_count}
-use Rattle.mx_print.specs.declared.bind.BindRefusal.TheVariants.{WrongCount}
+use Rattle.mx_syntax.specs.Binding.{is_wrong_count}
+use Rattle.mx_syntax.specs.declared.bind.BindRefusal.TheVariants.{WrongCount}
 use Rattle.mx_meaning.specs.Model.{FormulaHere}
 use Rattle.mx_meaning.specs.Runs.{Run, Env}
 use Rattle.mx_meaning.specs.Expressions.{call_result}

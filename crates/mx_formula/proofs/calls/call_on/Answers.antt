@@ -6,7 +6,7 @@ use Rattle.mx_formula.specs.declared.frame.Next.{Next}
 use Rattle.mx_formula.specs.Tasks.{cont, env_of, run_at}
 use Rattle.mx_formula.proofs.Alone.{alone_by, envs_alone}
 use Rattle.mx_formula.proofs.Stack.{cont-push}
-use Rattle.mx_ops.proofs.Places.{drop_at, drop_none}
+use Rattle.mx_whole_ops.proofs.Places.{drop_at, drop_none}
 use Rattle.mx_formula.proofs.Readings.{argument_first, argument_none}
 use Rattle.mx_formula.proofs.calls.call_on.Goals as goal
 

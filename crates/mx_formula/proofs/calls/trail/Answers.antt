@@ -6,7 +6,7 @@ use Rattle.mx_meaning.specs.Expressions.{called, cells_in, trailed_from, trailer
 use Rattle.mx_formula.specs.declared.frame.Next.{Next}
 use Rattle.mx_formula.specs.Tasks.{cont, env_of, run_at}
 use Rattle.mx_formula.proofs.Alone.{alone_by, alone_result}
-use Rattle.mx_ops.proofs.Places.{drop_at, drop_none}
+use Rattle.mx_whole_ops.proofs.Places.{drop_at, drop_none}
 use Rattle.mx_formula.proofs.Readings.{trail_by, trail_fault, trail_none}
 use Rattle.mx_formula.proofs.calls.trail.Goals as goal
 

@@ -6,7 +6,7 @@ use Rattle.mx_meaning.specs.Expressions.{compared_from, comparison_read}
 use Rattle.mx_formula.specs.declared.frame.Next.{Next}
 use Rattle.mx_formula.specs.Tasks.{cont, env_of, run_at, IsRead}
 use Rattle.mx_formula.proofs.Alone.{at_some, results_at}
-use Rattle.mx_ops.proofs.Places.{drop_at}
+use Rattle.mx_whole_ops.proofs.Places.{drop_at}
 use Rattle.mx_formula.proofs.Readings.{chain_by, chain_fault, chain_none}
 use Rattle.mx_formula.proofs.chains.compare_next.Goals as goal
 

@@ -1,6 +1,6 @@
 use Rattle.mx_formula.specs.Tasks.{cont}
 use Rattle.mx_formula.proofs.Stack.{cont-push}
-use Rattle.mx_ops.proofs.Places.{drop_at, drop_none}
+use Rattle.mx_whole_ops.proofs.Places.{drop_at, drop_none}
 use Rattle.mx_formula.proofs.Readings.{chain_first, chain_fault, chain_none}
 use Rattle.mx_formula.proofs.chains.compare_part.Goals as goal
 

@@ -3,7 +3,7 @@ use Rattle.mx_syntax.specs.declared.expr.Expr.{Expr}
 use Rattle.mx_meaning.specs.Expressions.{reading, joined_by, or_from}
 use Rattle.mx_formula.specs.Tasks.{cont}
 use Rattle.mx_formula.proofs.Stack.{cont-push}
-use Rattle.mx_ops.proofs.Places.{drop_at}
+use Rattle.mx_whole_ops.proofs.Places.{drop_at}
 use Rattle.mx_formula.proofs.chains.enter_or.Goals as goal
 
 pub returns : goal.returns

@@ -8,7 +8,7 @@ use Rattle.mx_meaning.specs.Expressions.{product_from, product_read}
 use Rattle.mx_formula.specs.declared.frame.Next.{Next}
 use Rattle.mx_formula.specs.Tasks.{cont, env_of, run_at, IsRead}
 use Rattle.mx_formula.proofs.Alone.{at_some, results_at}
-use Rattle.mx_ops.proofs.Places.{drop_at}
+use Rattle.mx_whole_ops.proofs.Places.{drop_at}
 use Rattle.mx_formula.proofs.Readings.{product_first, product_none}
 use Rattle.mx_formula.proofs.chains.product_next.Goals as goal
 

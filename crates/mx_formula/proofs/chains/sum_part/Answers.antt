@@ -1,6 +1,6 @@
 use Rattle.mx_formula.specs.Tasks.{cont}
 use Rattle.mx_formula.proofs.Stack.{cont-push}
-use Rattle.mx_ops.proofs.Places.{drop_at, drop_none}
+use Rattle.mx_whole_ops.proofs.Places.{drop_at, drop_none}
 use Rattle.mx_formula.proofs.Readings.{sum_first, sum_none}
 use Rattle.mx_formula.proofs.chains.sum_part.Goals as goal
 

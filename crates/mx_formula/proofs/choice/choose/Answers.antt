@@ -8,7 +8,7 @@ use Rattle.mx_meaning.specs.Expressions.{choice_from, arm_read, reading}
 use Rattle.mx_formula.specs.declared.frame.Next.{Next}
 use Rattle.mx_formula.specs.Tasks.{cont, env_of, run_at, IsRead}
 use Rattle.mx_formula.proofs.Alone.{at_some, results_at}
-use Rattle.mx_ops.proofs.Places.{drop_at}
+use Rattle.mx_whole_ops.proofs.Places.{drop_at}
 use Rattle.mx_formula.proofs.Readings.{arm_by, arm_none}
 use Rattle.mx_formula.proofs.choice.choose.Goals as goal
 

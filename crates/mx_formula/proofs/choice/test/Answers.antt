@@ -3,7 +3,7 @@ use Rattle.mx_syntax.specs.declared.expr.Expr.{Expr}
 use Rattle.mx_meaning.specs.Expressions.{reading}
 use Rattle.mx_formula.specs.Tasks.{cont}
 use Rattle.mx_formula.proofs.Stack.{cont-push}
-use Rattle.mx_ops.proofs.Places.{drop_at, drop_none}
+use Rattle.mx_whole_ops.proofs.Places.{drop_at, drop_none}
 use Rattle.mx_formula.proofs.Readings.{arm_first, arm_none}
 use Rattle.mx_formula.proofs.choice.test.Goals as goal
 

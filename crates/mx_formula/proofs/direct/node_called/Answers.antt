@@ -2,7 +2,7 @@ use Rattle.std.proofs.lemmas.Grind.{common_steps}
 use Rattle.std.proofs.Common.{◌≡◌, true, false, length, rules, arith}
 use Rattle.std.specs.List.{list_all}
 use Rattle.mx_value.specs.Plain.{is_plain}
-use Rattle.mx_print.specs.Binding.{is_wrong_count}
+use Rattle.mx_syntax.specs.Binding.{is_wrong_count}
 use Rattle.mx_formula.specs.Tasks.{cells_at}
 use Rattle.mx_formula.proofs.CellCalls.{call_settles, right_count}
 use Rattle.mx_formula.proofs.direct.node_called.Goals as goal

@@ -2,7 +2,7 @@ use Rattle.std.proofs.Common.{◌∙◌, List, ap, refl, false}
 use Rattle.mx_value.specs.declared.value.Value.TheVariants.{Nothing}
 use Rattle.mx_syntax.specs.declared.stmt.Stmt.{Stmt}
 use Rattle.mx_meaning.specs.Statements.{doing_from, ended}
-use Rattle.mx_print.specs.Lines.{first_line}
+use Rattle.mx_syntax.specs.Heights.{first_line}
 use Rattle.mx_formula.proofs.Stack.{cont-push}
 use Rattle.mx_formula.proofs.Doings.{one_line_done}
 use Rattle.mx_formula.proofs.formula.first_step.Goals as goal

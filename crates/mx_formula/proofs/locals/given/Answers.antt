@@ -6,7 +6,7 @@ use Rattle.mx_syntax.specs.declared.stmt.Param.{Param}
 use Rattle.mx_meaning.specs.Statements.{given_locals}
 use Rattle.mx_formula.specs.Tasks.{own_local}
 use Rattle.mx_formula.proofs.Given.{none_given, given_more}
-use Rattle.mx_ops.proofs.Places.{drop_at, drop_none}
+use Rattle.mx_whole_ops.proofs.Places.{drop_at, drop_none}
 use Rattle.mx_formula.proofs.locals.given.Goals as goal
 
 pub returns-in_default : goal.returns-in_default

@@ -6,7 +6,7 @@ use Rattle.mx_meaning.specs.Statements.{doing, at_line, ended}
 use Rattle.mx_formula.specs.declared.frame.Next.{Next}
 use Rattle.mx_formula.specs.Tasks.{after, env_of, run_at}
 use Rattle.mx_formula.proofs.Alone.{alone_by, alone_result}
-use Rattle.mx_ops.proofs.Places.{drop_at, drop_none}
+use Rattle.mx_whole_ops.proofs.Places.{drop_at, drop_none}
 use Rattle.mx_formula.proofs.Doings.{next_statement, no_statement}
 use Rattle.mx_formula.proofs.statement.block_on.Goals as goal
 

@@ -1,13 +1,13 @@
 use Rattle.std.proofs.Common.{List, [], ap, false}
 use Rattle.mx_syntax.specs.declared.stmt.IfArm.{IfArm}
-use Rattle.mx_print.specs.Lines.{arm_height}
+use Rattle.mx_syntax.specs.Heights.{arm_height}
 use Rattle.mx_meaning.specs.Runs.{Env}
 use Rattle.mx_meaning.specs.Statements.{arms_doing, ended}
 use Rattle.mx_formula.specs.declared.frame.Next.{Next}
 use Rattle.mx_formula.specs.Tasks.{after, env_of, run_at}
 use Rattle.mx_formula.proofs.Alone.{results_at}
 use Rattle.mx_formula.proofs.Stack.{cont-push}
-use Rattle.mx_ops.proofs.Places.{drop_at, drop_none}
+use Rattle.mx_whole_ops.proofs.Places.{drop_at, drop_none}
 use Rattle.mx_formula.proofs.Arms.{next_arm}
 use Rattle.mx_formula.proofs.statement.next_arm.Goals as goal
 

@@ -1,5 +1,5 @@
 use Rattle.std.proofs.Common.{refl}
-use Rattle.mx_print.specs.Lines.{height}
+use Rattle.mx_syntax.specs.Heights.{height}
 use Rattle.mx_formula.proofs.Stack.{after-push}
 use Rattle.mx_formula.proofs.statement.push_rest.Goals as goal
 

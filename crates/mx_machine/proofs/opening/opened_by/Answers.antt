@@ -1,5 +1,5 @@
 use Rattle.std.proofs.Common.{◌≡◌, ◌∙◌, Option, MatchOption, length, true, subst}
-use Rattle.mx_print.specs.Binding.{is_wrong_count}
+use Rattle.mx_syntax.specs.Binding.{is_wrong_count}
 use Rattle.mx_value.specs.declared.node.Node.{Node}
 use Rattle.mx_value.specs.declared.node.Node.TheVariants.{Cell}
 use Rattle.mx_formula.specs.declared.frame.Locals.{Locals}

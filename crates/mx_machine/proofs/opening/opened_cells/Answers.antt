@@ -1,5 +1,5 @@
 use Rattle.std.proofs.Common.{◌≡◌, Option, Some, None, MatchOption, length, true, sym, subst}
-use Rattle.mx_print.specs.Binding.{is_wrong_count}
+use Rattle.mx_syntax.specs.Binding.{is_wrong_count}
 use Rattle.mx_formula.specs.declared.frame.Locals.{Locals}
 use Rattle.mx_formula.specs.Tasks.{BeginsWith}
 use Rattle.mx_value.specs.declared.node.Node.{Node}

@@ -1,5 +1,5 @@
 use Rattle.std.proofs.Common.{sym, subst, List, ℕ}
-use Rattle.mx_cli.specs.Script.{Command}
+use Rattle.mx_script.specs.Script.{Command}
 use Rattle.mx_cli.specs.Answer.{Step}
 use Rattle.mx_cli.proofs.RunLemmas.{begins_front, run_one}
 use Rattle.mx_cli.proofs.answer.Interpreter.answer.Goals as goal
