@@ -1,0 +1,117 @@
+#!/usr/bin/env python3
+"""How fast the engine is, beside the same formulas in Python, in one run on one machine.
+
+    tools/bench.py [--mx PATH] [--only NAME] [--repeat 9]
+
+Each workload is a script. It is run by `PATH run` (the built program, as tools/build leaves it, where none is named) and,
+where Python can run it, by tools/baseline.py with and without --traced. A line gives the best time of each, the formula
+runs a second, the greatest memory of the engine's own process, and the ratios: above 1.0 the engine is the faster. A
+ratio comes only where the values are the same. Machines are noisy: read the ratios, not the times.
+"""
+import argparse
+import os
+import re
+import subprocess
+import sys
+import tempfile
+import time
+
+HERE = os.path.dirname(os.path.abspath(__file__))
+PROGRAM = os.path.join(os.path.dirname(HERE), "crates", "mx_cli", "out", "mx_cli")
+
+
+def grid(cells, depth, rounds):
+    """Cells over cells of one parameter; each round redefines the lowest, so that all is computed again."""
+    lines = ["cells c0(n) = 1 if n < 1 else 0 if c0(n - 1) > 1000 else c0(n - 1) + 1"]
+    for i in range(1, cells):
+        lines.append(f"cells c{i}(n) = 1 if n < 1 else 0 if c{i}(n - 1) > 1000 else c{i}(n - 1) + c{i - 1}(n - 1)")
+    for r in range(rounds):
+        lines.append(f"cells c0(n) = {r + 1} if n < 1 else 0 if c0(n - 1) > 1000 else c0(n - 1) + 1")
+        for i in range(cells):
+            lines.append(f"eval c{i}({depth})")
+    return "\n".join(lines) + "\n"
+
+
+def kept(times):
+    """One value, asked again and again: the cost of a command and of finding a kept value."""
+    return "cells fib(n) = n if n < 2 else fib(n-1) + fib(n-2)\n" + "eval fib(80)\n" * times
+
+
+def parse(count):
+    """Formulas to read: each cells is defined and none is run."""
+    return "".join(
+        f"cells g{i}(n) = {i} if n < {i + 1} else g{i}(n - 1) * 3 + (n - {i}) * (g{i}(n - 2) + 7)\n"
+        for i in range(count)
+    )
+
+
+# name, script, whether the baseline can run it
+WORKLOADS = [
+    ("grid", lambda: grid(48, 150, 20), True),
+    ("kept", lambda: kept(100_000), True),
+    ("parse", lambda: parse(9_000), False),
+]
+
+
+def timed(command, script, folder, repeat):
+    """The best time of some runs, what the last wrote, and the greatest memory in KB of these processes alone."""
+    best, text, memory = None, None, 0
+    out = os.path.join(folder, "out")
+    for _ in range(repeat):
+        with open(script, "rb") as stdin, open(out, "wb") as stdout:
+            start = time.perf_counter()
+            child = subprocess.Popen(command, stdin=stdin, stdout=stdout, stderr=subprocess.DEVNULL, cwd=folder)
+            _, status, usage = os.wait4(child.pid, 0)
+            took = time.perf_counter() - start
+        child.returncode = os.waitstatus_to_exitcode(status)
+        memory = max(memory, usage.ru_maxrss)
+        best = took if best is None else min(best, took)
+        with open(out, encoding="latin-1") as f:
+            text = f.read()
+        if child.returncode != 0:
+            return None, text, memory
+    return best, text, memory
+
+
+def measure(name, script_text, comparable, mx, repeat):
+    """The line of one workload."""
+    with tempfile.TemporaryDirectory() as folder:
+        script = os.path.join(folder, "script")
+        with open(script, "w") as f:
+            f.write(script_text)
+        took, text, memory = timed([mx, "run"], script, folder, repeat)
+        if took is None:
+            return f"{name}: the engine did not end with status 0"
+        runs = sum(int(n) for n in re.findall(r" runs (\d+)$", text, re.M))
+        line = f"{name}: {took:.2f} s, {runs} runs, {runs / took / 1e6:.2f} M runs/s, {memory // 1024} MB"
+        if not comparable:
+            return line
+        values = re.findall(r"^= (\S+)", text, re.M)
+        for label, flags in (("dicts", []), ("traced", ["--traced"])):
+            command = [sys.executable, os.path.join(HERE, "baseline.py"), *flags]
+            base, other, _ = timed(command, script, folder, repeat)
+            if base is None:
+                line += f", Python {label} failed"
+            elif re.findall(r"^= (\S+)", other, re.M) != values:
+                line += f", Python {label} DIFFERS"
+            else:
+                line += f", Python {label} {base:.2f} s ({base / took:.2f}x)"
+        return line
+
+
+def main():
+    parser = argparse.ArgumentParser(description=__doc__.splitlines()[0])
+    parser.add_argument("--mx", default=PROGRAM)
+    parser.add_argument("--only")
+    parser.add_argument("--repeat", type=int, default=9)
+    args = parser.parse_args()
+    mx = os.path.abspath(args.mx)
+    if not os.access(mx, os.X_OK):
+        sys.exit("the program is not built: tools/build")
+    for name, make, comparable in WORKLOADS:
+        if args.only in (None, name):
+            print(measure(name, make(), comparable, mx, args.repeat), flush=True)
+
+
+if __name__ == "__main__":
+    main()
