@@ -27,7 +27,7 @@ fn div_nearest(dividend: u128, divisor: u128) -> u128
     ensures small { result ≤ dividend }
 {
     let below = dividend / divisor;
-    let rest = dividend % divisor;
+    let rest = dividend - below * divisor; // one division in place of two
     match rest.cmp(&(divisor - rest)) {
         Ordering::Less => below,
         Ordering::Equal => below + below % 2,
