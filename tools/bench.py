@@ -6,7 +6,8 @@
 Each workload is a script. It is run by `PATH run` (the built program, as tools/build leaves it, where none is named) and,
 where Python can run it, by tools/baseline.py with and without --traced. A line gives the best time of each, the formula
 runs a second, the greatest memory of the engine's own process, and the ratios: above 1.0 the engine is the faster. A
-ratio comes only where the values are the same. Machines are noisy: read the ratios, not the times.
+ratio comes only where the values are the same. Machines are noisy: read the ratios, not the times. The last lines,
+`--only operators`, give the nanoseconds of an operator on its own, as mx_ops_bench measures them.
 """
 import argparse
 import os
@@ -17,7 +18,9 @@ import tempfile
 import time
 
 HERE = os.path.dirname(os.path.abspath(__file__))
-PROGRAM = os.path.join(os.path.dirname(HERE), "crates", "mx_cli", "out", "mx_cli")
+CRATES = os.path.join(os.path.dirname(HERE), "crates")
+PROGRAM = os.path.join(CRATES, "mx_cli", "out", "mx_cli")
+OPERATORS = os.path.join(CRATES, "mx_ops_bench", "out", "mx_ops_bench")
 
 
 def grid(cells, depth, rounds):
@@ -99,6 +102,16 @@ def measure(name, script_text, comparable, mx, repeat):
         return line
 
 
+def operators(repeat):
+    """The best time of each operator, without the loop around it, over as many runs."""
+    best = {}
+    for _ in range(repeat):
+        text = subprocess.run([OPERATORS, "3000000"], capture_output=True, text=True, check=True).stdout
+        for name, nanos in re.findall(r"^(.+): (\d+) ns of ", text, re.M):
+            best[name] = min(int(nanos), best.get(name, sys.maxsize))
+    return "".join(f"{name}: {nanos} ns\n" for name, nanos in best.items())
+
+
 def main():
     parser = argparse.ArgumentParser(description=__doc__.splitlines()[0])
     parser.add_argument("--mx", default=PROGRAM)
@@ -111,6 +124,11 @@ def main():
     for name, make, comparable in WORKLOADS:
         if args.only in (None, name):
             print(measure(name, make(), comparable, mx, args.repeat), flush=True)
+    if args.only in (None, "operators"):
+        if os.access(OPERATORS, os.X_OK):
+            print(operators(args.repeat), end="")
+        else:
+            print("operators: not built: rt run in crates/mx_ops_bench")
 
 
 if __name__ == "__main__":

@@ -8,6 +8,7 @@ use mx_value::fixed::{Fixed, NumFault};
 use mx_value::value::Value;
 
 /// A whole number that was computed, or Overflow where it has not 64 bits.
+#[inline(always)]
 pub fn whole_answer(number: Option<i64>) -> Result<Value, FaultKind>
     ensures { result ≡ sized number }
 {
@@ -17,6 +18,7 @@ pub fn whole_answer(number: Option<i64>) -> Result<Value, FaultKind>
     }
 }
 
+#[inline(always)]
 fn fault_of(fault: NumFault) -> FaultKind
     ensures { result ≡ fault_of fault }
 {
@@ -28,6 +30,7 @@ fn fault_of(fault: NumFault) -> FaultKind
 }
 
 /// A decimal number that was computed.
+#[inline(always)]
 pub fn decimal_answer(number: Result<Fixed, NumFault>) -> Result<Value, FaultKind>
     ensures { result ≡ decimal number }
 {
@@ -48,6 +51,7 @@ pub fn flag_answer(test: Result<bool, FaultKind>) -> Result<Value, FaultKind>
 }
 
 /// The answer of a computation that takes no memory.
+#[inline(always)]
 pub fn answered(answer: Result<Value, FaultKind>) -> Result<Value, OpRefusal>
     ensures { Answers result answer }
 {
@@ -58,6 +62,7 @@ pub fn answered(answer: Result<Value, FaultKind>) -> Result<Value, OpRefusal>
 }
 
 /// The answer where no row of an operator's table takes the operands.
+#[inline(always)]
 pub fn mismatch() -> Result<Value, OpRefusal>
     ensures { result ≡ Err (OpRefusal.Fault FaultKind.TypeMismatch) }
 {

@@ -59,6 +59,7 @@ pub fn apply_to_two(
 }
 
 /// What is computed with two numbers.
+#[inline(always)]
 fn arithmetic(op: Arithmetic, a: &Value, b: &Value) -> Result<Value, OpRefusal>
     ensures { Answers result (answer (arithmetic_rows op) (a.now ∷ b.now ∷ [])) }
 {
@@ -70,6 +71,7 @@ fn arithmetic(op: Arithmetic, a: &Value, b: &Value) -> Result<Value, OpRefusal>
 }
 
 /// The sum of two numbers, or two texts or two tuples in one.
+#[inline(always)]
 fn add(alloc: Global, a: &Value, b: &Value) -> Result<Value, OpRefusal>
     ensures { Answers result (gives Op.Add (a.now ∷ b.now ∷ [])) }
 {
@@ -104,6 +106,7 @@ fn join_as_tuples(alloc: Global, a: &Value, b: &Value) -> Result<Value, OpRefusa
     }
 }
 
+#[inline(always)]
 fn order(asked: Comparison, a: &Value, b: &Value) -> Result<Value, OpRefusal>
     ensures { Answers result (answer (order_rows asked) (a.now ∷ b.now ∷ [])) }
 {

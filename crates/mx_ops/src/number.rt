@@ -34,6 +34,7 @@ pub enum Pair {
 }
 
 /// The number that a value is.
+#[inline(always)]
 pub fn number_of(value: &Value) -> Option<Number>
     ensures { result ≡ number_of value.now }
 {
@@ -52,6 +53,7 @@ pub fn number_of(value: &Value) -> Option<Number>
 }
 
 /// The whole number that a value is.
+#[inline(always)]
 pub fn whole_of(value: &Value) -> Option<i64>
     ensures { result ≡ whole_of value.now }
 {
@@ -63,6 +65,7 @@ pub fn whole_of(value: &Value) -> Option<i64>
 }
 
 /// The numbers that two values are.
+#[inline(always)]
 pub fn pair_of(a: &Value, b: &Value) -> Option<Pair>
     ensures { result ≡ pair_of a.now b.now }
 {
@@ -83,6 +86,7 @@ pub fn pair_of(a: &Value, b: &Value) -> Option<Pair>
 
 impl Number {
     /// The number as a decimal one. Overflow comes exactly past 10^10 to either side of 0.
+    #[inline(always)]
     pub fn to_decimal(self) -> Result<Fixed, NumFault>
         ensures { result ≡ to_decimal self }
     {

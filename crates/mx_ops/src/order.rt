@@ -47,6 +47,7 @@ fn scaled(number: Number) -> i128
     }
 }
 
+#[inline(always)]
 fn compare_numbers(x: Number, y: Number) -> Ordering
     ensures { result ≡ number_order x y }
 {
@@ -77,6 +78,7 @@ fn compare_others(a: &Value, b: &Value) -> Option<Ordering>
     }
 }
 
+#[inline(always)]
 fn compare_plain(a: &Value, b: &Value) -> Option<Ordering>
     ensures { result ≡ plain_order a.now b.now }
 {
@@ -139,6 +141,7 @@ pub fn equal(a: &Value, b: &Value) -> bool
 }
 
 /// The order of two numbers, two texts or two tuples.
+#[inline(always)]
 pub fn compare_ordered(a: &Value, b: &Value) -> Option<Ordering>
     ensures { result ≡ ordering a.now b.now }
 {

@@ -20,6 +20,7 @@ use mx_value::value::Value;
 const ONE: i128 = 1_000_000_000;
 
 /// What is computed with two whole numbers, with 64 bits or a fault.
+#[inline(always)]
 pub fn compute_wholes(op: Arithmetic, a: i64, b: i64) -> Result<Value, FaultKind>
     ensures { result ≡ of_wholes op a b }
 {
@@ -34,18 +35,21 @@ pub fn compute_wholes(op: Arithmetic, a: i64, b: i64) -> Result<Value, FaultKind
     }
 }
 
+#[inline(always)]
 fn add(a: i64, b: i64) -> Result<Value, FaultKind>
     ensures { result ≡ whole (a +ℤ b) }
 {
     whole_answer(a.checked_add(b))
 }
 
+#[inline(always)]
 fn subtract(a: i64, b: i64) -> Result<Value, FaultKind>
     ensures { result ≡ whole (a -ℤ b) }
 {
     whole_answer(a.checked_sub(b))
 }
 
+#[inline(always)]
 fn multiply(a: i64, b: i64) -> Result<Value, FaultKind>
     ensures { result ≡ whole (a *ℤ b) }
 {
