@@ -1,5 +1,5 @@
 -- Which forms of the language are run so far: those over whole numbers and flags. The others are called later forms.
-use Rattle.std.specs.Prelude.{ℕ, Bool, true, false, not, ◌||◌, ◌==◌, List, [], ◌∷◌, Option, None, Some, map}
+use Rattle.std.specs.Prelude.{ℕ, Bool, true, false, not, ◌||◌, ◌==◌, List, [], ◌∷◌, Option, None, Some, is_some, map}
 use Rattle.std.specs.List.{list_any}
 use Rattle.std.specs.Cmp.Lexicographic.{pointwise}
 use Rattle.mx_value.specs.declared.value.Value.{Value}
@@ -24,7 +24,7 @@ use Rattle.mx_syntax.specs.declared.stmt.Stmt.TheOpen.{Stmt-F, IfArm-F}
 use Rattle.mx_syntax.specs.declared.stmt.Param.{Param}
 use Rattle.mx_syntax.specs.declared.stmt.Formula.{Formula}
 use Rattle.mx_syntax.specs.Locals.{Name, locals_of}
-use Rattle.mx_script.specs.Builtin.{is_builtin}
+use Rattle.mx_ops.specs.Names.{builtin_of}
 
 -- whether a part holds a later form, where these are the formula's locals
 abbrev pub Later : Type 0
@@ -63,12 +63,12 @@ only (x ∷ y ∷ rest) = None
 abbrev pub Called : Type 0
 Called = Option Later
 
--- a call of a name that is no builtin's, and no other trailer
+-- a call of a name that is no function's that a formula can always call, and no other trailer
 abbrev pub is_later_call : Option Name → Option Called → Later
 is_later_call None behind locals = true
 is_later_call (Some name) None locals = true
 is_later_call (Some name) (Some None) locals = true
-is_later_call (Some name) (Some (Some arguments)) locals = is_builtin name || arguments locals
+is_later_call (Some name) (Some (Some arguments)) locals = is_some (builtin_of name) || arguments locals
 
 abbrev pub is_later_comparison : CmpOp → Bool
 is_later_comparison cmp.In = true

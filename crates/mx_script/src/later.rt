@@ -4,8 +4,8 @@ ghost use Rattle.std.specs.List.{list_any};
 ghost use Rattle.mx_script.specs.Later as spec;
 ghost use Rattle.mx_script.specs.Later.{part_of, args_of, comparison_of, trailer_of, arm_of, product_of, sum_of, stmt_of, if_arm_of, some_part, some_later, only};
 
-use crate::builtin::is_builtin;
 use mx_list::list::List;
+use mx_ops::builtin::builtin_of;
 use mx_syntax::expr::{
     Args, Arm, CmpOp, Comparison, Expr, ProductOp, ProductPart, SumPart, Trailer,
 };
@@ -221,7 +221,7 @@ fn is_later_trailer(locals: &[Label], name: &Label, trailer: &Trailer) -> bool
 {
     match trailer {
         Trailer::Call(Args::List(arguments)) => {
-            if is_builtin(name.as_slice()) {
+            if builtin_of(name.as_slice()).is_some() {
                 return true;
             }
             holds_part(locals, arguments)

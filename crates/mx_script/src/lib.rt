@@ -1,7 +1,6 @@
 //! The commands of a script: what the text of a command says.
 #![tactic(auto)]
 
-mod builtin;
 mod command;
 mod head;
 mod later;
