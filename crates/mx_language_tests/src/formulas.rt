@@ -8,6 +8,7 @@ use mx_parse::{parse_expr, parse_formula, parse_params};
 use mx_print::formula::{print, print_params};
 use mx_syntax::stmt::{Formula, Stmt};
 use std::alloc::Global;
+use std::process::Abort;
 use std::test::Fail;
 
 /// Formulas of cells.
@@ -247,35 +248,39 @@ fn blocks(alloc: Global, depth: usize, line: &[u8]) -> Result<Vec<u8>, Fail> {
     Ok(source)
 }
 
+fn formulas_are_read(rt: &impl Abort, alloc: Global, rows: &[(&str, &str)]) -> Result<(), Fail> {
+    for (source, wanted) in rows {
+        let found = formula(alloc, source.as_bytes())?;
+        assert!(rt; found.as_slice() == wanted.as_bytes(), "at {source}");
+    }
+    Ok(())
+}
+
+fn parameters_are_read(rt: &impl Abort, alloc: Global, rows: &[(&str, &str)]) -> Result<(), Fail> {
+    for (source, wanted) in rows {
+        let found = parameters(alloc, source.as_bytes())?;
+        assert!(rt; found.as_slice() == wanted.as_bytes(), "at {source}");
+    }
+    Ok(())
+}
+
 #[cfg(test)]
 mod tests {
     use super::*;
 
     #[test]
     fn reads_formulas_or_tells_the_first_trouble(rt: HostRuntime) -> Result<(), Fail> {
-        for (source, wanted) in FORMULAS {
-            let found = formula(rt.alloc(), source.as_bytes())?;
-            assert!(rt; found.as_slice() == wanted.as_bytes(), "at {source}");
-        }
-        Ok(())
+        formulas_are_read(&rt, rt.alloc(), FORMULAS.as_slice())
     }
 
     #[test]
     fn prints_formulas_in_one_form(rt: HostRuntime) -> Result<(), Fail> {
-        for (source, text) in PRINTED {
-            let found = formula(rt.alloc(), source.as_bytes())?;
-            assert!(rt; found.as_slice() == text.as_bytes(), "at {source}");
-        }
-        Ok(())
+        formulas_are_read(&rt, rt.alloc(), PRINTED.as_slice())
     }
 
     #[test]
     fn reads_parameters_or_tells_the_first_trouble(rt: HostRuntime) -> Result<(), Fail> {
-        for (source, wanted) in PARAMETERS {
-            let found = parameters(rt.alloc(), source.as_bytes())?;
-            assert!(rt; found.as_slice() == wanted.as_bytes(), "at {source}");
-        }
-        Ok(())
+        parameters_are_read(&rt, rt.alloc(), PARAMETERS.as_slice())
     }
 
     #[test]

@@ -330,14 +330,18 @@ const FRONTS: [(&[u8], &str); 8] = [
     (b"k *= 1 = 2", "7"),
 ];
 
-#[test]
-fn a_front_ends_at_its_mark_whatever_stands_behind(rt: HostRuntime) -> Result<(), Fail> {
-    for (source, want) in &FRONTS {
-        let got = match front_of(rt.alloc(), source, b'=') {
-            Ok(place) => format!(in rt.alloc(); "{place}")?,
-            Err(refusal) => shown(rt.alloc(), Err(refusal))?,
+fn fronts_end(rt: &impl Abort, alloc: Global, table: &[(&[u8], &str)]) -> Result<(), Fail> {
+    for (source, want) in table {
+        let got = match front_of(alloc, source, b'=') {
+            Ok(place) => format!(in alloc; "{place}")?,
+            Err(refusal) => shown(alloc, Err(refusal))?,
         };
         assert_eq!(rt; got.as_str(), *want, "of {source:?}");
     }
     Ok(())
+}
+
+#[test]
+fn a_front_ends_at_its_mark_whatever_stands_behind(rt: HostRuntime) -> Result<(), Fail> {
+    fronts_end(&rt, rt.alloc(), &FRONTS)
 }

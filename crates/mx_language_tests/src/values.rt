@@ -5,6 +5,7 @@ use mx_parse::{ParseRefusal, parse_addr, parse_literal, parse_node};
 use mx_value::node::Node;
 use mx_value::value::{Segment, Value};
 use std::alloc::Global;
+use std::process::Abort;
 use std::test::Fail;
 
 /// Literals. A decimal number is shown as how many 10^-9 it is.
@@ -292,35 +293,47 @@ fn nested(alloc: Global, depth: usize) -> Result<Vec<u8>, Fail> {
     Ok(source)
 }
 
+fn literals_are_read(rt: &impl Abort, alloc: Global, rows: &[(&str, &str)]) -> Result<(), Fail> {
+    for (source, wanted) in rows {
+        let found = literal(alloc, source.as_bytes())?;
+        assert!(rt; found.as_slice() == wanted.as_bytes(), "at {source}");
+    }
+    Ok(())
+}
+
+fn addresses_are_read(rt: &impl Abort, alloc: Global, rows: &[(&str, &str)]) -> Result<(), Fail> {
+    for (source, wanted) in rows {
+        let found = addr(alloc, source.as_bytes())?;
+        assert!(rt; found.as_slice() == wanted.as_bytes(), "at {source}");
+    }
+    Ok(())
+}
+
+fn nodes_are_read(rt: &impl Abort, alloc: Global, rows: &[(&str, &str)]) -> Result<(), Fail> {
+    for (source, wanted) in rows {
+        let found = node(alloc, source.as_bytes())?;
+        assert!(rt; found.as_slice() == wanted.as_bytes(), "at {source}");
+    }
+    Ok(())
+}
+
 #[cfg(test)]
 mod tests {
     use super::*;
 
     #[test]
     fn reads_literals_or_tells_the_first_trouble(rt: HostRuntime) -> Result<(), Fail> {
-        for (source, wanted) in LITERALS {
-            let found = literal(rt.alloc(), source.as_bytes())?;
-            assert!(rt; found.as_slice() == wanted.as_bytes(), "at {source}");
-        }
-        Ok(())
+        literals_are_read(&rt, rt.alloc(), LITERALS.as_slice())
     }
 
     #[test]
     fn reads_addresses_or_tells_the_first_trouble(rt: HostRuntime) -> Result<(), Fail> {
-        for (source, wanted) in ADDRESSES {
-            let found = addr(rt.alloc(), source.as_bytes())?;
-            assert!(rt; found.as_slice() == wanted.as_bytes(), "at {source}");
-        }
-        Ok(())
+        addresses_are_read(&rt, rt.alloc(), ADDRESSES.as_slice())
     }
 
     #[test]
     fn reads_nodes_or_tells_the_first_trouble(rt: HostRuntime) -> Result<(), Fail> {
-        for (source, wanted) in NODES {
-            let found = node(rt.alloc(), source.as_bytes())?;
-            assert!(rt; found.as_slice() == wanted.as_bytes(), "at {source}");
-        }
-        Ok(())
+        nodes_are_read(&rt, rt.alloc(), NODES.as_slice())
     }
 
     #[test]

@@ -11,6 +11,7 @@ use mx_value::label::Label;
 use mx_value::node::Node;
 use mx_value::value::{Segment, Value};
 use std::alloc::{AllocError, Global};
+use std::process::Abort;
 use std::test::Fail;
 
 /// Every word that is read.
@@ -342,22 +343,22 @@ fn in_parentheses(alloc: Global, depth: usize) -> Result<Vec<u8>, AllocError> {
     Ok(text)
 }
 
-#[test]
-fn a_text_says_a_command(rt: HostRuntime) -> Result<(), Fail> {
-    for (text, wanted) in COMMANDS {
-        let found = said(rt.alloc(), text.as_bytes())?;
+fn compare(rt: &impl Abort, alloc: Global, rows: &[(&str, &str)]) -> Result<(), Fail> {
+    for (text, wanted) in rows {
+        let found = said(alloc, text.as_bytes())?;
         assert!(rt; found.as_slice() == wanted.as_bytes(), "at {text}");
     }
     Ok(())
 }
 
 #[test]
+fn a_text_says_a_command(rt: HostRuntime) -> Result<(), Fail> {
+    compare(&rt, rt.alloc(), COMMANDS.as_slice())
+}
+
+#[test]
 fn names_and_nodes_stand_behind_their_words(rt: HostRuntime) -> Result<(), Fail> {
-    for (text, wanted) in NAMED {
-        let found = said(rt.alloc(), text.as_bytes())?;
-        assert!(rt; found.as_slice() == wanted.as_bytes(), "at {text}");
-    }
-    Ok(())
+    compare(&rt, rt.alloc(), NAMED.as_slice())
 }
 
 #[test]
@@ -378,29 +379,17 @@ fn a_reader_takes_its_own_words_alone(rt: HostRuntime) -> Result<(), Fail> {
 
 #[test]
 fn a_word_and_a_head_are_refused_at_their_places(rt: HostRuntime) -> Result<(), Fail> {
-    for (text, wanted) in MISPLACED {
-        let found = said(rt.alloc(), text.as_bytes())?;
-        assert!(rt; found.as_slice() == wanted.as_bytes(), "at {text}");
-    }
-    Ok(())
+    compare(&rt, rt.alloc(), MISPLACED.as_slice())
 }
 
 #[test]
 fn a_formula_is_refused_at_its_first_trouble(rt: HostRuntime) -> Result<(), Fail> {
-    for (text, wanted) in TROUBLES {
-        let found = said(rt.alloc(), text.as_bytes())?;
-        assert!(rt; found.as_slice() == wanted.as_bytes(), "at {text}");
-    }
-    Ok(())
+    compare(&rt, rt.alloc(), TROUBLES.as_slice())
 }
 
 #[test]
 fn what_is_not_run_yet_is_refused_last(rt: HostRuntime) -> Result<(), Fail> {
-    for (text, wanted) in LATER {
-        let found = said(rt.alloc(), text.as_bytes())?;
-        assert!(rt; found.as_slice() == wanted.as_bytes(), "at {text}");
-    }
-    Ok(())
+    compare(&rt, rt.alloc(), LATER.as_slice())
 }
 
 #[test]
