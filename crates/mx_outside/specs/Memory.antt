@@ -1,8 +1,11 @@
 -- What the forms in memory have left and have taken, and which of their calls fail.
 use Rattle.std.specs.Prelude.{ℕ, ◌+◌, ◌-◌, ◌^◌, List, min, Option, Some, drop}
+use Rattle.mx_outside.specs.Files.{FileMap, files_of}
 use Rattle.mx_outside.specs.declared.memory.MemSource.{MemSource}
 use Rattle.mx_outside.specs.declared.memory.MemSink.{MemSink}
+use Rattle.mx_outside.specs.declared.memory.MemFiles.{MemFiles}
 use Rattle.mx_outside.specs.declared.sure.SureSource.{SureSource}
+use Rattle.mx_outside.specs.declared.sure.SureFiles.{SureFiles}
 
 abbrev pub source_left : MemSource → Option (List ℕ)
 source_left s = Some (drop s.at s.bytes.items)
@@ -28,6 +31,19 @@ sink_fails s = s.fails.items
 
 abbrev pub sink_calls : MemSink → ℕ
 sink_calls s = s.calls
+
+abbrev pub files_held : MemFiles → Option FileMap
+files_held s = Some (files_of s.files.items)
+
+abbrev pub files_fails : MemFiles → List ℕ
+files_fails s = s.fails.items
+
+-- reads and writes together
+abbrev pub files_calls : MemFiles → ℕ
+files_calls s = s.calls
+
+abbrev pub sure_held : SureFiles → Option FileMap
+sure_held s = Some (files_of s.files.items)
 
 abbrev pub sure_left : SureSource → Option (List ℕ)
 sure_left s = Some (drop s.at s.bytes.items)

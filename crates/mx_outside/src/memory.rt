@@ -1,8 +1,10 @@
-//! A source and a sink in memory that fail at chosen calls, to try what stands above them.
+//! A source, a sink and files in memory that fail at chosen calls, to try what stands above them.
 ghost use Rattle.std.specs.Prelude.{◌≡◌, ◌≤◌, ◌^◌, vec_len, Some, []};
+ghost use Rattle.std.specs.FinMap as finite;
 
+use crate::files::{bytes_of, find_bytes, set_bytes};
 use crate::source::copy_front;
-use crate::{Failed, Sink, Source, WriteFailure};
+use crate::{Failed, Files, Found, ReadFailure, Sink, Source, WriteFailure};
 use std::alloc::Global;
 
 /// A source over bytes, which fails at the calls of the given numbers. The first call has the number 1.
@@ -137,5 +139,102 @@ impl Sink for MemSink {
             Ok(()) => return Ok(piece.len()),
             Err(_) => return Err(WriteFailure::NoMemory),
         }
+    }
+}
+
+/// Files in memory, which fail at the calls of the given numbers. The first call has the number 1, and reads and writes
+/// are counted together.
+#[derive(Drop)]
+pub struct MemFiles {
+    files: Vec<(String, Vec<u8>)>,
+    fails: Vec<u64>,
+    calls: u64,
+    read_faults: u64,
+    write_faults: u64,
+}
+
+impl MemFiles {
+    ghost use Rattle.std.specs.Prelude.{option_map};
+    ghost use Rattle.mx_outside.specs.Files.{files_of, bytes_of};
+    ghost use Rattle.mx_outside.specs.Memory.{files_fails, files_calls};
+
+    /// These files, with no call made and no fault counted. Of files with one name the first counts.
+    pub fn new(files: Vec<(String, Vec<u8>)>, fails: Vec<u64>) -> MemFiles
+        ensures held { ⟦<MemFiles as Files>⟧.held result ≡ Some (files_of files.items) }
+        ensures read_faults { ⟦<MemFiles as Files>⟧.read_faults result ≡ 0 }
+        ensures write_faults { ⟦<MemFiles as Files>⟧.write_faults result ≡ 0 }
+        ensures fails { files_fails result ≡ fails.items }
+        ensures calls { files_calls result ≡ 0 }
+    {
+        MemFiles {
+            files,
+            fails,
+            calls: 0,
+            read_faults: 0,
+            write_faults: 0,
+        }
+    }
+
+    /// What a name holds, where it is there. This is no call that may fail.
+    pub fn get(&self, name: &str) -> Option<&[u8]>
+        ensures { Some (option_map (λ s. s.now) result) ≡ option_map (λ files. finite.get files name.now) (⟦<MemFiles as Files>⟧.held self.now) }
+    {
+        bytes_of(self.files.as_slice(), name)
+    }
+}
+
+impl Files for MemFiles {
+    ghost use Rattle.std.specs.Prelude.{◌≡◌, ◌≤◌, ◌↔◌, IfOk, OnOk, OnErr, IsErrOf, Contains};
+    ghost use Rattle.mx_outside.specs.Files.{Finds, IsWithin, with_bytes, ChangesOnly};
+    ghost use Rattle.mx_outside.specs.Outside.{Rose};
+    ghost use Rattle.mx_outside.specs.Memory.{files_held, files_fails, files_calls, next_call};
+
+    ghost held = { files_held };
+
+    ghost read_faults = { λ s. s.read_faults };
+
+    ghost write_faults = { λ s. s.write_faults };
+
+    fn read(&mut self, alloc: Global, name: &str, limit: u64) -> Result<Found, ReadFailure>
+        ensures found { IfOk result (λ found. Finds (files_held self.old) name.now limit found) }
+        ensures within { IfOk result (λ found. IsWithin limit found) }
+        ensures held { files_held self.new ≡ files_held self.old }
+        ensures later { self.old.read_faults ≤ self.new.read_faults }
+        ensures failed { IsErrOf result ReadFailure.Failed → Rose self.old.read_faults self.new.read_faults }
+        ensures no_write { self.new.write_faults ≡ self.old.write_faults }
+
+        // It fails exactly at the calls of the numbers that it was made with.
+        ensures told { IsErrOf result ReadFailure.Failed ↔ Contains (files_fails self.old) (next_call (files_calls self.old)) }
+        ensures fails { files_fails self.new ≡ files_fails self.old }
+        ensures calls { files_calls self.new ≡ next_call (files_calls self.old) }
+    {
+        self.calls = self.calls.saturating_add(1);
+        if self.fails.contains(&self.calls) {
+            self.read_faults = self.read_faults.saturating_add(1);
+            return Err(ReadFailure::Failed);
+        }
+        return find_bytes(alloc, self.files.as_slice(), name, limit);
+    }
+
+    fn write(&mut self, alloc: Global, name: &str, bytes: &[u8]) -> Result<(), WriteFailure>
+        ensures ok { OnOk result (files_held self.new ≡ with_bytes (files_held self.old) name.now bytes.now) }
+        ensures err { OnErr result (ChangesOnly name.now (files_held self.old) (files_held self.new)) }
+        ensures no_memory { IsErrOf result WriteFailure.NoMemory → files_held self.new ≡ files_held self.old }
+        ensures later { self.old.write_faults ≤ self.new.write_faults }
+        ensures failed { IsErrOf result WriteFailure.Failed → Rose self.old.write_faults self.new.write_faults }
+        ensures no_read { self.new.read_faults ≡ self.old.read_faults }
+
+        // It fails exactly at the calls of the numbers that it was made with, and then changes nothing.
+        ensures told { IsErrOf result WriteFailure.Failed ↔ Contains (files_fails self.old) (next_call (files_calls self.old)) }
+        ensures nothing { OnErr result (files_held self.new ≡ files_held self.old) }
+        ensures fails { files_fails self.new ≡ files_fails self.old }
+        ensures calls { files_calls self.new ≡ next_call (files_calls self.old) }
+    {
+        self.calls = self.calls.saturating_add(1);
+        if self.fails.contains(&self.calls) {
+            self.write_faults = self.write_faults.saturating_add(1);
+            return Err(WriteFailure::Failed);
+        }
+        return set_bytes(alloc, &mut self.files, name, bytes);
     }
 }

@@ -1,8 +1,10 @@
-//! A source and a sink in memory that never fail.
+//! A source, a sink and files in memory that never fail.
 ghost use Rattle.std.specs.Prelude.{◌≡◌, ◌≤◌, vec_len, Some, []};
+ghost use Rattle.std.specs.FinMap as finite;
 
+use crate::files::{bytes_of, find_bytes, set_bytes};
 use crate::source::copy_front;
-use crate::{Failed, Sink, Source, WriteFailure};
+use crate::{Failed, Files, Found, ReadFailure, Sink, Source, WriteFailure};
 use std::alloc::Global;
 
 /// A source over bytes that never fails.
@@ -78,5 +80,59 @@ impl Sink for SureSink {
             Ok(()) => return Ok(piece.len()),
             Err(_) => return Err(WriteFailure::NoMemory),
         }
+    }
+}
+
+/// Files in memory that never fail, but for want of memory.
+#[derive(Drop)]
+pub struct SureFiles {
+    files: Vec<(String, Vec<u8>)>,
+}
+
+impl SureFiles {
+    ghost use Rattle.std.specs.Prelude.{option_map};
+    ghost use Rattle.mx_outside.specs.Files.{files_of};
+
+    /// These files. Of files with one name the first counts.
+    pub fn new(files: Vec<(String, Vec<u8>)>) -> SureFiles
+        ensures { ⟦<SureFiles as Files>⟧.held result ≡ Some (files_of files.items) }
+    {
+        SureFiles { files }
+    }
+
+    /// What a name holds, where it is there.
+    pub fn get(&self, name: &str) -> Option<&[u8]>
+        ensures { Some (option_map (λ s. s.now) result) ≡ option_map (λ files. finite.get files name.now) (⟦<SureFiles as Files>⟧.held self.now) }
+    {
+        bytes_of(self.files.as_slice(), name)
+    }
+}
+
+impl Files for SureFiles {
+    ghost use Rattle.std.specs.Prelude.{◌≡◌, IfOk, IfErr, OnOk, OnErr};
+    ghost use Rattle.mx_outside.specs.Files.{Finds, IsWithin, with_bytes};
+    ghost use Rattle.mx_outside.specs.Memory.{sure_held};
+
+    ghost held = { sure_held };
+
+    ghost read_faults = { λ _. 0 };
+
+    ghost write_faults = { λ _. 0 };
+
+    fn read(&mut self, alloc: Global, name: &str, limit: u64) -> Result<Found, ReadFailure>
+        ensures sure { IfErr result (λ failure. failure ≡ ReadFailure.NoMemory) }
+        ensures found { IfOk result (λ found. Finds (sure_held self.old) name.now limit found) }
+        ensures within { IfOk result (λ found. IsWithin limit found) }
+        ensures held { sure_held self.new ≡ sure_held self.old }
+    {
+        return find_bytes(alloc, self.files.as_slice(), name, limit);
+    }
+
+    fn write(&mut self, alloc: Global, name: &str, bytes: &[u8]) -> Result<(), WriteFailure>
+        ensures sure { IfErr result (λ failure. failure ≡ WriteFailure.NoMemory) }
+        ensures ok { OnOk result (sure_held self.new ≡ with_bytes (sure_held self.old) name.now bytes.now) }
+        ensures nothing { OnErr result (sure_held self.new ≡ sure_held self.old) }
+    {
+        return set_bytes(alloc, &mut self.files, name, bytes);
     }
 }
