@@ -1,0 +1,7 @@
+//! Tests of the calls on files.
+#![tactic(auto)]
+
+#[cfg(test)]
+mod files;
+#[cfg(test)]
+mod names;
