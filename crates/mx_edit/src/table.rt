@@ -155,6 +155,27 @@ impl Table {
     {
         self.keys.get(place as usize).copied()
     }
+
+    /// The names of the columns, of which the first is that of the keys.
+    pub fn columns(&self) -> &[Label]
+        ensures { result.now ≡ self.now.columns }
+    {
+        self.columns.as_slice()
+    }
+
+    /// The keys of the rows.
+    pub fn keys(&self) -> &[i64]
+        ensures { result.now ≡ self.now.keys }
+    {
+        self.keys.as_slice()
+    }
+
+    /// The numbers of the rows, in each one for each column but the first.
+    pub fn rows(&self) -> &[Items<Value>]
+        ensures { result.now ≡ self.now.rows }
+    {
+        self.rows.as_slice()
+    }
 }
 
 /// What stands in a row at a place, where these are there.

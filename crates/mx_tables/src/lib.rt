@@ -1,4 +1,4 @@
-//! What tables in files are made of: records of fields as comma-separated values, and the numbers that fields say.
+//! Tables in files: records of fields as comma-separated values, the numbers that fields say, and the text of a table.
 //!
 //! Fields are read as they stand, so a blank beside a number makes it none.
 #![tactic(auto)]
@@ -6,3 +6,4 @@
 pub mod laws;
 pub mod number;
 pub mod records;
+pub mod write;
