@@ -1,0 +1,9 @@
+//! Tests of what fields say, and of records.
+#![tactic(auto)]
+
+#[cfg(test)]
+mod numbers;
+#[cfg(test)]
+mod records;
+#[cfg(test)]
+mod tables;
