@@ -1,3 +1,7 @@
 mod Changes
+pub mod Filtered
+pub mod LayerSteps
 pub mod MemberLemmas
+pub mod Places
 mod SmallModels
+pub mod SoundLemmas

@@ -7,7 +7,9 @@ use Rattle.mx_c3.specs.declared.space.SpaceId.{SpaceId}
 use Rattle.mx_syntax.specs.declared.stmt.Params.{Params}
 use Rattle.mx_edit.specs.declared.reference.RefValue.{RefValue}
 use Rattle.mx_model.specs.Records.{Name, Path, CellsRecord, SpaceRecord, ModelRecord}
-use Rattle.mx_model.specs.Layers.{Layered, Layers, NoOrder, NotStatic, id_of, space_of, layers}
+use Rattle.mx_model.specs.declared.layers.Layered.{Layered}
+use Rattle.mx_model.specs.declared.layers.Layered.TheVariants.{Layers, NoOrder, NotStatic}
+use Rattle.mx_model.specs.Layers.{id_of, space_of, layers}
 
 -- a member of a space: cells, a reference with the path of the space that defines it, or a child
 pub data Member : Type 0 where

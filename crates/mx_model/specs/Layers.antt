@@ -5,6 +5,8 @@ use Rattle.mx_value.specs.Name.{same_path}
 use Rattle.mx_c3.specs.declared.space.SpaceId.{SpaceId}
 use Rattle.mx_c3.specs.Merge.{merge}
 use Rattle.mx_c3.specs.Linearisation.{c3, each}
+use Rattle.mx_model.specs.declared.layers.Layered.{Layered}
+use Rattle.mx_model.specs.declared.layers.Layered.TheVariants.{Layers, NoOrder, NotStatic}
 use Rattle.mx_model.specs.Records.{Name, Path, SpaceRecord, ModelRecord}
 
 -- ---- spaces by their place in order of creation
@@ -28,12 +30,7 @@ child_of text name s = option_and_then (λ (space : SpaceRecord). id_of text (sp
 
 -- ---- layers
 
--- what a path leads to: it is a static path with these layers, or one whose bases have no order, or it is none
-pub data Layered : Type 0 where
-  Layers : List SpaceId → Layered
-  NoOrder : Layered
-  NotStatic : Layered
-
+-- a static path has layers, or its bases have no order
 abbrev pub layered : Result (List SpaceId) (List SpaceId) → Layered
 layered (Ok order) = Layers order
 layered (Err blocked) = NoOrder

@@ -14,5 +14,6 @@ pub mod Records
 pub mod Refused
 pub mod Rings
 pub mod Rows
+pub mod Sound
 pub mod Valid
 pub mod Walk

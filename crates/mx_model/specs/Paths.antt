@@ -21,7 +21,7 @@ is_defined text path = is_some (id_of text path)
 abbrev pub space_at : ModelRecord → Path → Option SpaceRecord
 space_at text path = option_and_then (space_of text) (id_of text path)
 
-abbrev name_below : Path → Option (Path × Name) → Option Name
+abbrev pub name_below : Path → Option (Path × Name) → Option Name
 name_below parent None = None
 name_below parent (Some (path, last)) = if same_path path parent then Some last else None
 

@@ -6,7 +6,8 @@ use Rattle.mx_edit.specs.declared.edit.Edit.{Edit}
 use Rattle.mx_edit.specs.declared.edit.Edit.TheVariants as edit
 use Rattle.mx_edit.specs.declared.refusal.EditRefusal.TheVariants as refusal
 use Rattle.mx_model.specs.Records.{Name, Path, ModelRecord, beginning}
-use Rattle.mx_model.specs.Layers.{Layers, NoOrder, NotStatic, layers}
+use Rattle.mx_model.specs.declared.layers.Layered.TheVariants.{Layers, NoOrder, NotStatic}
+use Rattle.mx_model.specs.Layers.{layers}
 use Rattle.mx_model.specs.Binding.{Cells, binding}
 use Rattle.mx_model.specs.Refused.{record_trouble}
 use Rattle.mx_model.specs.Apply.{Apply, changed}

@@ -10,7 +10,9 @@ use Rattle.mx_edit.specs.declared.refusal.EditRefusal.{EditRefusal}
 use Rattle.mx_edit.specs.declared.refusal.EditRefusal.TheVariants as refusal
 use Rattle.mx_edit.specs.declared.refusal.Limit.TheVariants as limit
 use Rattle.mx_model.specs.Records.{Path, ModelRecord}
-use Rattle.mx_model.specs.Layers.{Layered, Layers, NoOrder, NotStatic, layers, is_static}
+use Rattle.mx_model.specs.declared.layers.Layered.{Layered}
+use Rattle.mx_model.specs.declared.layers.Layered.TheVariants.{Layers, NoOrder, NotStatic}
+use Rattle.mx_model.specs.Layers.{layers, is_static}
 
 -- a path's text: its names with a dot between each two
 abbrev pub path_text : Path → List ℕ

@@ -2,6 +2,7 @@
 #![tactic(auto)]
 
 pub mod laws;
+pub mod layers;
 mod members;
 mod space;
 pub mod text;
