@@ -1,18 +1,18 @@
 -- The ids of spaces are the places of their paths, and the bases of a space are those of its record.
-use Rattle.std.proofs.Common.{◌≡◌, ℕ, zero, suc, ◌+◌, ◌<◌, Bool, true, false, List, [], ◌∷◌, ◌++◌, map, length, get_or, Option, Some, None, slice_get, ◌⊎◌, inl, inr, refl, sym, ◌∙◌, ap, subst, arith}
-use Rattle.std.specs.Prelude.{IsTrue, is_some, position, option_map, slice_index_or}
-use Rattle.std.specs.List.{filter_map, position_or_len}
+use Rattle.std.proofs.Common.{◌≡◌, ℕ, zero, suc, ◌<◌, true, false, List, [], ◌∷◌, map, length, get_or, Option, Some, None, slice_get, inl, inr, refl, sym, ◌∙◌, ap, subst, arith}
+use Rattle.std.specs.Prelude.{IsTrue, is_some, position, option_map}
+use Rattle.std.specs.List.{filter_map}
 use Rattle.std.proofs.lemmas.List.Quantifiers.{position-Some}
-use Rattle.std.proofs.lemmas.Option.{same_Some, slice_get-get_or, slice_get_within, get_or_from_slice_get, slice_get-map}
+use Rattle.std.proofs.lemmas.Option.{same_Some, slice_get-get_or, slice_get_within, get_or_from_slice_get}
 use Rattle.std.proofs.lemmas.List.{length-map}
 use Rattle.mx_value.specs.Name.{same_path}
 use Rattle.mx_value.proofs.NodeSames.{path_decides}
 use Rattle.mx_c3.specs.declared.space.SpaceId.{SpaceId}
-use Rattle.mx_c3.specs.Lists.{Has, Among, Distinct, AllDistinct}
-use Rattle.mx_c3.specs.Linearisation.{bases_of, Leads, Reaches, AreSound}
-use Rattle.mx_model.specs.Records.{Name, Path, SpaceRecord, ModelRecord}
-use Rattle.mx_model.specs.Layers.{paths_of, id_of, space_of, base_lists, child_of}
-use Rattle.mx_model.specs.Rings.{IsDefined, HasBase, HasChild, LeadsThrough, HasNoRing}
+use Rattle.mx_c3.specs.Lists.{Has, Distinct}
+use Rattle.mx_c3.specs.Linearisation.{bases_of, Leads, AreSound}
+use Rattle.mx_model.specs.Records.{Path, SpaceRecord, ModelRecord}
+use Rattle.mx_model.specs.Layers.{paths_of, id_of, base_lists}
+use Rattle.mx_model.specs.Rings.{IsDefined, HasBase, LeadsThrough, HasNoRing}
 use Rattle.mx_model.proofs.Filtered.{passes_place, has_map, map_has, place_has, has_filter, among_map, all_distinct_map, distinct_filter}
 
 abbrev made : ℕ → SpaceId

@@ -1,16 +1,15 @@
 -- A valid text has bases that can be linearised and distinct paths, and so its layers are distinct spaces.
-use Rattle.std.proofs.Common.{◌≡◌, ℕ, zero, suc, ◌+◌, ◌<◌, Bool, true, false, List, [], ◌∷◌, ◌++◌, map, length, get_or, Option, Some, None, Result, Ok, Err, slice_get, ◌⊎◌, inl, inr, refl, sym, ◌∙◌, ap, subst, arith}
-use Rattle.std.specs.Prelude.{IsTrue, is_some, option_map, nat_lt, if◌then◌else◌, option_and_then}
+use Rattle.std.proofs.Common.{◌≡◌, ◌<◌, Bool, true, false, List, [], ◌∷◌, ◌++◌, length, Option, Some, None, Result, Ok, Err, slice_get, ◌⊎◌, inl, inr, refl, sym, ◌∙◌, ap, subst, arith}
+use Rattle.std.specs.Prelude.{option_map, nat_lt, if◌then◌else◌, option_and_then}
 use Rattle.std.specs.List.{filter_map}
 use Rattle.std.proofs.lemmas.Option.{slice_get-map}
 use Rattle.std.proofs.lemmas.List.{length-map, append_cancel_right}
-use Rattle.mx_value.specs.Name.{same_path}
 use Rattle.mx_value.proofs.NodeSames.{path_decides}
 use Rattle.mx_c3.specs.declared.space.SpaceId.{SpaceId}
-use Rattle.mx_c3.specs.Lists.{Has, Among, Distinct, AllDistinct}
+use Rattle.mx_c3.specs.Lists.{Among, Distinct, AllDistinct}
 use Rattle.mx_c3.specs.InOrder.{AllBelow}
 use Rattle.mx_c3.specs.Merge.{merge}
-use Rattle.mx_c3.specs.Linearisation.{c3, each, before_all, Leads, AreSound, IsOrder}
+use Rattle.mx_c3.specs.Linearisation.{c3, each, before_all, Leads, AreSound}
 use Rattle.mx_c3.proofs.LinearLemmas.{base_in_range, same_place}
 use Rattle.mx_c3.proofs.LinearLaws.{c3_order}
 use Rattle.mx_c3.proofs.NextLaws.{kept}
@@ -19,14 +18,14 @@ use Rattle.mx_model.specs.declared.layers.Layered.{Layered}
 use Rattle.mx_model.specs.declared.layers.Layered.TheVariants.{Layers, NoOrder, NotStatic}
 use Rattle.mx_model.specs.Layers.{paths_of, id_of, space_of, base_lists, child_of, layers, further, below, of_children, at_top, layered, merge_orders, is_there}
 use Rattle.mx_model.specs.Paths.{split_last, name_below, child_names}
-use Rattle.mx_model.specs.Rings.{IsDefined, HasNoRing}
+use Rattle.mx_model.specs.Rings.{IsDefined}
 use Rattle.mx_edit.specs.declared.refusal.EditRefusal.TheVariants as refusal
 use Rattle.mx_edit.specs.declared.refusal.Limit.TheVariants as limit
 use Rattle.mx_model.specs.Walk.{MeetsNothing, layers_trouble}
 use Rattle.mx_model.specs.Valid.{Valid, HasParent, names_of}
 use Rattle.mx_model.specs.Sound.{IsSound, AreSpaces, HasSpaces, ValidIsSound, ChildrenAreDistinct, LayersAreSpaces, ValidHasOrders}
 use Rattle.mx_model.proofs.Filtered.{IsTold, distinct_map, distinct_left, distinct_filter, has_filter, one_place}
-use Rattle.mx_model.proofs.Places.{bases_sound, defined_space, id_at, id_within, one_path}
+use Rattle.mx_model.proofs.Places.{bases_sound, defined_space, id_within, one_path}
 
 -- ---- a valid text is sound
 

@@ -1,4 +1,4 @@
-use Rattle.std.proofs.Common.{◌∙◌, List, [], ◌∷◌, ◌++◌, get_or, ap, sym, subst}
+use Rattle.std.proofs.Common.{◌∙◌, List, [], ◌++◌, get_or, ap, sym, subst}
 use Rattle.std.specs.List.{cons_option}
 use Rattle.std.proofs.lemmas.List.{append-nil}
 use Rattle.mx_c3.specs.declared.space.SpaceId.{SpaceId}

@@ -1,4 +1,4 @@
-use Rattle.std.proofs.Common.{◌∙◌, ◌≡◌, List, [], ◌∷◌, ◌++◌, ◌+◌, take, ap, sym, subst}
+use Rattle.std.proofs.Common.{◌∙◌, ◌≡◌, [], ◌∷◌, ◌++◌, ◌+◌, take, ap, sym, subst}
 use Rattle.std.proofs.lemmas.List.{take_more}
 use Rattle.mx_model.specs.Records.{Name}
 use Rattle.mx_model.specs.declared.layers.Layered.{Layered}
