@@ -1,6 +1,7 @@
 mod Changes
 pub mod Filtered
 pub mod LayerSteps
+pub mod LookupLemmas
 pub mod MemberLemmas
 pub mod Places
 mod SmallModels

@@ -8,6 +8,7 @@ pub mod Inputs
 pub mod Keys
 pub mod Laws
 pub mod Layers
+pub mod Lookup
 pub mod Paths
 pub mod Readers
 pub mod Records

@@ -19,7 +19,7 @@ cells_of space name = lookup (same_name name) space.cells
 abbrev pub formula_in : ModelRecord → SpaceId → Name → Option Formula
 formula_in text s name = option_and_then (λ (space : SpaceRecord). option_map (λ (c : CellsRecord). c.formula) (cells_of space name)) (space_of text s)
 
-abbrev or_false : Option CellsRecord → Bool
+abbrev pub or_false : Option CellsRecord → Bool
 or_false (Some cells) = cells.allow_none
 or_false None = false
 

@@ -131,7 +131,7 @@ fn children_of(
 }
 
 /// The defined child of a name that a space has.
-fn child_of(
+pub fn child_of(
     alloc: Global,
     text: &ModelText,
     s: SpaceId,

@@ -177,6 +177,13 @@ impl ModelText {
         }
     }
 
+    /// The same, to be shared.
+    pub fn shared_input(&self, node: &Node) -> Option<&Shared<Value>>
+        ensures { option_copied result ≡ input_of self.now node.now }
+    {
+        self.inputs.get().get(node)
+    }
+
     pub fn table(&self, name: &Label) -> Option<&Table>
         ensures { option_copied result ≡ lookup (same_name name.now) self.now.tables }
     {
