@@ -1,0 +1,2 @@
+pub mod FirstMonths
+pub mod Outcomes

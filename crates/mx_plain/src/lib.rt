@@ -1,0 +1,9 @@
+//! The two products as plain recursions by month, with no engine: what an audit compares a model's answers with.
+#![tactic(auto)]
+
+mod base;
+mod number;
+pub mod projection;
+pub mod savings;
+pub mod term;
+mod worth;
