@@ -1,11 +1,12 @@
 -- The formulas that both products share, by month t.
-use Rattle.std.specs.Prelude.{ℕ, zero, suc, ◌+◌, ◌*◌, ◌==◌, ℤ, pos, List, get_or, if◌then◌else◌}
+use Rattle.std.specs.Prelude.{◌≡◌, Result, ℕ, zero, suc, ◌+◌, ◌*◌, ◌==◌, ℤ, pos, List, get_or, if◌then◌else◌}
+use Rattle.mx_value.specs.declared.fixed.NumFault.{NumFault}
 use Rattle.mx_plain.specs.declared.base.Basis.{Basis}
 use Rattle.mx_plain.specs.declared.base.Year.{Year}
 use Rattle.mx_plain.specs.declared.base.Opening.{Opening}
 use Rattle.mx_plain.specs.declared.base.Month.{Month}
 use Rattle.mx_plain.specs.Figures.{Figure, Given, Whole, plus, minus, times, over, larger, monthly, nought, unity, value}
-use Rattle.mx_plain.specs.Months.{duration, sum_of}
+use Rattle.mx_plain.specs.Months.{duration, first, sum_of}
 
 -- the numbers of a policy, and its rates of mortality and of interest by year
 pub record Base : Type 0 where
@@ -94,7 +95,7 @@ worth_before b n paid = sum_of n (λ t. times (paid t) (disc_factor b t))
 abbrev pub present_value : Base → (ℕ → Figure) → Figure
 present_value b paid = worth_before b (proj_len b) paid
 
--- ---- the same as the code keeps it
+-- ---- the same as the code keeps it, a fault in the place of its number
 
 -- the rates per month of year y
 abbrev pub year_of : ℤ → ℤ → ℕ → Year
@@ -124,3 +125,42 @@ month_of b t = record {
   pols_lapse = value (pols_lapse b t);
   expenses = value (expenses b t);
 }
+
+-- ---- what is said of the calls, for all rates
+
+abbrev pub AreYears : List ℤ → List ℤ → ℕ → List Year → Type 0
+AreYears mort disc count years = years ≡ first count (year_at mort disc)
+
+abbrev pub AreMonths : Basis → List ℤ → List ℤ → List Month → Type 0
+AreMonths basis mort disc months = months ≡ first (proj_len (base basis mort disc)) (month_of (base basis mort disc))
+
+abbrev pub OpensAt : Basis → ℕ → Opening → Type 0
+OpensAt basis t opening = (mort disc : List ℤ) → opening ≡ opening_of (base basis mort disc) t
+
+abbrev pub AreExpenses : Basis → ℕ → Opening → Result ℤ NumFault → Type 0
+AreExpenses basis t opening paid =
+    (mort disc : List ℤ) → opening ≡ opening_of (base basis mort disc) t → paid ≡ value (expenses (base basis mort disc) t)
+
+abbrev pub IsMonth : Basis → ℕ → Opening → Year → Month → Type 0
+IsMonth basis t opening year month =
+    (mort disc : List ℤ) → opening ≡ opening_of (base basis mort disc) t → year ≡ year_at mort disc (duration t)
+    → month ≡ month_of (base basis mort disc) t
+
+-- the opening of the month behind month t
+abbrev pub IsFollowing : Basis → ℕ → Month → Year → Result ℤ NumFault → Opening → Type 0
+IsFollowing basis t month year inflation opening =
+    (mort disc : List ℤ) → month ≡ month_of (base basis mort disc) t → year ≡ year_at mort disc (duration t)
+    → inflation ≡ value (inflation_mth (base basis mort disc)) → opening ≡ opening_of (base basis mort disc) (suc t)
+
+abbrev pub AreMaturing : Basis → ℕ → Result ℤ NumFault → Result ℤ NumFault → Type 0
+AreMaturing basis t before policies =
+    (mort disc : List ℤ) (n : Figure) → before ≡ value n → policies ≡ value (maturing (base basis mort disc) t n)
+
+abbrev pub IsInflation : Basis → Result ℤ NumFault → Type 0
+IsInflation basis factor = (mort disc : List ℤ) → factor ≡ value (inflation_mth (base basis mort disc))
+
+-- what is paid in a month, added to what was paid before it, both discounted
+abbrev pub IsWorth : Result ℤ NumFault → Result ℤ NumFault → Month → Result ℤ NumFault → Type 0
+IsWorth before paid month worth =
+    (b : Base) (t : ℕ) (flow : ℕ → Figure) → before ≡ value (worth_before b t flow) → paid ≡ value (flow t) → month ≡ month_of b t
+    → worth ≡ value (worth_before b (suc t) flow)

@@ -1,7 +1,9 @@
 -- What a projection gives by the formulas of its rows and present values.
-use Rattle.std.specs.Prelude.{◌≡◌, ◌≢◌, ℕ, ◌+◌, ◌<◌, ◌⊎◌, ℤ, List, length, map, Ok}
+use Rattle.std.specs.Prelude.{Result, IsErrOf, Err, ◌≡◌, ◌≢◌, ℕ, ◌+◌, ◌<◌, ◌⊎◌, ℤ, List, length, map, Ok}
 use Rattle.std.specs.List.{Contains}
 use Rattle.mx_value.specs.declared.fixed.NumFault.{NumFault}
+use Rattle.mx_plain.specs.declared.projection.PlainRefusal.{PlainRefusal}
+use Rattle.mx_plain.specs.declared.projection.PlainRefusal.TheVariants.{Num}
 use Rattle.mx_plain.specs.Figures.{Figure, value, Fails}
 use Rattle.mx_plain.specs.Months.{first}
 
@@ -24,3 +26,15 @@ OneFails figures fault = (figure : Figure) × (Contains figures figure × Fails 
 -- a step that one of the first n rows or a present value needs has this fault
 abbrev pub Faulty : ℕ → (ℕ → List Figure) → List Figure → NumFault → Type 0
 Faulty n row pv fault = ((t : ℕ) × ((t < n) × OneFails (row t) fault)) ⊎ OneFails pv fault
+
+-- where the answer is a fault, it is one of these
+abbrev pub Tells : {T : Type 0} → Result T PlainRefusal → (NumFault → Type 0) → Type 0
+Tells answer IsFault = (fault : NumFault) → IsErrOf answer (Num fault) → IsFault fault
+
+-- a figure's fault is that of a step whose operands all have numbers
+abbrev pub FaultIsOfStep : Type 0
+FaultIsOfStep = (figure : Figure) (fault : NumFault) → value figure ≡ Err fault → Fails figure fault
+
+-- no step fails that a figure with a number needs
+abbrev pub NumberStands : Type 0
+NumberStands = (figure : Figure) (fault : NumFault) (x : ℤ) → value figure ≡ Ok x → ¬ (Fails figure fault)

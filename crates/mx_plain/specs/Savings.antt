@@ -1,12 +1,19 @@
 -- The formulas of the single-premium savings product, by month t.
-use Rattle.std.specs.Prelude.{ℕ, zero, suc, ◌==◌, ℤ, pos, List, [], ◌∷◌, if◌then◌else◌}
+use Rattle.std.specs.Prelude.{◌≡◌, ◌<◌, ◌==◌, ℕ, zero, suc, ℤ, pos, List, [], ◌∷◌, map, if◌then◌else◌, Result, IfOk, IsErrOf}
+use Rattle.mx_value.specs.declared.fixed.NumFault.{NumFault}
+use Rattle.mx_plain.specs.declared.projection.PlainRefusal.{PlainRefusal}
+use Rattle.mx_plain.specs.declared.projection.PlainRefusal.TheVariants.{Num}
+use Rattle.mx_plain.specs.declared.base.Month.{Month}
+use Rattle.mx_plain.specs.declared.savings.Paid.{Paid}
+use Rattle.mx_plain.specs.Outcome.{AreNumbers, AreRows, Faulty, IsBad, OneFails}
+use Rattle.mx_plain.specs.Months.{first}
 use Rattle.mx_plain.specs.declared.savings.SavingsPolicy.{SavingsPolicy}
 use Rattle.mx_plain.specs.declared.savings.Growth.{Growth}
 use Rattle.mx_plain.specs.declared.savings.Account.{Account}
 use Rattle.mx_plain.specs.declared.savings.Flows.{Flows}
 use Rattle.mx_plain.specs.declared.savings.Sums.{Sums}
 use Rattle.mx_plain.specs.Figures.{Figure, Given, Whole, plus, minus, times, larger, monthly, nought, value}
-use Rattle.mx_plain.specs.Base.{Base, base, proj_len, mort_rate_mth, pols_if, pols_death, pols_lapse, pols_maturity, expenses, worth_before, present_value}
+use Rattle.mx_plain.specs.Base.{Base, base, month_of, proj_len, mort_rate_mth, pols_if, pols_death, pols_lapse, pols_maturity, expenses, worth_before, present_value}
 
 abbrev pub base_of : SavingsPolicy → Base
 base_of p = base (record {
@@ -92,7 +99,7 @@ pv p = pv_of p (pols_if (base_of p)) ∷ nought ∷ pv_of p (premiums p) ∷ pv_
 abbrev pub row_count : SavingsPolicy → ℕ
 row_count p = proj_len (base_of p)
 
--- ---- the same as the code keeps it
+-- ---- the same as the code keeps it, a fault in the place of its number
 
 abbrev pub growth_of : SavingsPolicy → Growth
 growth_of p = record { kept = value (kept p); inv_mth = value (inv_mth p) }
@@ -128,3 +135,56 @@ sums_before p n = record {
   expenses = value (sum_before p n (expenses (base_of p)));
   commissions = value (sum_before p n (commissions p));
 }
+
+-- ---- what is said of the calls
+
+abbrev pub HasRows : SavingsPolicy → List (List ℤ) → Type 0
+HasRows p rows = AreRows (row_count p) (row p) rows
+
+abbrev pub HasValues : SavingsPolicy → List ℤ → Type 0
+HasValues p numbers = AreNumbers (pv p) numbers
+
+abbrev pub IsBadPolicy : SavingsPolicy → Type 0
+IsBadPolicy p = IsBad p.policy_term p.mort p.disc
+
+-- a step that a row or a present value needs has this fault
+abbrev pub HasFault : SavingsPolicy → NumFault → Type 0
+HasFault p fault = Faulty (row_count p) (row p) (pv p) fault
+
+abbrev pub AreItsMonths : SavingsPolicy → ℕ → List Month → Type 0
+AreItsMonths p n months = months ≡ first n (month_of (base_of p))
+
+abbrev pub ArePaid : SavingsPolicy → ℕ → Paid → Type 0
+ArePaid p n paid = AreRows n (row p) paid.rows × (paid.sums ≡ sums_before p n)
+
+-- one of the first n rows has this fault
+abbrev pub RowFails : SavingsPolicy → ℕ → NumFault → Type 0
+RowFails p n fault = (t : ℕ) × ((t < n) × OneFails (row p t) fault)
+
+abbrev pub AreSums : Sums → Flows → Month → Sums → Type 0
+AreSums before flows month sums =
+    (p : SavingsPolicy) (t : ℕ) → before ≡ sums_before p t → flows ≡ flows_of p t → month ≡ month_of (base_of p) t → sums ≡ sums_before p (suc t)
+
+abbrev pub IsInvested : SavingsPolicy → Month → Result ℤ NumFault → Result ℤ NumFault → Type 0
+IsInvested p month account put =
+    (t : ℕ) (av : Figure) → month ≡ month_of (base_of p) t → account ≡ value av → put ≡ value (invested p t av)
+
+abbrev pub IsAccount : SavingsPolicy → ℕ → Growth → Month → Result ℤ NumFault → Account → Type 0
+IsAccount p t growth month av account =
+    growth ≡ growth_of p → month ≡ month_of (base_of p) t → av ≡ value (av_pp p t) → account ≡ account_of p t
+
+abbrev pub AreFlows : SavingsPolicy → Account → Month → Flows → Type 0
+AreFlows p account month flows = (t : ℕ) → account ≡ account_of p t → month ≡ month_of (base_of p) t → flows ≡ flows_of p t
+
+abbrev pub IsRow : Month → Account → Flows → List (Result ℤ NumFault) → Type 0
+IsRow month account flows numbers =
+    (p : SavingsPolicy) (t : ℕ) → month ≡ month_of (base_of p) t → account ≡ account_of p t → flows ≡ flows_of p t → numbers ≡ map value (row p t)
+
+abbrev pub AreValues : Sums → List (Result ℤ NumFault) → Type 0
+AreValues sums numbers = (p : SavingsPolicy) → sums ≡ sums_before p (row_count p) → numbers ≡ map value (pv p)
+
+abbrev pub Pays : SavingsPolicy → List Month → Result Paid PlainRefusal → Type 0
+Pays p months answer = (n : ℕ) → AreItsMonths p n months → IfOk answer (ArePaid p n)
+
+abbrev pub TellsRow : SavingsPolicy → List Month → Result Paid PlainRefusal → Type 0
+TellsRow p months answer = (n : ℕ) (fault : NumFault) → AreItsMonths p n months → IsErrOf answer (Num fault) → RowFails p n fault

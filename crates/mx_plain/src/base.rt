@@ -1,10 +1,9 @@
 //! What both products share: policies in force, deaths, lapses, maturities, expenses and factors, by month.
-ghost use Rattle.std.specs.Prelude.{◌≡◌, ◌+◌, ◌*◌, ◌/◌, ◌<◌, ◌≤◌, suc, ℤ, List, length, IfOk, IsErrOf};
+ghost use Rattle.std.specs.Prelude.{◌≡◌, ◌+◌, ◌*◌, ◌/◌, ◌<◌, ◌≤◌, length, IfOk, IsErrOf};
 ghost use Rattle.mx_plain.specs.declared.projection.PlainRefusal.{PlainRefusal};
 ghost use Rattle.mx_plain.specs.declared.projection.PlainRefusal.TheVariants.{NoMemory};
-ghost use Rattle.mx_plain.specs.Months.{first, duration};
 ghost use Rattle.mx_plain.specs.Base as spec;
-ghost use Rattle.mx_plain.specs.Figures.{Figure, value};
+ghost use Rattle.mx_plain.specs.Figures.{value};
 
 use crate::number::{Number, copied, decimal, larger, minus, monthly, over, plus, times, whole};
 use crate::projection::PlainRefusal;
@@ -79,7 +78,7 @@ fn years(
 ) -> Result<Vec<Year>, PlainRefusal>
     requires mort { count ≤ length mort.now }
     requires disc { count ≤ length disc.now }
-    ensures years { IfOk result (λ years. years.items ≡ first count (spec.year_at mort.now disc.now)) }
+    ensures years { IfOk result (λ it. spec.AreYears mort.now disc.now count it.items) }
     ensures no_memory { (e : PlainRefusal) → IsErrOf result e → e ≡ NoMemory }
 {
     let mut years = Vec::new(alloc);
@@ -92,7 +91,7 @@ fn years(
 
 /// What month 0 begins with.
 fn first_opening(basis: &Basis) -> Opening
-    ensures { (mort disc : List ℤ) → result ≡ spec.opening_of (spec.base basis.now mort disc) 0 }
+    ensures { spec.OpensAt basis.now 0 result }
 {
     Opening {
         pols_if: Ok(basis.policy_count),
@@ -104,7 +103,7 @@ fn first_opening(basis: &Basis) -> Opening
 
 /// The expenses of month `t`: those of acquisition are paid in month 0.
 fn expenses(opening: &Opening, basis: &Basis, t: u32) -> Number
-    ensures { (mort disc : List ℤ) → opening.now ≡ spec.opening_of (spec.base basis.now mort disc) t → result ≡ value (spec.expenses (spec.base basis.now mort disc) t) }
+    ensures { spec.AreExpenses basis.now t opening.now result }
 {
     let yearly = times(&opening.pols_if, &Ok(basis.expense_maint));
     let maint = times(&over(&yearly, &whole(12)), &opening.inflation_factor);
@@ -118,7 +117,7 @@ fn expenses(opening: &Opening, basis: &Basis, t: u32) -> Number
 impl Month {
     /// Month `t`, in a year of these rates.
     fn of(opening: Opening, basis: &Basis, year: &Year, t: u32) -> Month
-        ensures { (mort disc : List ℤ) → opening ≡ spec.opening_of (spec.base basis.now mort disc) t → year.now ≡ spec.year_at mort disc (duration t) → result ≡ spec.month_of (spec.base basis.now mort disc) t }
+        ensures { spec.IsMonth basis.now t opening year.now result }
     {
         let pols_death = times(&opening.pols_if, &year.mort_rate_mth);
         let pols_lapse = times(&minus(&opening.pols_if, &pols_death), &year.lapse_rate_mth);
@@ -135,7 +134,7 @@ impl Month {
     fn following(&self, basis: &Basis, year: &Year, inflation_mth: &Number, t: u32) -> Opening
         requires term { basis.now.policy_term ≤ 80 }
         requires month { t ≤ 960 }
-        ensures { (mort disc : List ℤ) → self.now ≡ spec.month_of (spec.base basis.now mort disc) t → year.now ≡ spec.year_at mort disc (duration t) → inflation_mth.now ≡ value (spec.inflation_mth (spec.base basis.now mort disc)) → result ≡ spec.opening_of (spec.base basis.now mort disc) (suc t) }
+        ensures { spec.IsFollowing basis.now t self.now year.now inflation_mth.now result }
     {
         let in_force = minus(&self.opening.pols_if, &self.pols_lapse);
         let left = minus(&in_force, &self.pols_death);
@@ -152,7 +151,7 @@ impl Month {
 /// The policies that mature in month `t`, of those that are left before it.
 fn maturing(basis: &Basis, t: u32, left: &Number) -> Number
     requires { basis.now.policy_term ≤ 80 }
-    ensures { (mort disc : List ℤ) (n : Figure) → left.now ≡ value n → result ≡ value (spec.maturing (spec.base basis.now mort disc) t n) }
+    ensures { spec.AreMaturing basis.now t left.now result }
 {
     if t == 12 * basis.policy_term {
         return copied(left);
@@ -162,7 +161,7 @@ fn maturing(basis: &Basis, t: u32, left: &Number) -> Number
 
 /// The inflation factor of a month.
 fn inflation_mth(basis: &Basis) -> Number
-    ensures { (mort disc : List ℤ) → result ≡ value (spec.inflation_mth (spec.base basis.now mort disc)) }
+    ensures { spec.IsInflation basis.now result }
 {
     monthly(&plus(&whole(1), &Ok(basis.inflation_rate)))
 }
@@ -177,7 +176,7 @@ pub fn months(
     requires term { basis.now.policy_term ≤ 80 }
     requires mort { length mort.now ≡ basis.now.policy_term + 1 }
     requires disc { length disc.now ≡ basis.now.policy_term + 1 }
-    ensures months { let b = spec.base basis.now mort.now disc.now in IfOk result (λ months. months.items ≡ first (spec.proj_len b) (spec.month_of b)) }
+    ensures months { IfOk result (λ it. spec.AreMonths basis.now mort.now disc.now it.items) }
     ensures no_memory { (e : PlainRefusal) → IsErrOf result e → e ≡ NoMemory }
 {
     let years = years(alloc, mort, disc, basis.policy_term + 1)?;

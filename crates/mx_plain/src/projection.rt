@@ -1,10 +1,8 @@
 //! What a projection gives, and why there is none.
-ghost use Rattle.std.specs.Prelude.{◌≡◌, ◌↔◌, ℤ, map, IfOk, IsErrOf, IsTrue, Ok, Err};
+ghost use Rattle.std.specs.Prelude.{◌≡◌, ◌↔◌, map, IfOk, IsErrOf, IsTrue, Ok, Err};
 ghost use Rattle.std.specs.List.{Contains};
-ghost use Rattle.mx_value.specs.declared.fixed.NumFault.{NumFault};
-ghost use Rattle.mx_plain.specs.declared.projection.PlainRefusal.TheVariants.{BadPolicy, Num, NoMemory};
-ghost use Rattle.mx_plain.specs.Figures.{Figure, value, Fails};
-ghost use Rattle.mx_plain.specs.Outcome.{IsBad};
+ghost use Rattle.mx_plain.specs.declared.projection.PlainRefusal.TheVariants.{BadPolicy, NoMemory};
+ghost use Rattle.mx_plain.specs.Outcome.{FaultIsOfStep, IsBad, NumberStands, Tells};
 
 use crate::number::Number;
 use mx_list::items::Items;
@@ -59,7 +57,7 @@ pub fn is_bad(policy_term: u32, mort: &[Fixed], disc: &[Fixed]) -> bool
 /// The numbers themselves, or the first fault among them.
 pub fn settled(alloc: Global, numbers: &[Number]) -> Result<Items<Fixed>, PlainRefusal>
     ensures numbers { IfOk result (λ settled. numbers.now ≡ map Ok settled) }
-    ensures fault { (fault : NumFault) → IsErrOf result (Num fault) → Contains numbers.now (Err fault) }
+    ensures fault { Tells result (λ fault. Contains numbers.now (Err fault)) }
     ensures policy { ¬ (IsErrOf result BadPolicy) }
 {
     let mut settled = Items::new(alloc);
@@ -75,6 +73,6 @@ pub fn settled(alloc: Global, numbers: &[Number]) -> Result<Items<Fixed>, PlainR
 /// What holds of any figure: it has a number, or the fault of a step whose operands all have numbers; and where it has a
 /// number, no step that it needs has a fault.
 pub fn laws()
-    ensures fault { (figure : Figure) (fault : NumFault) → value figure ≡ Err fault → Fails figure fault }
-    ensures number { (figure : Figure) (fault : NumFault) (x : ℤ) → value figure ≡ Ok x → ¬ (Fails figure fault) }
+    ensures fault { FaultIsOfStep }
+    ensures number { NumberStands }
 {}

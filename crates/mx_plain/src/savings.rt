@@ -1,12 +1,9 @@
 //! The single-premium savings product.
-ghost use Rattle.std.specs.Prelude.{◌≡◌, ◌↔◌, ◌<◌, ℕ, suc, map, IfOk, IsErrOf};
-ghost use Rattle.mx_value.specs.declared.fixed.NumFault.{NumFault};
-ghost use Rattle.mx_plain.specs.declared.projection.PlainRefusal.TheVariants.{BadPolicy, Num};
+ghost use Rattle.std.specs.Prelude.{◌≡◌, ◌↔◌, IfOk, IsErrOf};
+ghost use Rattle.mx_plain.specs.declared.projection.PlainRefusal.TheVariants.{BadPolicy};
 ghost use Rattle.mx_plain.specs.declared.savings.SavingsPolicy.{SavingsPolicy};
-ghost use Rattle.mx_plain.specs.Months.{first};
-ghost use Rattle.mx_plain.specs.Base.{month_of};
-ghost use Rattle.mx_plain.specs.Figures.{Figure, value};
-ghost use Rattle.mx_plain.specs.Outcome.{AreRows, AreNumbers, OneFails, Faulty, IsBad};
+ghost use Rattle.mx_plain.specs.Figures.{value};
+ghost use Rattle.mx_plain.specs.Outcome.{Tells};
 ghost use Rattle.mx_plain.specs.Savings as spec;
 
 use crate::base::{Basis, Month, months};
@@ -112,7 +109,7 @@ fn premium_pp(policy: &SavingsPolicy, t: usize) -> Number
 
 /// What is invested in a month, of an account value with its premium: without the fee and the cost of insurance.
 fn invested(policy: &SavingsPolicy, month: &Month, av: &Number) -> Number
-    ensures { (t : ℕ) (x : Figure) → month.now ≡ month_of (spec.base_of policy.now) t → av.now ≡ value x → result ≡ value (spec.invested policy.now t x) }
+    ensures { spec.IsInvested policy.now month.now av.now result }
 {
     let fee = times(av, &Ok(policy.fee_rate));
     let at_risk = larger(&minus(&Ok(policy.sum_assured), av), &decimal(0));
@@ -129,7 +126,7 @@ impl Account {
         av_pp: Number,
         t: usize,
     ) -> Account
-        ensures { growth.now ≡ spec.growth_of policy.now → month.now ≡ month_of (spec.base_of policy.now) t → av_pp ≡ value (spec.av_pp policy.now t) → result ≡ spec.account_of policy.now t }
+        ensures { spec.IsAccount policy.now t growth.now month.now av_pp result }
     {
         let premium_pp = premium_pp(policy, t);
         let av_in_pp = plus(&av_pp, &times(&premium_pp, &growth.kept));
@@ -147,7 +144,7 @@ impl Account {
 impl Flows {
     /// The payments of a month.
     fn of(policy: &SavingsPolicy, account: &Account, month: &Month) -> Flows
-        ensures { (t : ℕ) → account.now ≡ spec.account_of policy.now t → month.now ≡ month_of (spec.base_of policy.now) t → result ≡ spec.flows_of policy.now t }
+        ensures { spec.AreFlows policy.now account.now month.now result }
     {
         let premiums = times(&account.premium_pp, &month.opening.pols_if);
         let insured = larger(&Ok(policy.sum_assured), &account.av_in_pp);
@@ -186,7 +183,7 @@ impl Sums {
 
     /// With what is paid in a month.
     fn with(&self, flows: &Flows, month: &Month) -> Sums
-        ensures { (p : SavingsPolicy) (t : ℕ) → self.now ≡ spec.sums_before p t → flows.now ≡ spec.flows_of p t → month.now ≡ month_of (spec.base_of p) t → result ≡ spec.sums_before p (suc t) }
+        ensures { spec.AreSums self.now flows.now month.now result }
     {
         Sums {
             pols_if: with_worth(&self.pols_if, &month.opening.pols_if, month),
@@ -202,7 +199,7 @@ impl Sums {
 
 /// The row of a month.
 fn row(month: &Month, account: &Account, flows: &Flows) -> [Number; 9]
-    ensures { (p : SavingsPolicy) (t : ℕ) → month.now ≡ month_of (spec.base_of p) t → account.now ≡ spec.account_of p t → flows.now ≡ spec.flows_of p t → result ≡ map value (spec.row p t) }
+    ensures { spec.IsRow month.now account.now flows.now result }
 {
     [
         copied(&month.opening.pols_if),
@@ -219,7 +216,7 @@ fn row(month: &Month, account: &Account, flows: &Flows) -> [Number; 9]
 
 /// The present values of all months.
 fn present_values(sums: &Sums) -> [Number; 9]
-    ensures { (p : SavingsPolicy) → sums.now ≡ spec.sums_before p (spec.row_count p) → result ≡ map value (spec.pv p) }
+    ensures { spec.AreValues sums.now result }
 {
     let benefits = minus(&minus(&sums.premiums, &sums.claims), &sums.surrenders);
     let left = minus(&minus(&benefits, &sums.maturities), &sums.expenses);
@@ -246,8 +243,8 @@ struct Paid {
 impl Paid {
     /// The rows and sums of these months.
     fn of(alloc: Global, policy: &SavingsPolicy, months: &[Month]) -> Result<Paid, PlainRefusal>
-        ensures rows { (n : ℕ) → months.now ≡ first n (month_of (spec.base_of policy.now)) → IfOk result (λ paid. AreRows n (spec.row policy.now) paid.rows × (paid.sums ≡ spec.sums_before policy.now n)) }
-        ensures fault { (n : ℕ) (fault : NumFault) → months.now ≡ first n (month_of (spec.base_of policy.now)) → IsErrOf result (Num fault) → (t : ℕ) × ((t < n) × OneFails (spec.row policy.now t) fault) }
+        ensures rows { spec.Pays policy.now months.now result }
+        ensures fault { spec.TellsRow policy.now months.now result }
         ensures policy { ¬ (IsErrOf result BadPolicy) }
     {
         let growth = Growth::of(policy);
@@ -273,10 +270,10 @@ impl Paid {
 /// A row has the policies in force, the account value of a policy, premiums, claims, surrenders, maturities, expenses,
 /// commissions and the net cash flow of a month; the present values are theirs at month 0, with 0.0 for the account value.
 pub fn savings(alloc: Global, policy: &SavingsPolicy) -> Result<Projection, PlainRefusal>
-    ensures rows { IfOk result (λ it. AreRows (spec.row_count policy.now) (spec.row policy.now) it.rows) }
-    ensures pv { IfOk result (λ it. AreNumbers (spec.pv policy.now) it.pv) }
-    ensures bad_policy { IsErrOf result BadPolicy ↔ IsBad policy.now.policy_term policy.now.mort policy.now.disc }
-    ensures fault { (fault : NumFault) → IsErrOf result (Num fault) → Faulty (spec.row_count policy.now) (spec.row policy.now) (spec.pv policy.now) fault }
+    ensures rows { IfOk result (λ it. spec.HasRows policy.now it.rows) }
+    ensures pv { IfOk result (λ it. spec.HasValues policy.now it.pv) }
+    ensures bad_policy { IsErrOf result BadPolicy ↔ spec.IsBadPolicy policy.now }
+    ensures fault { Tells result (spec.HasFault policy.now) }
 {
     if is_bad(
         policy.policy_term,

@@ -1,12 +1,8 @@
 //! The term assurance.
-ghost use Rattle.std.specs.Prelude.{◌≡◌, ◌↔◌, ◌<◌, ℕ, suc, map, IfOk, IsErrOf};
-ghost use Rattle.mx_value.specs.declared.fixed.NumFault.{NumFault};
-ghost use Rattle.mx_plain.specs.declared.projection.PlainRefusal.TheVariants.{BadPolicy, Num};
+ghost use Rattle.std.specs.Prelude.{◌≡◌, ◌↔◌, IfOk, IsErrOf};
+ghost use Rattle.mx_plain.specs.declared.projection.PlainRefusal.TheVariants.{BadPolicy};
 ghost use Rattle.mx_plain.specs.declared.term.TermPolicy.{TermPolicy};
-ghost use Rattle.mx_plain.specs.Months.{first};
-ghost use Rattle.mx_plain.specs.Base.{month_of};
-ghost use Rattle.mx_plain.specs.Figures.{value};
-ghost use Rattle.mx_plain.specs.Outcome.{AreRows, AreNumbers, OneFails, Faulty, IsBad};
+ghost use Rattle.mx_plain.specs.Outcome.{Tells};
 ghost use Rattle.mx_plain.specs.Term as spec;
 
 use crate::base::{Basis, Month, months};
@@ -70,7 +66,7 @@ fn basis_of(policy: &TermPolicy) -> Basis
 }
 
 fn claims(policy: &TermPolicy, month: &Month) -> Number
-    ensures { (t : ℕ) → month.now ≡ month_of (spec.base_of policy.now) t → result ≡ value (spec.claims policy.now t) }
+    ensures { spec.AreClaims policy.now month.now result }
 {
     times(&Ok(policy.sum_assured), &month.pols_death)
 }
@@ -78,7 +74,7 @@ fn claims(policy: &TermPolicy, month: &Month) -> Number
 impl Early {
     /// The present values of all months.
     fn of(policy: &TermPolicy, months: &[Month]) -> Early
-        ensures { (n : ℕ) → months.now ≡ first n (month_of (spec.base_of policy.now)) → result ≡ spec.early_before policy.now n }
+        ensures { spec.IsEarly policy.now months.now result }
     {
         let mut early = Early {
             pols_if: decimal(0),
@@ -97,7 +93,7 @@ impl Early {
 
 /// The premium of a policy in a month.
 fn premium_pp(policy: &TermPolicy, early: &Early) -> Number
-    ensures { early.now ≡ spec.early_before policy.now (spec.row_count policy.now) → result ≡ value (spec.premium_pp policy.now) }
+    ensures { spec.IsPremium policy.now early.now result }
 {
     let net = over(&early.claims, &early.pols_if);
     in_cents(&times(&plus(&whole(1), &Ok(policy.loading_prem)), &net))
@@ -105,7 +101,7 @@ fn premium_pp(policy: &TermPolicy, early: &Early) -> Number
 
 /// The commissions of month `t` with these premiums.
 fn commissions(premiums: &Number, t: usize) -> Number
-    ensures { (p : TermPolicy) → premiums.now ≡ value (spec.premiums p t) → result ≡ value (spec.commissions p t) }
+    ensures { spec.AreCommissions t premiums.now result }
 {
     if t / 12 == 0 {
         return copied(premiums);
@@ -116,7 +112,7 @@ fn commissions(premiums: &Number, t: usize) -> Number
 impl Flows {
     /// The payments of month `t`.
     fn of(policy: &TermPolicy, premium: &Number, month: &Month, t: usize) -> Flows
-        ensures { premium.now ≡ value (spec.premium_pp policy.now) → month.now ≡ month_of (spec.base_of policy.now) t → result ≡ spec.flows_of policy.now t }
+        ensures { spec.AreFlows policy.now t premium.now month.now result }
     {
         let premiums = times(premium, &month.opening.pols_if);
         let claims = claims(policy, month);
@@ -146,7 +142,7 @@ impl Sums {
 
     /// With what is paid in a month.
     fn with(&self, flows: &Flows, month: &Month) -> Sums
-        ensures { (p : TermPolicy) (t : ℕ) → self.now ≡ spec.sums_before p t → flows.now ≡ spec.flows_of p t → month.now ≡ month_of (spec.base_of p) t → result ≡ spec.sums_before p (suc t) }
+        ensures { spec.AreSums self.now flows.now month.now result }
     {
         Sums {
             premiums: with_worth(&self.premiums, &flows.premiums, month),
@@ -158,7 +154,7 @@ impl Sums {
 
 /// The row of a month.
 fn row(month: &Month, flows: &Flows) -> [Number; 6]
-    ensures { (p : TermPolicy) (t : ℕ) → month.now ≡ month_of (spec.base_of p) t → flows.now ≡ spec.flows_of p t → result ≡ map value (spec.row p t) }
+    ensures { spec.IsRow month.now flows.now result }
 {
     [
         copied(&month.opening.pols_if),
@@ -172,7 +168,7 @@ fn row(month: &Month, flows: &Flows) -> [Number; 6]
 
 /// The present values of all months.
 fn present_values(early: &Early, sums: &Sums) -> [Number; 6]
-    ensures { (p : TermPolicy) → early.now ≡ spec.early_before p (spec.row_count p) → sums.now ≡ spec.sums_before p (spec.row_count p) → result ≡ map value (spec.pv p) }
+    ensures { spec.AreValues early.now sums.now result }
 {
     let left = minus(&minus(&sums.premiums, &early.claims), &sums.expenses);
     [
@@ -200,8 +196,8 @@ impl Paid {
         premium: &Number,
         months: &[Month],
     ) -> Result<Paid, PlainRefusal>
-        ensures rows { (n : ℕ) → months.now ≡ first n (month_of (spec.base_of policy.now)) → premium.now ≡ value (spec.premium_pp policy.now) → IfOk result (λ paid. AreRows n (spec.row policy.now) paid.rows × (paid.sums ≡ spec.sums_before policy.now n)) }
-        ensures fault { (n : ℕ) (fault : NumFault) → months.now ≡ first n (month_of (spec.base_of policy.now)) → premium.now ≡ value (spec.premium_pp policy.now) → IsErrOf result (Num fault) → (t : ℕ) × ((t < n) × OneFails (spec.row policy.now t) fault) }
+        ensures rows { spec.Pays policy.now premium.now months.now result }
+        ensures fault { spec.TellsRow policy.now premium.now months.now result }
         ensures policy { ¬ (IsErrOf result BadPolicy) }
     {
         let mut rows = Items::new(alloc);
@@ -223,10 +219,10 @@ impl Paid {
 /// A row has the policies in force, premiums, claims, expenses, commissions and the net cash flow of a month; the
 /// present values are theirs at month 0.
 pub fn term(alloc: Global, policy: &TermPolicy) -> Result<Projection, PlainRefusal>
-    ensures rows { IfOk result (λ it. AreRows (spec.row_count policy.now) (spec.row policy.now) it.rows) }
-    ensures pv { IfOk result (λ it. AreNumbers (spec.pv policy.now) it.pv) }
-    ensures bad_policy { IsErrOf result BadPolicy ↔ IsBad policy.now.policy_term policy.now.mort policy.now.disc }
-    ensures fault { (fault : NumFault) → IsErrOf result (Num fault) → Faulty (spec.row_count policy.now) (spec.row policy.now) (spec.pv policy.now) fault }
+    ensures rows { IfOk result (λ it. spec.HasRows policy.now it.rows) }
+    ensures pv { IfOk result (λ it. spec.HasValues policy.now it.pv) }
+    ensures bad_policy { IsErrOf result BadPolicy ↔ spec.IsBadPolicy policy.now }
+    ensures fault { Tells result (spec.HasFault policy.now) }
 {
     if is_bad(
         policy.policy_term,

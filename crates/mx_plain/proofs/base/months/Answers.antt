@@ -1,5 +1,4 @@
-use Rattle.std.proofs.Common.{◌≡◌, ◌<◌, ◌+◌, ◌/◌, ◌++◌, List, [], ◌∷◌, ℤ, pos, length, get_or, sym, ◌∙◌, ap, arith, add-one}
-use Rattle.mx_plain.specs.declared.base.Month.{Month}
+use Rattle.std.proofs.Common.{◌≡◌, ◌+◌, ◌++◌, [], ◌∷◌, length, sym, ◌∙◌, ap, arith, add-one}
 use Rattle.mx_plain.specs.Months.{first, duration}
 use Rattle.mx_plain.specs.Base.{base, year_at, month_of, opening_of, proj_len}
 use Rattle.mx_plain.proofs.FirstMonths.{first-none, first-more, first-length, read-first}

@@ -1,7 +1,7 @@
-use Rattle.std.proofs.Common.{◌≡◌, ◌∙◌, ap, Ok, Result, ℤ}
+use Rattle.std.proofs.Common.{◌∙◌, ap, Ok, Result, ℤ}
 use Rattle.mx_value.specs.declared.fixed.NumFault.{NumFault}
 use Rattle.mx_plain.specs.declared.base.Month.{Month}
-use Rattle.mx_plain.specs.Figures.{joined, Minus, Times, Larger, value}
+use Rattle.mx_plain.specs.Figures.{joined, Minus, Times, Larger}
 use Rattle.mx_plain.proofs.savings.invested.Goals as goal
 
 pub returns : goal.returns

@@ -1,4 +1,4 @@
-use Rattle.std.proofs.Common.{◌≡◌, ◌+◌, ◌∙◌, ℕ, suc, ap, add-one, Result, ℤ}
+use Rattle.std.proofs.Common.{◌≡◌, ◌∙◌, ℕ, suc, ap, add-one, Result, ℤ}
 use Rattle.mx_value.specs.declared.fixed.NumFault.{NumFault}
 use Rattle.mx_plain.specs.declared.base.Month.{Month}
 use Rattle.mx_plain.specs.declared.base.Year.{Year}

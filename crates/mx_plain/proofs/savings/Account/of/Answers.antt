@@ -1,5 +1,4 @@
-use Rattle.std.proofs.Common.{◌≡◌, ◌∙◌, ap, Result, ℤ}
-use Rattle.mx_value.specs.declared.fixed.NumFault.{NumFault}
+use Rattle.std.proofs.Common.{◌≡◌, ◌∙◌, ap}
 use Rattle.mx_plain.specs.declared.savings.Growth.{Growth}
 use Rattle.mx_plain.specs.Figures.{joined, Plus, Times, value}
 use Rattle.mx_plain.specs.Savings.{av_in_pp, av_end_pp, invested}

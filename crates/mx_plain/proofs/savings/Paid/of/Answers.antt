@@ -1,7 +1,6 @@
 use Rattle.std.proofs.Common.{◌≡◌, ◌+◌, ◌<◌, ◌∙◌, ℕ, suc, pos, Ok, refl, length, sym, ap, subst, arith, add-one}
 use Rattle.std.proofs.lemmas.Result.{err_from_is_err_and}
 use Rattle.mx_plain.specs.declared.savings.Account.{Account}
-use Rattle.mx_plain.specs.Months.{first}
 use Rattle.mx_plain.specs.Figures.{value}
 use Rattle.mx_plain.specs.Base.{month_of}
 use Rattle.mx_plain.specs.Outcome.{AreRows}

@@ -3,7 +3,7 @@ use Rattle.mx_plain.specs.Months.{first}
 use Rattle.mx_plain.specs.Figures.{value}
 use Rattle.mx_plain.specs.Base.{month_of}
 use Rattle.mx_plain.specs.Outcome.{AreRows}
-use Rattle.mx_plain.specs.Savings.{base_of, growth_of, av_pp, row, sums_before}
+use Rattle.mx_plain.specs.Savings.{base_of, av_pp, row, sums_before}
 use Rattle.mx_plain.proofs.savings.Paid.of.Given as goal
 
 abbrev pub invariant-loop-t : goal.invariant-loop-t

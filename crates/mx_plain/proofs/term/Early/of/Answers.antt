@@ -1,7 +1,7 @@
-use Rattle.std.proofs.Common.{◌≡◌, ◌+◌, ◌∙◌, ℕ, suc, length, sym, ap, arith, add-one}
+use Rattle.std.proofs.Common.{◌≡◌, ◌∙◌, suc, length, sym, ap, arith, add-one}
 use Rattle.mx_plain.specs.declared.term.Early.{Early}
 use Rattle.mx_plain.specs.declared.base.Month.{Month}
-use Rattle.mx_plain.specs.Months.{first, sum_of}
+use Rattle.mx_plain.specs.Months.{sum_of}
 use Rattle.mx_plain.specs.Base.{month_of, pols_if}
 use Rattle.mx_plain.specs.Term.{base_of, claims, early_before}
 use Rattle.mx_plain.proofs.FirstMonths.{first-length, read-first}

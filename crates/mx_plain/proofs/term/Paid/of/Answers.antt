@@ -1,5 +1,4 @@
-use Rattle.std.proofs.Common.{◌≡◌, ◌+◌, ◌<◌, ◌∙◌, ℕ, length, sym, ap, subst, arith, add-one}
-use Rattle.mx_plain.specs.Months.{first}
+use Rattle.std.proofs.Common.{◌≡◌, ◌<◌, ◌∙◌, ℕ, length, sym, ap, subst, arith, add-one}
 use Rattle.mx_plain.specs.Base.{month_of}
 use Rattle.std.proofs.lemmas.Result.{err_from_is_err_and}
 use Rattle.mx_plain.specs.Outcome.{AreRows}
