@@ -208,7 +208,7 @@ def savings_of(numbers):
 def chosen(policy, at):
     """The months whose rows are held: more of the sample."""
     last = 12 * policy[0]
-    months = [0, 1, 11, 12, 13, last // 2, last - 1, last] if at == 0 else [0, last - 1, last]
+    months = [0, 1, 11, 12, 13, last - 1, last] if at == 0 else [0, last - 1, last]
     return sorted(set(months))
 
 
@@ -256,6 +256,8 @@ def bare(text):
 def main(words):
     if words == ["--check"]:
         return 0 if bare(TARGET.read_text()) == bare(written()) else 1
+    if words:
+        sys.exit("tools/plain_vectors.py [--check]")
     TARGET.write_text(written())
     return 0
 

@@ -17,7 +17,7 @@ use Rattle.mx_model.specs.declared.layers.Layered.TheVariants.{Layers, NotStatic
 use Rattle.mx_model.specs.Records.{Name, Path, CellsRecord, SpaceRecord, ModelRecord}
 use Rattle.mx_model.specs.Layers.{id_of, space_of, child_of, layers}
 use Rattle.mx_model.specs.Binding.{Member, Cells, Reference, Child, or_child, or_other, own_member, first_with}
-use Rattle.mx_model.specs.Lookup.{kind_of, member_in, kind_in, kind_by, IsBoundAt, IsBinding, bound_as}
+use Rattle.mx_model.specs.Lookup.{kind_of, member_in, kind_in, IsBoundAt, IsBinding, bound_as}
 use Rattle.mx_model.specs.Readers.{cells_of, formula_in, allows_in, or_false, reference_in, path_in}
 use Rattle.mx_model.specs.Sound.{HasSpaces, IsFound}
 use Rattle.mx_model.specs.Valid.{Valid}
@@ -179,30 +179,3 @@ bound_cells text name s member b = ap bound_to (b.is ∙ (cells_at text name s b
 
 pub no_cells : (text : ModelRecord) (name : Name) (s : SpaceId) (member : Option Member) → IsBoundAt text name s kind.Reference member → formula_of member ≡ found.Missing
 no_cells text name s member b = ap formula_of (b.is ∙ (reference_at text name s b.of_kind).is)
-
--- ---- what a space has itself
-
-kind_own : (b : Bool) (path : Path) (reference : Option RefValue) (cells : Option CellsRecord) → option_map kind_of (own b path reference cells) ≡ kind_by (is_some (option_map (λ (c : CellsRecord). c.formula) cells)) (is_some reference) b
-kind_own b path reference (Some cells) = refl
-kind_own b path (Some value) None = refl
-kind_own true path None None = refl
-kind_own false path None None = refl
-
-kind_with : (text : ModelRecord) (name : Name) (space : Option SpaceRecord) → option_map kind_of (option_and_then (own_member text name) space) ≡ kind_by (is_some (option_and_then (λ (z : SpaceRecord). option_map (λ (c : CellsRecord). c.formula) (cells_of z name)) space)) (is_some (option_and_then (λ (z : SpaceRecord). lookup (same_name name) z.references) space)) (is_some (option_and_then (λ (z : SpaceRecord). id_of text (z.path ++ name ∷ [])) space))
-kind_with text name None = refl
-kind_with text name (Some z) = kind_own (own_of text name z) z.path (lookup (same_name name) z.references) (lookup (same_name name) z.cells)
-
--- by what its readers find
-pub kind_read : (text : ModelRecord) (name : Name) (s : SpaceId) → kind_in text s name ≡ kind_by (is_some (formula_in text s name)) (is_some (reference_in text s name)) (is_some (child_of text name s))
-kind_read text name s = kind_with text name (space_of text s)
-
-pub kind_cells : (text : ModelRecord) (name : Name) (s : SpaceId) (f : Formula) → Some f ≡ formula_in text s name → Some kind.Cells ≡ kind_in text s name
-kind_cells text name s f e = sym (kind_read text name s ∙ ap (λ (o : Option Formula). kind_by (is_some o) (is_some (reference_in text s name)) (is_some (child_of text name s))) (sym e))
-
-pub kind_reference : (text : ModelRecord) (name : Name) (s : SpaceId) (value : RefValue) → None ≡ formula_in text s name → Some value ≡ reference_in text s name → Some kind.Reference ≡ kind_in text s name
-kind_reference text name s value e r =
-    sym (kind_read text name s ∙ ap (λ (o : Option Formula). kind_by (is_some o) (is_some (reference_in text s name)) (is_some (child_of text name s))) (sym e) ∙ ap (λ (o : Option RefValue). kind_by false (is_some o) (is_some (child_of text name s))) (sym r))
-
-pub kind_child : (text : ModelRecord) (name : Name) (s : SpaceId) (child : Option SpaceId) → None ≡ formula_in text s name → None ≡ reference_in text s name → child ≡ child_of text name s → kind_by false false (is_some child) ≡ kind_in text s name
-kind_child text name s child e r c =
-    sym (kind_read text name s ∙ ap (λ (o : Option Formula). kind_by (is_some o) (is_some (reference_in text s name)) (is_some (child_of text name s))) (sym e) ∙ ap (λ (o : Option RefValue). kind_by false (is_some o) (is_some (child_of text name s))) (sym r) ∙ ap (λ (o : Option SpaceId). kind_by false false (is_some o)) (sym c))

@@ -1,5 +1,5 @@
 -- What layers bind a name to, as a look-up tells it.
-use Rattle.std.specs.Prelude.{◌≡◌, Bool, true, false, ◌<◌, length, Option, Some, None, option_map, option_and_then}
+use Rattle.std.specs.Prelude.{◌≡◌, ◌<◌, length, Option, Some, None, option_map, option_and_then}
 use Rattle.mx_c3.specs.declared.space.SpaceId.{SpaceId}
 use Rattle.mx_model.specs.declared.lookup.Binding.{Binding}
 use Rattle.mx_model.specs.declared.lookup.Binding.TheVariants as bound
@@ -33,13 +33,6 @@ IsBinding text name (bound.CellsHere owner) member = IsBoundAt text name owner k
 IsBinding text name (bound.Ref owner) member = IsBoundAt text name owner kind.Reference member
 IsBinding text name bound.Child member = member ≡ Some Child
 IsBinding text name bound.Missing member = member ≡ None
-
--- what a space has, by whether it has cells, a reference or a child
-abbrev pub kind_by : Bool → Bool → Bool → Option Kind
-kind_by true reference child = Some kind.Cells
-kind_by false true child = Some kind.Reference
-kind_by false false true = Some kind.Child
-kind_by false false false = None
 
 -- the binding to what a space has of this kind
 abbrev pub bound_as : Kind → SpaceId → Binding

@@ -56,7 +56,7 @@ pub const TERM_POLICIES: [[i64; 10]; 6] = [
 ];
 
 // policy, month, row
-pub const TERM_ROWS: [(usize, usize, [i64; 6]); 23] = [
+pub const TERM_ROWS: [(usize, usize, [i64; 6]); 22] = [
     (
         0,
         0,
@@ -115,18 +115,6 @@ pub const TERM_ROWS: [(usize, usize, [i64; 6]); 23] = [
             4528387129,
             0,
             25555266821,
-        ],
-    ),
-    (
-        0,
-        60,
-        [
-            727585772,
-            42134492057,
-            30316100000,
-            3823499768,
-            0,
-            7994892289,
         ],
     ),
     (
@@ -348,7 +336,7 @@ pub const SAVINGS_POLICIES: [[i64; 13]; 6] = [
 ];
 
 // policy, month, row
-pub const SAVINGS_ROWS: [(usize, usize, [i64; 9]); 23] = [
+pub const SAVINGS_ROWS: [(usize, usize, [i64; 9]); 22] = [
     (
         0,
         0,
@@ -422,21 +410,6 @@ pub const SAVINGS_ROWS: [(usize, usize, [i64; 9]); 23] = [
             449888450351,
             0,
             -292202555632069,
-        ],
-    ),
-    (
-        0,
-        60,
-        [
-            70324991812,
-            454956880503336,
-            0,
-            38092692000000,
-            53322548122764,
-            0,
-            369561363342,
-            0,
-            -91784801486106,
         ],
     ),
     (
