@@ -1,4 +1,3 @@
-pub mod Builtin
 pub mod Later
 pub mod Texts
 pub mod Heads
