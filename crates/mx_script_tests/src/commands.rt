@@ -285,13 +285,9 @@ fn write_edit(alloc: Global, out: &mut Vec<u8>, edit: &Edit) -> Result<(), Alloc
             write(out, print(alloc, formula)?.as_slice())
         }
         Edit::NewSpace { parent, name } => write_named(out, b"new space ", parent.as_slice(), name),
-        Edit::DelSpace { path } => {
-            write(out, b"del space ")?;
-            write_path(out, path.as_slice())
-        }
+        Edit::DelSpace { path } => write_named_path(out, b"del space ", path.as_slice()),
         Edit::SetParams { path, params: None } => {
-            write(out, b"no params ")?;
-            write_path(out, path.as_slice())
+            write_named_path(out, b"no params ", path.as_slice())
         }
         Edit::DelCells { path, name } => write_named(out, b"del cells ", path.as_slice(), name),
         Edit::SetAllowNone { path, name, flag } => {
@@ -307,27 +303,45 @@ fn write_edit(alloc: Global, out: &mut Vec<u8>, edit: &Edit) -> Result<(), Alloc
     }
 }
 
+/// A question with its word and its node.
+fn write_question(out: &mut Vec<u8>, word: &[u8], node: &Node) -> Result<(), AllocError> {
+    write(out, word)?;
+    write_node(out, node)
+}
+
+fn write_command(alloc: Global, out: &mut Vec<u8>, command: &Command) -> Result<(), AllocError> {
+    match command {
+        Command::Edit(edit) => write_edit(alloc, out, edit),
+        Command::Eval(node) => write_node(out, node),
+        Command::Precedents(node) => write_question(out, b"precedents ", node),
+        Command::Succs(node) => write_question(out, b"succs ", node),
+        Command::Order(path) => write_named_path(out, b"order ", path.as_slice()),
+    }
+}
+
+fn write_named_path(out: &mut Vec<u8>, word: &[u8], path: &[Label]) -> Result<(), AllocError> {
+    write(out, word)?;
+    write_path(out, path)
+}
+
+fn shown(alloc: Global, command: &Command) -> Result<Vec<u8>, AllocError> {
+    let mut out = Vec::new(alloc);
+    write_command(alloc, &mut out, command)?;
+    Ok(out)
+}
+
+fn refused(alloc: Global, refusal: FormRefusal) -> Result<Vec<u8>, AllocError> {
+    let mut out = Vec::new(alloc);
+    write(&mut out, form_refusal(alloc, refusal)?.as_bytes())?;
+    Ok(out)
+}
+
 /// What a command's text says.
 fn said(alloc: Global, text: &[u8]) -> Result<Vec<u8>, AllocError> {
-    let mut out = Vec::new(alloc);
     match read_command(alloc, &WORDS, text) {
-        Ok(Command::Edit(edit)) => write_edit(alloc, &mut out, &edit)?,
-        Ok(Command::Eval(node)) => write_node(&mut out, &node)?,
-        Ok(Command::Precedents(node)) => {
-            write(&mut out, b"precedents ")?;
-            write_node(&mut out, &node)?;
-        }
-        Ok(Command::Succs(node)) => {
-            write(&mut out, b"succs ")?;
-            write_node(&mut out, &node)?;
-        }
-        Ok(Command::Order(path)) => {
-            write(&mut out, b"order ")?;
-            write_path(&mut out, path.as_slice())?;
-        }
-        Err(refusal) => write(&mut out, form_refusal(alloc, refusal)?.as_bytes())?,
+        Ok(command) => shown(alloc, &command),
+        Err(refusal) => refused(alloc, refusal),
     }
-    Ok(out)
 }
 
 /// The definition of cells by a number in so many parentheses.
