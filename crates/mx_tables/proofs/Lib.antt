@@ -1,3 +1,5 @@
 pub mod Whole
 pub mod Decimals
 pub mod Ends
+pub mod Sound
+pub mod Steps

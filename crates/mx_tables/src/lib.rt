@@ -5,5 +5,6 @@
 
 pub mod laws;
 pub mod number;
+pub mod read;
 pub mod records;
 pub mod write;
