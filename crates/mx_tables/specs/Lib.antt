@@ -1,4 +1,5 @@
 pub mod Fronts
+pub mod Held
 pub mod Numbers
 pub mod Reading
 pub mod Records
