@@ -1,13 +1,11 @@
 -- The text of a table that a program holds says that table.
-use Rattle.std.proofs.Common.{◌≡◌, ◌≢◌, ℕ, ℤ, ◌+◌, ◌-◌, ◌<◌, ◌≤◌, Bool, true, false, not, ◌&&◌, ◌||◌, ◌==◌, nat_lt, nat_le, suc, List, [], ◌∷◌, ◌++◌, length, map, Option, Some, None, Result, Ok, Err, refl, sym, ap, ◌∙◌, subst, inl, inr, arith, is_some}
-use Rattle.std.specs.Prelude.{cond, position, unsigned_abs}
+use Rattle.std.proofs.Common.{◌≡◌, ℕ, ℤ, ◌+◌, ◌-◌, ◌≤◌, Bool, true, false, ◌||◌, ◌==◌, nat_lt, nat_le, List, [], ◌∷◌, ◌++◌, length, map, Option, Some, None, Result, Ok, refl, sym, ap, ◌∙◌, subst, inl, inr, arith}
 use Rattle.std.specs.List.{list_all}
 use Rattle.std.specs.Fmt.{signed_decimal}
 use Rattle.std.proofs.lemmas.List.{length-map}
 use Rattle.std.proofs.lemmas.Bool.{cases_Bool, and_parts, eqb-true, leb-true}
 use Rattle.std.proofs.lemmas.Bool.Decides.{nat_tests}
 use Rattle.csv.specs.Records.{field_at}
-use Rattle.csv.specs.Reading.{strip_bom}
 use Rattle.mx_value.specs.Label.{is_printable}
 use Rattle.mx_value.specs.declared.value.Value.{Value, fold-roll-Value}
 use Rattle.mx_value.specs.declared.value.Value.TheVariants as made
@@ -19,10 +17,9 @@ use Rattle.mx_print.specs.Values.{value_text, fixed_text}
 use Rattle.mx_edit.specs.Rows.{TableRows}
 use Rattle.mx_edit.specs.Table.{is_number, is_column, is_header, are_columns, first_other, place_of_key, number_trouble, key_trouble, or_else, row_trouble, rows_trouble, table_trouble}
 use Rattle.mx_edit.specs.declared.table.TableRefusal.{TableRefusal}
-use Rattle.mx_edit.specs.declared.table.TableRefusal.TheVariants.{TooBig, BadRow, BadNumber}
 use Rattle.mx_tables.specs.Numbers.{number_of, int_of}
-use Rattle.mx_tables.specs.Records.{Records, records_of, text_of, HaveFields, AreWhole}
-use Rattle.mx_tables.specs.Reading.{result_map, key_field, key_said, number_then, numbers_said, RowSaid, row_said, record_said, RowsSaid, with_row, rows_then, rows_said, are_printable, body_said, table_said, table_of}
+use Rattle.mx_tables.specs.Records.{Records, HaveFields, AreWhole}
+use Rattle.mx_tables.specs.Reading.{key_field, numbers_said, row_said, record_said, rows_said, are_printable, table_said, table_of}
 use Rattle.mx_tables.specs.Writing.{row_record, row_records, table_records, table_text}
 use Rattle.mx_tables.specs.Held.{IsInt, IsWithin, AreInts, AreWithin, RowsWithin, IsHeld}
 use Rattle.mx_tables.proofs.Whole.{reads_back, unmarked}

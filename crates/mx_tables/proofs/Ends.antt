@@ -1,6 +1,5 @@
 -- At the end of the keys or of the rows no record is left.
-use Rattle.std.proofs.Common.{◌≡◌, ◌∙◌, ℕ, ℤ, zero, suc, ◌≤◌, List, [], ◌∷◌, ◌++◌, length, drop, refl, sym, ap, append-nil, inl, inr, ◌⊎◌, arith}
-use Rattle.mx_value.specs.declared.value.Value.{Value}
+use Rattle.std.proofs.Common.{◌≡◌, ◌∙◌, ℕ, ℤ, zero, suc, ◌≤◌, List, [], ◌∷◌, ◌++◌, length, drop, refl, ap, append-nil, inl, inr, ◌⊎◌, arith}
 use Rattle.mx_edit.specs.Rows.{TableRows}
 use Rattle.mx_tables.specs.Records.{Records}
 use Rattle.mx_tables.specs.Writing.{row_records, table_records}

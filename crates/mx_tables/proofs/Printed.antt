@@ -1,6 +1,6 @@
 -- The text of a number says that number.
-use Rattle.std.proofs.Common.{◌≡◌, ℕ, ℤ, pos, negsuc, ◌+◌, ◌*◌, ◌-◌, ◌/◌, ◌%◌, ◌^◌, ◌<◌, ◌≤◌, List, [], ◌∷◌, ◌++◌, Bool, true, false, ◌==◌, ◌||◌, ◌&&◌, nat_lt, nat_le, zero, suc, length, take, drop, refl, sym, ap, ◌∙◌, append-nil, length-append, arith, Option, Some, None, unsigned_abs}
-use Rattle.std.specs.Prelude.{option_and_then, cond}
+use Rattle.std.proofs.Common.{◌≡◌, ℕ, ℤ, pos, negsuc, ◌+◌, ◌*◌, ◌-◌, ◌/◌, ◌%◌, ◌^◌, ◌<◌, ◌≤◌, List, [], ◌∷◌, ◌++◌, Bool, true, false, ◌==◌, ◌||◌, ◌&&◌, nat_lt, nat_le, zero, suc, length, refl, sym, ap, ◌∙◌, append-nil, length-append, arith, Some, unsigned_abs}
+use Rattle.std.specs.Prelude.{option_and_then}
 use Rattle.std.specs.Int.{is_negative}
 use Rattle.std.specs.List.{list_all, prefix_len}
 use Rattle.std.specs.Char.{is_ascii_digit}
@@ -15,10 +15,8 @@ use Rattle.mx_lex.specs.Bytes.{first_passes}
 use Rattle.mx_lex.specs.Spans.{digits_from, is_whole}
 use Rattle.mx_lex.proofs.Cases.{both}
 use Rattle.mx_print.specs.Values.{padded, decimals, fixed_text}
-use Rattle.mx_value.specs.declared.value.Value.{Value}
 use Rattle.mx_value.specs.declared.value.Value.TheVariants as made
-use Rattle.mx_tables.specs.Numbers.{number_of, size_of, size_behind, whole_size, decimal_size, raw_of, are_decimals, positive, negative}
-use Rattle.mx_tables.specs.declared.number.Size.{Size}
+use Rattle.mx_tables.specs.Numbers.{number_of, size_of, size_behind, whole_size, decimal_size, raw_of, positive, negative}
 use Rattle.mx_tables.specs.declared.number.Size.TheVariants.{Whole, Decimal}
 use Rattle.mx_tables.specs.Held.{IsInt}
 

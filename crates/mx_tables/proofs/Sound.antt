@@ -1,5 +1,5 @@
 -- What a table's own test says of the rows in front, and the first trouble behind them, is what the records say.
-use Rattle.std.proofs.Common.{◌≡◌, ℕ, ℤ, ◌+◌, ◌-◌, ◌≤◌, Bool, true, false, cond, not, ◌&&◌, ◌||◌, ◌==◌, nat_lt, nat_le, List, [], ◌∷◌, ◌++◌, length, drop, Option, Some, None, Result, Ok, Err, refl, sym, ap, subst, ◌∙◌, inl, inr, arith, length-drop, is_some, if◌then◌else◌}
+use Rattle.std.proofs.Common.{◌≡◌, ℕ, ℤ, ◌+◌, ◌-◌, ◌≤◌, Bool, true, false, cond, ◌==◌, nat_lt, nat_le, List, [], ◌∷◌, ◌++◌, length, drop, Option, Some, None, Result, Ok, Err, refl, sym, ap, subst, ◌∙◌, inl, inr, arith, length-drop, is_some, if◌then◌else◌}
 use Rattle.std.specs.Prelude.{option_and_then}
 use Rattle.std.specs.List.{list_all}
 use Rattle.std.proofs.lemmas.Bool.{cases_Bool, and_parts, eqb-true, leb-true}
@@ -9,7 +9,7 @@ use Rattle.mx_value.specs.declared.value.Value.TheVariants as made
 use Rattle.mx_edit.specs.Rows.{TableRows}
 use Rattle.mx_edit.specs.Table.{is_number, is_header, are_columns, first_other, place_of_key, key_trouble, or_else, row_trouble, rows_trouble, table_trouble, Answers as Tried}
 use Rattle.mx_edit.specs.declared.table.TableRefusal.{TableRefusal}
-use Rattle.mx_edit.specs.declared.table.TableRefusal.TheVariants.{TooBig, BadRow}
+use Rattle.mx_edit.specs.declared.table.TableRefusal.TheVariants.{BadRow}
 use Rattle.mx_tables.specs.Numbers.{number_of, size_of, positive, negative}
 use Rattle.mx_tables.specs.declared.number.Size.{Size}
 use Rattle.mx_tables.specs.declared.number.Size.TheVariants.{Whole, Decimal}

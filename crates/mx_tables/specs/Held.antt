@@ -1,5 +1,5 @@
 -- The tables that a program holds.
-use Rattle.std.specs.Prelude.{◌≡◌, ◌≤◌, ◌<◌, ◌^◌, ℕ, ℤ, pos, negsuc, true, List, [], ◌∷◌, length, None, unsigned_abs}
+use Rattle.std.specs.Prelude.{◌≡◌, ◌≤◌, ◌<◌, ◌^◌, ℤ, pos, negsuc, true, List, [], ◌∷◌, length, None, unsigned_abs}
 use Rattle.mx_value.specs.declared.value.Value.{Value}
 use Rattle.mx_value.specs.declared.value.Value.TheVariants as made
 use Rattle.mx_edit.specs.Rows.{TableRows}

@@ -1,5 +1,5 @@
 -- The table that a text says, or why it says none.
-use Rattle.std.specs.Prelude.{◌≡◌, ℕ, ℤ, Bool, not, ◌&&◌, ◌||◌, ◌==◌, ◌+◌, nat_lt, List, [], ◌∷◌, ◌++◌, length, drop, Option, Some, None, is_some, if◌then◌else◌, Result, Ok, Err, ◌⊎◌}
+use Rattle.std.specs.Prelude.{◌≡◌, ℕ, ℤ, Bool, not, ◌||◌, ◌==◌, ◌+◌, nat_lt, List, [], ◌∷◌, ◌++◌, length, drop, Option, Some, None, is_some, if◌then◌else◌, Result, Ok, Err, ◌⊎◌}
 use Rattle.std.specs.List.{list_all}
 use Rattle.csv.specs.Records.{field_at}
 use Rattle.mx_value.specs.Label.{is_printable}

@@ -2,7 +2,6 @@ use Rattle.std.proofs.Common.{◌≡◌, ◌≤◌, ◌∙◌, length, map, Ok, 
 use Rattle.std.proofs.lemmas.List.{length-map}
 use Rattle.csv.specs.Records.{fields_of}
 use Rattle.mx_edit.specs.Rows.{TableRows}
-use Rattle.mx_tables.specs.Fronts.{front_said}
 use Rattle.mx_tables.proofs.Sound.{front_sizes, made_from, refused, kept}
 use Rattle.mx_tables.proofs.read.read_rows.Goals as goal
 

@@ -1,4 +1,4 @@
-use Rattle.std.proofs.Common.{◌≡◌, ◌∷◌, ◌++◌, map, drop, take}
+use Rattle.std.proofs.Common.{◌≡◌, ◌∷◌, ◌++◌, map, drop}
 use Rattle.csv.specs.Records.{fields_of}
 use Rattle.mx_tables.specs.Writing.{row_records}
 use Rattle.mx_tables.proofs.write.write_table.Given as goal
