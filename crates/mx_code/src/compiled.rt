@@ -62,6 +62,13 @@ impl Compiled {
         self.code.get()
     }
 
+    /// The code of the formula, shared.
+    pub fn share_code(&self) -> Result<Shared<Code>, AllocError>
+        ensures { IfOk result (λ c. (told c ≡ code_of self.now.params self.now.body) × (c.size ≡ length (scope_of self.now.params self.now.body))) }
+    {
+        self.code.copy()
+    }
+
     /// The same formula and code, shared.
     pub fn copy(&self) -> Result<Compiled, AllocError>
         ensures { IfOk result (λ c. c ≡ self.now) }

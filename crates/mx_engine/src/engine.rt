@@ -1,5 +1,5 @@
 //! The engine: a model text, and what is held for it.
-ghost use Rattle.std.specs.Prelude.{◌≡◌, ◌-◌, [], length, IfOk, OnOk, OnErr};
+ghost use Rattle.std.specs.Prelude.{◌≡◌, ◌≤◌, ◌-◌, [], length, IfOk, OnOk, OnErr};
 ghost use Rattle.mx_meaning.specs.Answers.{Answer};
 ghost use Rattle.mx_meaning.specs.Meaning.{bound_node};
 ghost use Rattle.mx_meaning.specs.Model.{define};
@@ -8,10 +8,10 @@ ghost use Rattle.mx_engine.specs.Edits.{applied, refusal_of, IsRefusedBy, first_
 ghost use Rattle.mx_engine.specs.declared.edit.Edit.TheVariants.{SetCells};
 
 use crate::edit::{Edit, EditRefusal, Limit, holds_item};
-use indexmap::IndexMap;
+use mx_code::compiled::Compiled;
 use mx_machine::binding::bound_form;
-use mx_machine::held::Held;
-use mx_machine::machine::{Spare, Waiting, eval};
+use mx_machine::evaluator::{Bounds, Evaluator};
+use mx_machine::machine::eval;
 use mx_machine::steps::Steps;
 use mx_main_cells::text::ModelText;
 use mx_syntax::stmt::Formula;
@@ -45,13 +45,8 @@ fn join_blocks(alloc: Global) {
 pub struct Engine {
     alloc: Global,
     text: ModelText,
-    held: Held,
     limit: usize,
-    waiting: Waiting,
-    spare: Spare,
-    /// Whether values are searched for by recursion: not any more, until the next edit, once a search was given up that had
-    /// found some.
-    searches: bool,
+    work: Evaluator,
 }
 
 impl Model for Engine {
@@ -68,9 +63,9 @@ impl Model for Engine {
 
     ghost use Rattle.mx_engine.specs.Edits.{IsSound};
 
-    ghost view = { λ e. record { text = e.text; held = e.held.entries; limit = e.limit } };
+    ghost view = { λ e. record { text = e.text; held = e.work.held.entries; limit = e.limit } };
 
-    ghost invariant = { λ e. IsSound e.text e.held.entries };
+    ghost invariant = { λ e. IsSound e.text e.work.held.entries };
 }
 
 impl Engine {
@@ -81,11 +76,8 @@ impl Engine {
         Ok(Engine {
             alloc,
             text: ModelText::new(alloc)?,
-            held: IndexMap::new(alloc),
             limit: LIMIT,
-            waiting: IndexMap::new(alloc),
-            spare: Vec::new(alloc),
-            searches: true,
+            work: Evaluator::new(alloc),
         })
     }
 
@@ -118,7 +110,7 @@ impl Engine {
         ensures refused { OnErr result (self.new ≡ self.old) }
         ensures exact { IsRefusedBy result (refusal_of self.old.text (SetCells path.now name.now formula.now)) }
     {
-        let dropped = self.held.len() as u32;
+        let dropped = self.work.held.len() as u32;
         if !is_name(name) {
             return Err(EditRefusal::BadName);
         }
@@ -131,15 +123,13 @@ impl Engine {
         if self.text.count() >= MOST_CELLS && !self.text.has_cells(name) {
             return Err(EditRefusal::TooMany(Limit::Cells));
         }
-        self.text.define(
-            name.copy()?,
-            Formula {
-                params: formula.params.copy()?,
-                body: formula.body.copy()?,
-            },
-        )?;
-        self.held.clear();
-        self.searches = true;
+        let copy = Formula {
+            params: formula.params.copy()?,
+            body: formula.body.copy()?,
+        };
+        let compiled = Compiled::new(self.alloc, copy)?;
+        self.text.define(name.copy()?, compiled)?;
+        self.work.held.clear();
         join_blocks(self.alloc);
         Ok(dropped)
     }
@@ -152,27 +142,21 @@ impl Engine {
     ) -> Result<Value, EvalRefusal>
         ensures right { IsRightState self.new }
         ensures answer { Answer self.old.text self.old.held self.old.limit most_held (bound_node self.old.text node.now) result self.new.held (steps.new - steps.old) }
+        ensures ticks { steps.old ≤ steps.new }
         ensures same { self.new ≡ record self.old { held = self.new.held } }
     {
         let form = bound_form(self.alloc, &self.text, node)?;
-        eval(
-            self.alloc,
-            &self.text,
-            self.limit,
-            MOST_HELD,
-            &form,
-            &mut self.held,
-            &mut self.waiting,
-            &mut self.spare,
-            &mut self.searches,
-            steps,
-        )
+        let bounds = Bounds {
+            limit: self.limit,
+            most: MOST_HELD,
+        };
+        eval(self.alloc, &self.text, bounds, &form, &mut self.work, steps)
     }
 
     /// How many nodes are held.
     pub fn held_count(&self) -> u32
         ensures { result ≡ length self.now.held }
     {
-        self.held.len() as u32
+        self.work.held.len() as u32
     }
 }

@@ -1,25 +1,21 @@
--- The answers of an evaluation that needs no run, the first stack, and what is held after.
-use Rattle.std.proofs.Common.{◌≡◌, ℕ, ◌+◌, ◌-◌, ◌≤◌, List, [], ◌++◌, length, take, inl, inr, refl, sym, ◌∙◌, ap, subst, arith}
+-- The answers of an evaluation.
+use Rattle.std.proofs.Common.{◌≡◌, ℕ, ◌+◌, ◌-◌, ◌≤◌, ◌<◌, List, [], ◌∷◌, ◌++◌, Bool, true, false, Result, Ok, Err, length, reverse, take, inl, inr, refl, sym, ◌∙◌, ap, subst, arith}
 use Rattle.std.proofs.Math.Seq.{take-append_seam}
-use Rattle.std.proofs.lemmas.List.{append-nil, length-append, length-map}
+use Rattle.std.proofs.lemmas.List.{append-nil, length-map}
 use Rattle.mx_value.specs.declared.node.Node.{Node}
+use Rattle.mx_value.specs.declared.value.Value.{Value}
+use Rattle.mx_value.specs.declared.refusal.EvalRefusal.{EvalRefusal}
+use Rattle.mx_value.specs.declared.refusal.EvalRefusal.TheVariants as refusal
 use Rattle.mx_meaning.specs.Model.{Text}
 use Rattle.mx_meaning.specs.Lists.{Has}
-use Rattle.mx_meaning.specs.Runs.{Outcome}
-use Rattle.mx_meaning.specs.Meaning.{Means}
-use Rattle.mx_formula.specs.Tasks.{run_at, env_of}
 use Rattle.mx_meaning.specs.Held.{Entry, nodes_of, IsMemo, Grown, HoldsMore}
-use Rattle.mx_value.specs.declared.value.Value.{Value}
-use Rattle.mx_meaning.specs.Answers.{DeepChain, AtMost, HasRoom, GivesValue}
-use Rattle.mx_meaning.specs.Chains.{Reaches, Itself, Through, HasValue}
-use Rattle.mx_machine.specs.declared.machine.Running.{Running}
-use Rattle.mx_machine.specs.declared.machine.Progress.{Progress}
-use Rattle.mx_machine.specs.Frames.{Waiter, IsTop, IsRunning, IsSettled, IsGood, EndsUnasked, StartsAt, Driven, depth_after}
-use Rattle.mx_meaning.proofs.Meanings.{IsFailure, failure_reached, finished, failure_no_value}
-use Rattle.mx_meaning.proofs.Held.{held_reach, held_value, nodes_cases, nodes_grow}
-use Rattle.mx_machine.specs.Past.{IsRunFor}
-use Rattle.mx_machine.proofs.Standing.{asks_none, stands_first, unasked_shallow}
-use Rattle.mx_machine.proofs.Deep.{no_deep}
+use Rattle.mx_meaning.specs.Answers.{Answer, AtMost, DeepChain, HasRoom}
+use Rattle.mx_meaning.proofs.Held.{held_reach, nodes_grow}
+use Rattle.mx_flight.specs.Flights.{IsSettled}
+use Rattle.mx_flight.proofs.Deep.{no_deep}
+use Rattle.mx_step.specs.Flight.{all_of, no_run}
+use Rattle.mx_machine.specs.declared.evaluator.Evaluator.{Evaluator}
+use Rattle.mx_machine.specs.Frames.{Awaits, Evaluation, HasEnded, Stand, keeps}
 
 -- what is held after has all that count
 at_most : (text : Text) (held after : List Entry) (n : Node) (most : ℕ) → HoldsMore text held n after → length after ≤ most → AtMost text held n most
@@ -28,10 +24,6 @@ at_most text held after n most h le = record {
   few = let e : length (nodes_of after) ≡ length after = length-map after (λ d. d.0) in omega arith;
   whole = λ x c. elim c [ inl a ↦ nodes_grow held h.grown.more after x h.grown.is a | inr b ↦ h.whole x b.0 b.1 ];
 }
-
-unasked_reaches : (text : Text) (n x : Node) (o : Outcome) → EndsUnasked text n o → Reaches text n x → x ≡ n
-unasked_reaches text n x o h Itself = refl
-unasked_reaches text n x o h (Through k a r) = absurd (asks_none text n o h k a)
 
 module _ (text : Text) (held : List Entry) (limit most : ℕ) (n : Node) where
   pub held_answer : IsMemo text held → length held ≤ most → Has (nodes_of held) n → HasRoom text held limit most n × HoldsMore text held n held
@@ -43,19 +35,6 @@ module _ (text : Text) (held : List Entry) (limit most : ℕ) (n : Node) where
       } in
       (record { shallow = no_deep text held limit n (λ rest c d. absurd (d n (inl refl) h)); few = at_most text held held n most more le }, more)
 
-  -- a run of its own found the value
-  pub run_answer : (after : List Entry) (v : Value) → IsMemo text after → length after ≤ most → IsRunFor text limit held after n v → GivesValue text n v × HasRoom text held limit most n × HoldsMore text held n after
-  run_answer after v m le f =
-      let more : HoldsMore text held n after = record {
-        grown = record { more = f.run.news; is = f.run.grown };
-        only = λ x i. elim (nodes_cases held f.run.news after x f.run.grown i) [
-          | inl a ↦ inl a
-          | inr b ↦ inr (f.run.reached x b, held_value text after m.right x i)
-        ];
-        whole = λ x r q. held_reach text after m.right n x f.run.kept r;
-      } in
-      (record { reply = f.reply; means = f.run.means; value = f.value }, record { shallow = no_deep text held limit n f.run.shallow; few = at_most text held after n most more le }, more)
-
   pub zero_deep : (Has (nodes_of held) n → ⊥) → limit ≡ 0 → DeepChain text held limit n n
   zero_deep h e = record {
     chain = [];
@@ -65,52 +44,52 @@ module _ (text : Text) (held : List Entry) (limit most : ℕ) (n : Node) where
     unheld = λ x i k. elim i [ inl q ↦ h (subst (λ y. Has (nodes_of held) y) (sym q) k) | inr z ↦ z ];
   }
 
-  -- a node whose run ends with no ask, and gives no value
-  pub unasked_answer : (o : Outcome) → IsFailure o → length held ≤ most → EndsUnasked text n o → (limit ≡ 0 → ⊥) → Means text n o × HasRoom text held limit most n
-  unasked_answer o fail le h z =
-      let means : Means text n o = finished text n h.events o (failure_reached o fail) h.leads in
-      let more : HoldsMore text held n held = record {
-        grown = record { more = []; is = sym (append-nil held) };
-        only = λ x i. inl i;
-        whole = λ x r v. absurd (failure_no_value text n o fail means (subst (λ y. HasValue text y) (unasked_reaches text n x o h r) v));
-      } in
-      (means, record { shallow = no_deep text held limit n (unasked_shallow text limit n o h 1 (nodes_of held) (omega arith)); few = at_most text held held n most more le })
-
-  pub first_top : (Has (nodes_of held) n → ⊥) → (limit ≡ 0 → ⊥) → (r : Running) → StartsAt text n r → IsRunning text limit held held r.node [] r
-  first_top h z r s = subst (λ m. IsTop text limit held held m [] m r.frame.events (run_at r.next r.frame.tasks.items (env_of m r.frame.scope))) (sym s.node) (record {
-    since = held;
-    waits = (refl, refl);
-    stands = stands_first text limit 1 held n r.frame.events (run_at r.next r.frame.tasks.items (env_of n r.frame.scope)) s.alone s.leads;
-    apart = record {
-      distinct = ((λ q. q), tt);
-      unheld = λ x i q. elim i [ inl r ↦ h (subst (λ y. Has (nodes_of held) y) (sym r) q) | inr r ↦ r ];
-      within = omega arith;
-    };
-  })
-
-  pub settled_room : (after : List Entry) → length after ≤ most → IsSettled text limit held n after → HasRoom text held limit most n
-  settled_room after le s = record { shallow = no_deep text held limit n s.shallow; few = at_most text held after n most s.holds le }
+-- the first node waits for nothing
+pub first_awaits : (q : Evaluation) (work : Evaluator) (m n : Node) (now : ℕ) → m ≡ n → q.asked ≡ n → q.start ≡ work.held.entries → q.before ≡ now → work.waiting.entries ≡ [] → work.stack ≡ no_run → IsMemo q.text work.held.entries → length work.held.entries ≤ q.bounds.most → (Has (nodes_of work.held.entries) n → ⊥) → (q.bounds.limit ≡ 0 → ⊥) → Awaits q work m now
+first_awaits q work m n now e a s b w k memo room new some = record {
+  memo = memo;
+  room = room;
+  runs = [];
+  stand = subst (λ ws. Stand (all_of work.stack) (reverse ws) []) (sym w) tt;
+  waits = (e ∙ sym a, sym s);
+  apart = record { distinct = tt; unheld = λ x z. absurd z; within = omega arith };
+  unheld = λ h. new (subst (λ x. Has (nodes_of work.held.entries) x) e h);
+  fresh = λ z. z;
+  within = above q.bounds.limit some;
+  counted = omega (arith, b, ap length s, ap length w);
+}
+  where
+    above : (l : ℕ) → (l ≡ 0 → ⊥) → 0 < l
+    above l h = grind arith
 
 pub rolled_back : (held after back : List Entry) → Grown held after → back ≡ take (length held) after → back ≡ held
 rolled_back held after back g e = e ∙ ap (λ es. take (length held) es) g.is ∙ take-append_seam held g.more
 
-pub grown_length : (a b : List Entry) → Grown a b → length a ≤ length b
-grown_length a b g = let e : length b ≡ length (a ++ g.more) = ap length g.is in omega (arith, length-append a g.more)
+module _ (q : Evaluation) (after : List Entry) (now : ℕ) where
+  settled_room : IsSettled q.text q.bounds.limit q.start q.asked after → length after ≤ q.bounds.most → HasRoom q.text q.start q.bounds.limit q.bounds.most q.asked
+  settled_room s le = record { shallow = no_deep q.text q.start q.bounds.limit q.asked s.shallow; few = at_most q.text q.start after q.asked q.bounds.most s.holds le }
 
--- an end of the steps from the first run, as it is for the node that was asked
-pub record Ended (text : Text) (limit : ℕ) (start : List Entry) (n : Node) (held : List Entry) (ticks : ℕ) (p : Progress) : Type 0 where
-  pub depth : ℕ
-  pub waiting : List Waiter
-  pub good : IsGood text limit start n held depth waiting p
-  pub runs : ticks + length start ≡ length held + depth_after depth (length waiting) p
+  ticked : (k : ℕ) → q.before ≤ now → now + length q.start ≡ q.before + length after + k → (now - q.before) + length q.start ≡ length after + k
+  ticked k le e = omega (arith, le, e)
 
-ticks_of : (now before ls lh d : ℕ) → now + ls + 1 ≡ before + lh + d → ls ≤ lh → ((now + 1) - before) + ls ≡ lh + d
-ticks_of now before ls lh d e le = omega arith
+  -- what was computed stays held
+  pub kept_answer : (a : Result Value EvalRefusal) → keeps a ≡ true → HasEnded q after now a → Answer q.text q.start q.bounds.limit q.bounds.most q.asked a after (now - q.before)
+  kept_answer (Ok v) k h = (h.ends.0, settled_room h.ends.1 h.room, h.ends.1.holds, (let t = ticked 0 h.least h.ends.2 in omega (arith, t)))
+  kept_answer (Err (refusal.Fault kind n line)) k h = (h.ends.0, settled_room h.ends.1 h.room, h.ends.1.holds, record { count = h.ends.2.count; lost = h.ends.2.lost; runs = ticked h.ends.2.count h.least h.ends.2.counted })
+  kept_answer (Err (refusal.Ring ring)) k h = (h.ends.0, h.ends.1, settled_room h.ends.2 h.room, h.ends.2.holds, record { count = h.ends.3.count; lost = h.ends.3.lost; runs = ticked h.ends.3.count h.least h.ends.3.counted })
+  kept_answer (Err refusal.NoSuch) k h = absurd (cc)
+  kept_answer (Err refusal.WrongCount) k h = absurd (cc)
+  kept_answer (Err (refusal.TooDeep m)) k h = absurd (cc)
+  kept_answer (Err refusal.Full) k h = absurd (cc)
+  kept_answer (Err refusal.NoMemory) k h = absurd (cc)
 
-pub ended : (text : Text) (limit : ℕ) (start : List Entry) (n : Node) (held : List Entry) (before now : ℕ) (p q : Progress) → Driven text limit start n held before now p → p ≡ q → Grown start held → Ended text limit start n held ((now + 1) - before) q
-ended text limit start n held before now p q d e g = record {
-  depth = d.depth;
-  waiting = d.waiting;
-  good = subst (λ x. IsGood text limit start n held d.depth d.waiting x) e d.good.1;
-  runs = ticks_of now before (length start) (length held) (depth_after d.depth (length d.waiting) q) (subst (λ x. now + length start + 1 ≡ before + length held + depth_after d.depth (length d.waiting) x) e d.ticks) (grown_length start held g);
-}
+  -- what was held before is held again
+  pub back_answer : (a : Result Value EvalRefusal) (back : List Entry) → back ≡ q.start → keeps a ≡ false → HasEnded q after now a → Answer q.text q.start q.bounds.limit q.bounds.most q.asked a back (now - q.before)
+  back_answer (Ok v) back e k h = absurd (cc)
+  back_answer (Err (refusal.Fault kind n line)) back e k h = absurd (cc)
+  back_answer (Err (refusal.Ring ring)) back e k h = absurd (cc)
+  back_answer (Err refusal.NoSuch) back e k h = (h.ends.0, settled_room h.ends.1 h.room, e)
+  back_answer (Err refusal.WrongCount) back e k h = (h.ends.0, settled_room h.ends.1 h.room, e)
+  back_answer (Err (refusal.TooDeep m)) back e k h = (h.ends, e)
+  back_answer (Err refusal.Full) back e k h = (h.ends, e)
+  back_answer (Err refusal.NoMemory) back e k h = e

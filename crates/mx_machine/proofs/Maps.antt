@@ -6,7 +6,6 @@ use Rattle.mx_value.specs.Equality.{node_eq}
 use Rattle.mx_value.proofs.NodeSames.{node_decides}
 use Rattle.mx_meaning.specs.Lists.{Has}
 use Rattle.mx_meaning.proofs.Lists.{map_reverse}
-use Rattle.mx_machine.specs.Frames.{Waiter, frame_nodes}
 use Rattle.mx_machine.proofs.Places.{has_reverse}
 
 differs : (n m : Node) (b : Bool) → node_eq n m ≡ b → (m ≡ n → ⊥) → b ≡ false
@@ -24,6 +23,6 @@ pub none_there : {X : Type 0} (o : Option X) → false ≡ is_some o → o ≡ N
 none_there (Some x) e = absurd (cc)
 none_there None e = refl
 
--- a node that is on no frame is no key of those that wait
-pub off_frames : (below : List Waiter) (n : Node) → (Has (frame_nodes (reverse below)) n → ⊥) → Has (map (λ (d : Waiter). d.0) below) n → ⊥
-off_frames below n h i = h (subst (λ ns. Has ns n) (sym (map_reverse (λ (d : Waiter). d.0) below)) (has_reverse (map (λ (d : Waiter). d.0) below) n i))
+-- a node that is not among the last ones first is not among them
+pub off_reversed : {X : Type 0} (below : List (Node × X)) (n : Node) → (Has (map (λ (d : Node × X). d.0) (reverse below)) n → ⊥) → Has (map (λ (d : Node × X). d.0) below) n → ⊥
+off_reversed below n h i = h (subst (λ ns. Has ns n) (sym (map_reverse (λ (d : Node × _). d.0) below)) (has_reverse (map (λ (d : Node × _). d.0) below) n i))

@@ -6,8 +6,7 @@ use Rattle.mx_value.specs.declared.node.Node.{Node}
 use Rattle.mx_value.specs.Equality.{node_eq}
 use Rattle.mx_value.proofs.NodeSames.{node_decides}
 use Rattle.mx_meaning.specs.Lists.{Has}
-use Rattle.mx_meaning.proofs.Lists.{has_left, has_right, reverse_cons, onto, onto_reversed, map_reverse}
-use Rattle.mx_machine.specs.Frames.{Waiter, frame_nodes}
+use Rattle.mx_meaning.proofs.Lists.{has_left, has_right, reverse_cons}
 
 pub has_at : {X : Type 0} (xs : List X) (k : ℕ) (d : X) → k < length xs → Has xs (get_or xs k d)
 has_at [] k d h = absurd (omega arith)
@@ -70,25 +69,3 @@ pub map_drop : {X Y : Type 0} (f : X → Y) (xs : List X) (i : ℕ) → map f (d
 map_drop f xs zero = refl
 map_drop f [] (suc i) = refl
 map_drop f (x ∷ xs) (suc i) = map_drop f xs i
-
--- those that wait as they were pushed, against the same with the last first
-module _ (all below : List Waiter) (f : Waiter) (m : Node) (e : all ≡ below ++ f ∷ []) where
-  pub frames_long : length all ≡ suc (length (reverse below))
-  frames_long = ap length e ∙ (let h : length (reverse below) ≡ length below = length-reverse below in omega (arith, length-append below (f ∷ [])))
-
-  turned : frame_nodes (f ∷ reverse below) ≡ reverse (map (λ (g : Waiter). g.0) all)
-  turned = ap (λ gs. map (λ (g : Waiter). g.0) gs) (sym (popped all below f e)) ∙ map_reverse (λ (g : Waiter). g.0) all
-
-  pub off_stack : (Has (map (λ (g : Waiter). g.0) all) m → ⊥) → Has (frame_nodes (f ∷ reverse below)) m → ⊥
-  off_stack n h = n (has_reversed (map (λ (g : Waiter). g.0) all) m (subst (λ ns. Has ns m) turned h))
-
-  pub on_stack : Has (map (λ (g : Waiter). g.0) all) m → Has (frame_nodes (f ∷ reverse below)) m
-  on_stack h = subst (λ ns. Has ns m) (sym turned) (has_reverse (map (λ (g : Waiter). g.0) all) m h)
-
-  -- at the place of m
-  pub stack_split : (i : ℕ) → i < length (map (λ (g : Waiter). g.0) all) → get_or (map (λ (g : Waiter). g.0) all) i m ≡ m → onto (frame_nodes (f ∷ reverse below)) [] ≡ take i (map (λ (g : Waiter). g.0) all) ++ m ∷ drop (i + 1) (map (λ (g : Waiter). g.0) all)
-  stack_split i l h =
-      ap (λ gs. onto (map (λ (g : Waiter). g.0) gs) []) (sym (popped all below f e))
-      ∙ onto_reversed (λ (g : Waiter). g.0) all
-      ∙ sym (take-append-drop i (map (λ (g : Waiter). g.0) all))
-      ∙ ap (λ ns. take i (map (λ (g : Waiter). g.0) all) ++ ns) (drop_more (map (λ (g : Waiter). g.0) all) i m l ∙ ap (λ x. x ∷ drop (i + 1) (map (λ (g : Waiter). g.0) all)) h)

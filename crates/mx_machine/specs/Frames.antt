@@ -1,153 +1,174 @@
--- What holds of the runs in flight.
-use Rattle.std.specs.Prelude.{◌≡◌, ℕ, suc, ◌+◌, ◌≤◌, List, [], ◌∷◌, ◌++◌, length, map, reverse}
+-- What holds of the runs in flight on the machine's stack.
+use Rattle.std.specs.Prelude.{◌≡◌, ℕ, suc, ◌+◌, ◌≤◌, ◌<◌, List, [], ◌∷◌, ◌++◌, Bool, true, false, Result, Ok, Err, length, map, reverse}
 use Rattle.mx_value.specs.declared.node.Node.{Node}
+use Rattle.mx_value.specs.declared.value.Value.{Value}
+use Rattle.mx_value.specs.declared.refusal.EvalRefusal.{EvalRefusal}
+use Rattle.mx_value.specs.declared.refusal.EvalRefusal.TheVariants as refusal
 use Rattle.mx_meaning.specs.declared.event.Reply.{Reply}
 use Rattle.mx_meaning.specs.declared.event.Event.{Event}
+use Rattle.mx_meaning.specs.declared.event.Event.TheVariants.{Asked}
 use Rattle.mx_meaning.specs.Model.{Text}
-use Rattle.mx_formula.specs.declared.frame.Frame.{Frame}
-use Rattle.mx_machine.specs.declared.machine.Running.{Running}
-use Rattle.mx_machine.specs.declared.machine.Begun.{Begun}
-use Rattle.mx_machine.specs.declared.machine.Begun.TheVariants as begun
-use Rattle.mx_machine.specs.declared.machine.Progress.{Progress}
-use Rattle.mx_machine.specs.declared.machine.Progress.TheVariants.{Going, Done, Fault, NoSuch as NoSuchNode, WrongCount as BadCount, Ring, TooDeep, Full}
-use Rattle.mx_meaning.specs.Lists.{Has, Distinct, Disjoint}
-use Rattle.mx_meaning.specs.Runs.{Run, Ends, Asks, Outcome, Gives, Faults, NoSuch, WrongCount}
-use Rattle.mx_meaning.specs.Meaning.{Leads, body, Means}
-use Rattle.mx_meaning.specs.Chains.{asks_of, Reaches, ReachedFrom, IsFirstChain, IsRing, MeansNothing}
-use Rattle.mx_meaning.specs.Held.{Entry, nodes_of, IsMemo, HoldsMore}
-use Rattle.mx_meaning.specs.Answers.{GivesValue, IsShallow, DeepChain, AreLost, PastMost}
-use Rattle.mx_formula.specs.declared.frame.Stop.{Stop}
-use Rattle.mx_formula.specs.declared.frame.Stop.TheVariants as stop
-use Rattle.mx_formula.specs.Tasks.{cont, env_of, run_at}
+use Rattle.mx_meaning.specs.Lists.{Has}
+use Rattle.mx_meaning.specs.Runs.{Run, Faults, NoSuch, WrongCount}
+use Rattle.mx_meaning.specs.Meaning.{Means}
+use Rattle.mx_meaning.specs.Chains.{IsRing, MeansNothing}
+use Rattle.mx_meaning.specs.Held.{Entry, nodes_of, IsMemo, Grown}
+use Rattle.mx_meaning.specs.Answers.{AreLost, DeepChain, GivesValue, PastMost}
+use Rattle.mx_code.specs.Told.{told}
+use Rattle.mx_code_law.specs.Machine.{Does, State}
+use Rattle.mx_flight.specs.Flights.{AreApart, GoesPast, IsDone, IsSettled, IsTop, Suspended, Waits, frame_nodes}
+use Rattle.mx_step.specs.declared.scope.Scope.{Scope}
+use Rattle.mx_step.specs.declared.stack.Place.{Place}
+use Rattle.mx_step.specs.declared.reached.Stop.{Stop}
+use Rattle.mx_step.specs.declared.reached.Stop.TheVariants as stop
+use Rattle.mx_step.specs.Flight.{Below, Flight, all_of, part_of, with_value}
+use Rattle.mx_step.specs.Homes.{home_of}
+use Rattle.mx_step.specs.Came.{StopsAs}
+use Rattle.mx_machine.specs.declared.evaluator.Frame.{Frame}
+use Rattle.mx_machine.specs.declared.evaluator.Running.{Running}
+use Rattle.mx_machine.specs.declared.evaluator.Evaluator.{Evaluator}
+use Rattle.mx_machine.specs.declared.evaluator.Bounds.{Bounds}
+use Rattle.mx_machine.specs.declared.evaluator.Progress.{Progress}
+use Rattle.mx_machine.specs.declared.evaluator.Progress.TheVariants.{Going, Done}
 
 -- a node that waits, with its frame
 abbrev pub Waiter : Type 0
 Waiter = Node × Frame
 
--- what a frame does with the answer that it waits for
-abbrev pub going : Waiter → Reply → Run
-going f r = cont f.1.tasks.items (env_of f.0 f.1.scope) r.value
+abbrev pub part_at : Place → Below → Flight
+part_at p b = part_of p.pc p.base p.floor b
 
--- How the run of a node stands at this depth: `since` was held as it began, and `held` is held now.
-pub record StandsAt (text : Text) (limit depth : ℕ) (since held : List Entry) (n : Node) (events : List Event) (run : Run) : Type 0 where
-  pub leads : Leads text (body n) events run
-  pub news : List Entry
-  pub grown : held ≡ since ++ news
-  pub reached : (x : Node) → Has (nodes_of news) x → ReachedFrom text (asks_of events) x
-  pub kept : (x : Node) → Has (asks_of events) x → Has (nodes_of held) x
-  pub shallow : (b : Node) (rest : List Node) → Has (asks_of events) b → IsFirstChain text (n ∷ b ∷ rest) → Disjoint (n ∷ b ∷ rest) (nodes_of since) → depth + length (b ∷ rest) ≤ limit
+-- with an answer on its stack the state goes on with what the run does with it
+abbrev pub Resumes : Scope → State → (Reply → Run) → Type 0
+Resumes scope s go = (r : Reply) → Does (told scope.code) (home_of scope) (with_value r.value s) (go r)
 
-abbrev pub frame_nodes : List Waiter → List Node
-frame_nodes fs = map (λ f. f.0) fs
+-- A frame stands for a suspended run: with the answer on its stack, its code goes on with what the run does with it.
+pub record StandsFor (b : Below) (w : Waiter) (f : Suspended) : Type 0 where
+  pub node : f.node ≡ w.0
+  pub own : w.1.scope.node ≡ w.0
+  pub events : f.events ≡ w.1.events
+  pub base : w.1.place.base ≤ length b.values
+  pub floor : w.1.place.floor ≤ length b.locals
+  pub resumes : Resumes w.1.scope (part_at w.1.place b).top f.go
 
--- the frames, the last first, each ask the next one's node, and the last asks m; the longest waits in the run of the asked node
-abbrev pub Waits : Text → ℕ → List Entry → Node → List Waiter → Node → List Entry → Type 0
-Waits text limit start asked [] m since = (m ≡ asked) × (since ≡ start)
-Waits text limit start asked (f ∷ below) m since = (before : List Entry) × StandsAt text limit (suc (length below)) before since f.0 f.1.events (Asks m (going f)) × Waits text limit start asked below f.0 before
+-- frames, the last first, stand for these runs, over what is on the stack
+abbrev pub Stand : Below → List Waiter → List Suspended → Type 0
+Stand b [] [] = Unit {0}
+Stand b (w ∷ ws) (f ∷ fs) = StandsFor b w f × Stand (part_at w.1.place b).below ws fs
+Stand b [] (f ∷ fs) = ⊥
+Stand b (w ∷ ws) [] = ⊥
 
--- the nodes on the stack: each once, none held, and no more than the limit
-pub record AreApart (limit : ℕ) (nodes : List Node) (held : List Entry) : Type 0 where
-  pub distinct : Distinct nodes
-  pub unheld : Disjoint nodes (nodes_of held)
-  pub within : length nodes ≤ limit
+-- what was asked of whom: the text, the bounds, what was held, the node, and how many runs had begun before
+pub record Evaluation : Type 0 where
+  pub text : Text
+  pub bounds : Bounds
+  pub start : List Entry
+  pub asked : Node
+  pub before : ℕ
 
--- The run of a node on top of these frames, the last of them first.
-pub record IsTop (text : Text) (limit : ℕ) (start held : List Entry) (asked : Node) (fs : List Waiter) (n : Node) (events : List Event) (run : Run) : Type 0 where
-  pub since : List Entry
-  pub waits : Waits text limit start asked fs n since
-  pub stands : StandsAt text limit (suc (length fs)) since held n events run
-  pub apart : AreApart limit (n ∷ frame_nodes fs) held
+abbrev pub evaluation : Text → Bounds → List Entry → Node → ℕ → Evaluation
+evaluation text bounds start asked before = record { text = text; bounds = bounds; start = start; asked = asked; before = before }
 
-abbrev pub IsRunning : Text → ℕ → List Entry → List Entry → Node → List Waiter → Running → Type 0
-IsRunning text limit start held asked fs r = IsTop text limit start held asked fs r.node r.frame.events (run_at r.next r.frame.tasks.items (env_of r.node r.frame.scope))
+-- Each run that began since gave a value that is held now, or is one of so many in flight.
+abbrev pub AreCounted : Evaluation → ℕ → List Entry → ℕ → Type 0
+AreCounted q now held flying = now + length q.start ≡ q.before + length held + flying
 
--- A node has its value and is held, above frames of which the last waits for it.
-pub record IsDone (text : Text) (limit : ℕ) (start held : List Entry) (asked : Node) (fs : List Waiter) (n : Node) (reply : Reply) : Type 0 where
-  pub since : List Entry
-  pub waits : Waits text limit start asked fs n since
-  pub means : Means text n (Gives reply)
-  pub news : List Entry
-  pub grown : held ≡ since ++ news
-  pub reached : (x : Node) → Has (nodes_of news) x → Reaches text n x
-  pub kept : Has (nodes_of held) n
-  pub shallow : IsShallow text limit (suc (length fs)) (nodes_of since) n
-  pub apart : AreApart limit (frame_nodes fs) held
+-- This run of the node on top is left, over those that wait.
+pub record Over (q : Evaluation) (work : Evaluator) (r : Running) (run : Run) (now : ℕ) : Type 0 where
+  pub memo : IsMemo q.text work.held.entries
+  pub room : length work.held.entries ≤ q.bounds.most
+  pub below : List Suspended
+  pub stand : Stand work.stack.below (reverse work.waiting.entries) below
+  pub top : IsTop q.text q.bounds.limit q.start work.held.entries q.asked below r.scope.node r.events run
+  pub counted : AreCounted q now work.held.entries (suc (length work.waiting.entries))
 
--- no deep chain, and held is what the answer brings
-pub record IsSettled (text : Text) (limit : ℕ) (start : List Entry) (asked : Node) (held : List Entry) : Type 0 where
-  pub shallow : IsShallow text limit 1 (nodes_of start) asked
-  pub holds : HoldsMore text start asked held
+-- a run is on top, and the state on the stack does what is left of it
+pub record Flies (q : Evaluation) (work : Evaluator) (r : Running) (now : ℕ) : Type 0 where
+  pub run : Run
+  pub does : Does (told r.scope.code) (home_of r.scope) work.stack.top run
+  pub over : Over q work r run now
 
--- what is held, and how the runs stand, after a step of runs of this depth; `waiting` are those that wait, the longest first
-abbrev pub IsGood : Text → ℕ → List Entry → Node → List Entry → ℕ → List Waiter → Progress → Type 0
-IsGood text limit start asked held depth waiting (Going r) = IsRunning text limit start held asked (reverse waiting) r
-IsGood text limit start asked held depth waiting (Done v) = GivesValue text asked v × IsSettled text limit start asked held
-IsGood text limit start asked held depth waiting (Fault k n line) = Means text asked (Faults k n line) × IsSettled text limit start asked held × AreLost text asked depth
-IsGood text limit start asked held depth waiting NoSuchNode = Means text asked NoSuch × IsSettled text limit start asked held
-IsGood text limit start asked held depth waiting BadCount = Means text asked WrongCount × IsSettled text limit start asked held
-IsGood text limit start asked held depth waiting (Ring ring) = IsRing text asked ring × MeansNothing text asked × IsSettled text limit start asked held × AreLost text asked depth
-IsGood text limit start asked held depth waiting (TooDeep m) = DeepChain text start limit asked m
-IsGood text limit start asked held depth waiting Full = PastMost text start asked (length held)
+-- The last of those that wait asks a node that is not held, which is to begin; all that is on the stack is theirs.
+pub record Awaits (q : Evaluation) (work : Evaluator) (m : Node) (now : ℕ) : Type 0 where
+  pub memo : IsMemo q.text work.held.entries
+  pub room : length work.held.entries ≤ q.bounds.most
+  pub runs : List Suspended
+  pub stand : Stand (all_of work.stack) (reverse work.waiting.entries) runs
+  pub waits : Waits q.text q.bounds.limit q.start q.asked runs m work.held.entries
+  pub apart : AreApart q.bounds.limit (frame_nodes runs) work.held.entries
+  pub unheld : Has (nodes_of work.held.entries) m → ⊥
+  pub fresh : Has (frame_nodes runs) m → ⊥
+  pub within : length runs < q.bounds.limit
+  pub counted : AreCounted q now work.held.entries (length work.waiting.entries)
 
--- one step keeps what is held right
-abbrev pub IsStep : Text → ℕ → List Entry → Node → List Entry → ℕ → List Waiter → Progress → Type 0
-IsStep text limit start asked held depth waiting p = IsMemo text held × IsGood text limit start asked held depth waiting p
+-- a node gave its reply and is held, and the last of those that wait is to go on with it
+pub record IsHeld (q : Evaluation) (work : Evaluator) (n : Node) (r : Reply) (now : ℕ) : Type 0 where
+  pub memo : IsMemo q.text work.held.entries
+  pub room : length work.held.entries ≤ q.bounds.most
+  pub below : List Suspended
+  pub stand : Stand work.stack.below (reverse work.waiting.entries) below
+  pub done : IsDone q.text q.bounds.limit q.start work.held.entries q.asked below n r
+  pub counted : AreCounted q now work.held.entries (length work.waiting.entries)
 
--- how many runs are in flight after a step of so many, where so many wait
-abbrev pub depth_after : ℕ → ℕ → Progress → ℕ
-depth_after depth waiting (Going r) = suc waiting
-depth_after depth waiting (Done v) = 0
-depth_after depth waiting (Fault k n line) = depth
-depth_after depth waiting NoSuchNode = depth
-depth_after depth waiting BadCount = depth
-depth_after depth waiting (Ring ring) = depth
-depth_after depth waiting (TooDeep m) = depth
-depth_after depth waiting Full = depth
+-- runs of an evaluation that ends without a value: so many, and each is counted
+pub record AreLostRuns (q : Evaluation) (held : List Entry) (now : ℕ) : Type 0 where
+  pub count : ℕ
+  pub lost : AreLost q.text q.asked count
+  pub counted : AreCounted q now held count
 
--- where no more may be held, so many are
-abbrev pub IsFull : ℕ → List Entry → Progress → Type 0
-IsFull most held (Going r) = Unit {0}
-IsFull most held (Done v) = Unit {0}
-IsFull most held (Fault k n line) = Unit {0}
-IsFull most held NoSuchNode = Unit {0}
-IsFull most held BadCount = Unit {0}
-IsFull most held (Ring ring) = Unit {0}
-IsFull most held (TooDeep m) = Unit {0}
-IsFull most held Full = length held ≡ most
+-- how an evaluation ends: what its answer says of the asked node, of what is held and of the count
+abbrev pub EndsAs : Evaluation → List Entry → ℕ → Result Value EvalRefusal → Type 0
+EndsAs q held now (Ok v) = GivesValue q.text q.asked v × IsSettled q.text q.bounds.limit q.start q.asked held × AreCounted q now held 0
+EndsAs q held now (Err (refusal.Fault k n line)) = Means q.text q.asked (Faults k n line) × IsSettled q.text q.bounds.limit q.start q.asked held × AreLostRuns q held now
+EndsAs q held now (Err (refusal.Ring ring)) = IsRing q.text q.asked ring × MeansNothing q.text q.asked × IsSettled q.text q.bounds.limit q.start q.asked held × AreLostRuns q held now
+EndsAs q held now (Err refusal.NoSuch) = Means q.text q.asked NoSuch × IsSettled q.text q.bounds.limit q.start q.asked held
+EndsAs q held now (Err refusal.WrongCount) = Means q.text q.asked WrongCount × IsSettled q.text q.bounds.limit q.start q.asked held
+EndsAs q held now (Err (refusal.TooDeep m)) = DeepChain q.text q.start q.bounds.limit q.asked m
+EndsAs q held now (Err refusal.Full) = PastMost q.text q.start q.asked q.bounds.most
+EndsAs q held now (Err refusal.NoMemory) = Unit {0}
 
--- where the steps from a run ended, with so many runs in flight: each run that began gave a value that is held now, or is in flight
-pub record Driven (text : Text) (limit : ℕ) (start : List Entry) (asked : Node) (held : List Entry) (before now : ℕ) (p : Progress) : Type 0 where
-  pub depth : ℕ
-  pub waiting : List Waiter
-  pub good : IsStep text limit start asked held depth waiting p
-  pub ticks : now + length start + 1 ≡ before + length held + depth_after depth (length waiting) p
+-- an end, with what is held then
+pub record HasEnded (q : Evaluation) (held : List Entry) (now : ℕ) (answer : Result Value EvalRefusal) : Type 0 where
+  pub memo : IsMemo q.text held
+  pub room : length held ≤ q.bounds.most
+  pub grown : Grown q.start held
+  pub least : q.before ≤ now
+  pub ends : EndsAs q held now answer
 
--- the run of a node ends so, with no ask
-pub record EndsUnasked (text : Text) (n : Node) (o : Outcome) : Type 0 where
-  pub events : List Event
-  pub alone : asks_of events ≡ []
-  pub leads : Leads text (body n) events (Ends o)
+-- after this answer what was computed stays held
+abbrev pub keeps : Result Value EvalRefusal → Bool
+keeps (Ok v) = true
+keeps (Err (refusal.Fault k n line)) = true
+keeps (Err (refusal.Ring ring)) = true
+keeps (Err e) = false
 
--- the run of a node stands where it has asked none
-pub record StartsAt (text : Text) (n : Node) (r : Running) : Type 0 where
-  pub node : r.node ≡ n
-  pub alone : asks_of r.frame.events ≡ []
-  pub leads : Leads text (body n) r.frame.events (run_at r.next r.frame.tasks.items (env_of n r.frame.scope))
+-- how an evaluation stands after a step
+abbrev pub Flew : Evaluation → Evaluator → ℕ → Result Progress EvalRefusal → Type 0
+Flew q work now (Ok (Going r)) = Flies q work r now
+Flew q work now (Ok (Done v)) = HasEnded q work.held.entries now (Ok v)
+Flew q work now (Err e) = HasEnded q work.held.entries now (Err e)
 
--- how a node begins
-abbrev pub Begins : Text → Node → Begun → Type 0
-Begins text n (begun.Running r) = StartsAt text n r
-Begins text n begun.NoSuch = EndsUnasked text n NoSuch
-Begins text n begun.WrongCount = EndsUnasked text n WrongCount
+-- a node was asked by the run on top, which waits for it, or it can't
+abbrev pub Waited : Evaluation → Evaluator → Node → ℕ → Result (Unit {0}) EvalRefusal → Type 0
+Waited q work m now (Ok u) = Awaits q work m now
+Waited q work m now (Err e) = HasEnded q work.held.entries now (Err e)
+
+-- the rest of a run where it stops, past nodes that are held
+pub record PassesTo (text : Text) (held : List Entry) (scope : Scope) (run : Run) (olds news : List Event) (at : Stop) (s : State) : Type 0 where
+  pub rest : Run
+  pub past : GoesPast text scope.node held run olds news rest
+  pub stops : StopsAs (told scope.code) (home_of scope) rest at s
 
 -- a run stops at no held node
 abbrev pub IsNew : List Entry → Stop → Type 0
-IsNew held (stop.Value v) = Unit {0}
-IsNew held (stop.Ask m) = Has (nodes_of held) m → ⊥
-IsNew held (stop.Fault k) = Unit {0}
+IsNew held (stop.Gives v) = Unit {0}
+IsNew held (stop.Faults k line) = Unit {0}
+IsNew held (stop.Asks m) = Has (nodes_of held) m → ⊥
 
--- the formula runs that a beginning counts
-abbrev pub runs_begun : Begun → ℕ
-runs_begun (begun.Running r) = 1
-runs_begun begun.NoSuch = 0
-runs_begun begun.WrongCount = 0
+-- a held node was asked, and gave what is held
+pub record IsAnswered (held : List Entry) (m : Node) (olds news : List Event) (v : Value) : Type 0 where
+  pub entry : Entry
+  pub among : Has held entry
+  pub node : entry.0 ≡ m
+  pub is : news ≡ olds ++ Asked m entry.1.reply ∷ []
+  pub value : v ≡ entry.1.reply.value

@@ -1,3 +1,2 @@
 pub mod Frames
-pub mod Openings
-pub mod Past
+pub mod Begun

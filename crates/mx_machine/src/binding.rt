@@ -3,10 +3,10 @@ ghost use Rattle.std.specs.Prelude.{◌≡◌, IfOk};
 ghost use Rattle.mx_meaning.specs.Expressions.{path_of};
 ghost use Rattle.mx_meaning.specs.Meaning.{bound_node, cell_at};
 
-use mx_formula::locals::copy_values;
 use mx_list::items::Items;
 use mx_main_cells::text::ModelText;
 use mx_syntax::bind::{BindRefusal, bind};
+use mx_value::copies::copy_items;
 use mx_value::label::Label;
 use mx_value::node::Node;
 use mx_value::value::{Addr, Value};
@@ -36,14 +36,11 @@ fn bound_cell(
     let Some(source) = text.source_of(alloc, at)? else {
         return node.copy(alloc);
     };
-    let Some(formula) = text.formula_at(&source, name) else {
+    let Some(compiled) = text.formula_at(&source, name) else {
         return node.copy(alloc);
     };
-    match bind(
-        alloc,
-        formula.params.as_slice(),
-        copy_values(alloc, arguments)?,
-    ) {
+    let params = compiled.formula().params.as_slice();
+    match bind(alloc, params, copy_items(alloc, arguments)?) {
         Ok(bound) => Ok(Node::Cell(at.copy()?, name.copy()?, bound)),
         Err(BindRefusal::WrongCount) => node.copy(alloc),
         Err(BindRefusal::NoMemory) => Err(AllocError),

@@ -1,11 +1,10 @@
-//! Evaluation by recursion, and on an explicit stack where that is given up: the runs in flight, and what is held.
+//! Evaluation: formulas' code is run on one explicit stack, and what it gives is held.
 #![tactic(auto)]
 
+mod begin;
 pub mod binding;
-pub mod held;
-mod known;
+pub mod evaluator;
+mod held;
 pub mod machine;
-mod opening;
-mod search;
 mod sought;
 pub mod steps;

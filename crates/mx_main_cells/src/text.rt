@@ -6,21 +6,21 @@ ghost use Rattle.mx_meaning.specs.Model.{main_path, define, formula_at};
 ghost use Rattle.mx_meaning.specs.Expressions.{path_of};
 
 use indexmap::IndexMap;
+use mx_code::compiled::Compiled;
 use mx_list::list::List;
-use mx_syntax::stmt::Formula;
 use mx_value::label::Label;
 use mx_value::node::Path;
 use mx_value::value::{Addr, Segment};
 use std::alloc::{AllocError, Global};
 use std::marker::Model;
 
-/// Cells by name, in order of first definition.
+/// Cells by name, in order of first definition, with the code of their formulas beside these.
 #[derive(Drop)]
 pub struct ModelText {
     /// The name of the one space, and its path.
     main: Label,
     path: Path,
-    cells: IndexMap<Label, Formula>,
+    cells: IndexMap<Label, Compiled>,
 }
 
 impl Model for ModelText {
@@ -93,8 +93,8 @@ impl ModelText {
         names_of(alloc, at)
     }
 
-    /// The formula of the cells that a path binds to a name.
-    pub fn formula_at(&self, path: &Path, name: &Label) -> Option<&Formula>
+    /// The formula of the cells that a path binds to a name, with its code.
+    pub fn formula_at(&self, path: &Path, name: &Label) -> Option<&Compiled>
         ensures { option_copied result ≡ formula_at self.now path.now name.now }
     {
         if self.has_path(path) {
@@ -117,7 +117,7 @@ impl ModelText {
     }
 
     /// Defines cells. Cells that are there keep their place.
-    pub fn define(&mut self, name: Label, formula: Formula) -> Result<(), AllocError>
+    pub fn define(&mut self, name: Label, formula: Compiled) -> Result<(), AllocError>
         ensures ok { OnOk result (self.new ≡ define self.old name formula) }
         ensures err { OnErr result (self.new ≡ self.old) }
     {

@@ -1,14 +1,12 @@
 //! What operators give, and what values count as: whole numbers, and true or false.
-ghost use Rattle.std.specs.Prelude.{◌≡◌, ◌+◌, ◌<◌, ◌*ℤ◌, ◌≢◌, pos, Ok, drop, length};
+ghost use Rattle.std.specs.Prelude.{◌≡◌, ◌*ℤ◌, ◌≢◌, pos, Ok};
 ghost use Rattle.mx_value.specs.Rounding.{floor_of, rest_of};
 ghost use Rattle.mx_value.specs.declared.value.Value.{Value};
 ghost use Rattle.mx_syntax.specs.declared.expr.ProductOp.TheVariants.{Floor, Rem};
-ghost use Rattle.mx_meaning.specs.Operators.{whole_of, added, multiplied, changed, compared, product_of, order_of, sum_of, truth, denied, denied_truth, sign_of, signed, with_sign};
+ghost use Rattle.mx_meaning.specs.Operators.{whole_of, added, multiplied, compared, product_of, order_of, sum_of, truth, denied, denied_truth, sign_of, with_sign};
 ghost use Rattle.mx_whole_ops.specs.Fitting.{Fitting};
 
-use mx_list::list::List;
 use mx_syntax::expr::{CmpOp, ProductOp, Sign, SumOp};
-use mx_syntax::stmt::ArithOp;
 use mx_value::fault::FaultKind;
 use mx_value::rounding::{div_floor, mod_floor};
 use mx_value::value::Value;
@@ -126,17 +124,6 @@ fn remainder(a: i64, b: i64) -> Result<Value, FaultKind>
     Ok(Value::Int(rest_number(a, b)))
 }
 
-/// What a statement that changes a local makes of its value.
-pub fn change(op: ArithOp, old: &Value, value: &Value) -> Result<Value, FaultKind>
-    ensures { result ≡ changed op old.now value.now }
-{
-    match op {
-        ArithOp::Add => add(SumOp::Plus, old, value),
-        ArithOp::Sub => add(SumOp::Minus, old, value),
-        ArithOp::Mul => multiply(ProductOp::Times, old, value),
-    }
-}
-
 pub fn compare(op: CmpOp, left: &Value, right: &Value) -> Result<bool, FaultKind>
     ensures { result ≡ compared op left.now right.now }
 {
@@ -201,32 +188,8 @@ fn turned(count: u32, given: bool) -> bool
     holds
 }
 
-/// A value with signs before it.
-pub fn sign(signs: &List<Sign>, value: Value) -> Result<Value, FaultKind>
-    ensures { result ≡ signed signs.now value }
-{
-    let mut total = value;
-    for i in 0..signs.len() {
-        match sign_at(signs, signs.len() - 1 - i, &total) {
-            Ok(next) => total = next,
-            Err(kind) => return Err(kind),
-        }
-    }
-    Ok(total)
-}
-
-/// The sign at this place before a value that has the signs behind it.
-fn sign_at(signs: &List<Sign>, at: usize, total: &Value) -> Result<Value, FaultKind>
-    requires { at < length signs.now }
-    ensures { (v : Value) → signed (drop (at + 1) signs.now) v ≡ Ok total.now → result ≡ signed (drop at signs.now) v }
-{
-    let Some(sign) = signs.get(at) else {
-        return Err(FaultKind::TypeMismatch);
-    };
-    sign_once(*sign, total)
-}
-
-fn sign_once(sign: Sign, value: &Value) -> Result<Value, FaultKind>
+/// A value with a sign before it.
+pub fn sign(sign: Sign, value: &Value) -> Result<Value, FaultKind>
     ensures { result ≡ with_sign sign (Ok value.now) }
 {
     let Some(n) = number(value) else {

@@ -1,29 +1,45 @@
-use Rattle.std.proofs.Common.{◌≡◌, refl, sym, subst, ◌∙◌}
-use Rattle.mx_value.specs.declared.node.Node.{Node}
-use Rattle.mx_meaning.specs.Lists.{Has}
-use Rattle.mx_meaning.specs.Held.{nodes_of}
-use Rattle.mx_meaning.specs.Runs.{NoSuch as NoSuchNode, WrongCount as BadCount}
-use Rattle.mx_machine.specs.declared.machine.Begun.{Begun}
-use Rattle.mx_machine.specs.Frames.{Begins, StartsAt, EndsUnasked}
-use Rattle.mx_machine.proofs.Evals.{unasked_answer, first_top}
+use Rattle.std.proofs.Common.{◌≡◌, ◌∙◌, ℕ, Ok, Err, refl, sym, subst, rules, arith}
+use Rattle.std.proofs.lemmas.Grind.{common_steps}
+use Rattle.std.specs.Prelude.{Result}
+use Rattle.mx_value.specs.declared.value.Value.{Value}
+use Rattle.mx_value.specs.declared.refusal.EvalRefusal.{EvalRefusal}
+use Rattle.mx_machine.specs.declared.evaluator.Evaluator.{Evaluator}
+use Rattle.mx_machine.specs.declared.evaluator.Progress.{Progress}
+use Rattle.mx_machine.specs.Frames.{Awaits, Evaluation, Flew, HasEnded, evaluation}
+use Rattle.mx_machine.proofs.Evals.{first_awaits}
+use Rattle.mx_machine.proofs.Flown.{over_broken}
+use Rattle.mx_machine.proofs.Waits.{begun_flies, not_begun}
 use Rattle.mx_machine.proofs.machine.evaluate.Goals as goal
 
-pub settle-requires-clause-running : goal.settle-requires-clause-running
-settle-requires-clause-running g c =
-    let same : c.in_ok-asked.asked ≡ c.args.node.now = c.in_ok-asked.ensures ∙ c.in_ok-copy.ensures in
-    let s : StartsAt c.args.text.now c.in_ok-asked.asked c.in-Running.first = subst (λ (b : Begun). Begins c.args.text.now c.in_ok-asked.asked b) c.in-Running.is c.in_ok-begin.ensures.begins in
-    first_top c.args.text.now c.args.held.now.entries c.args.limit c.args.most c.in_ok-asked.asked (subst (λ (n : Node). Has (nodes_of c.args.held.now.entries) n → ⊥) (sym same) c.requires.new) c.requires.some c.in-Running.first s
+pub returns-in_err-running : goal.returns-in_err-running
+returns-in_err-running g c =
+    let q : Evaluation = evaluation c.args.text.now c.args.bounds c.args.work.now.held.entries c.args.node.now c.args.steps.now in
+    let work : Evaluator = record { held = c.args.work.now.held; waiting = c.clear.new.self; stack = c.clear-2.new.self } in
+    let after : Evaluator = record { held = c.args.work.now.held; waiting = c.clear.new.self; stack = c.begin.new.stack } in
+    let a : Awaits q work c.in_ok-asked.asked c.args.steps.now = first_awaits q work c.in_ok-asked.asked c.args.node.now c.args.steps.now (c.in_ok-asked.ensures ∙ c.in_ok-copy.ensures) refl refl refl c.clear.ensures.empty c.clear-2.ensures c.requires.memo c.requires.room c.requires.new c.requires.some in
+    let w : HasEnded q c.args.work.now.held.entries c.args.steps.now (Err c.in_err-running.field-0.0) = not_begun q work after c.in_ok-asked.asked c.args.steps.now c.in_err-running.field-0.0 refl a c.in_err-running.ensures.begins in
+    subst (λ (n : ℕ). HasEnded q c.args.work.now.held.entries n c.from_residual-in_err-running.result) (sym c.in_err-running.ensures.same)
+    (subst (λ (x : Result Value EvalRefusal). HasEnded q c.args.work.now.held.entries c.args.steps.now x) (sym (let e : c.from_residual-in_err-running.result ≡ Err c.in_err-running.field-0.0 = first_of (search rules, grind (arith, common_steps)) in e)) w)
 
-pub returns-in-NoSuch-clause-answer : goal.returns-in-NoSuch-clause-answer
-returns-in-NoSuch-clause-answer g c =
-    let same : c.in_ok-asked.asked ≡ c.args.node.now = c.in_ok-asked.ensures ∙ c.in_ok-copy.ensures in
-    let s : EndsUnasked c.args.text.now c.args.node.now NoSuchNode = subst (λ (n : Node). EndsUnasked c.args.text.now n NoSuchNode) same (subst (λ (b : Begun). Begins c.args.text.now c.in_ok-asked.asked b) c.in-NoSuch.is c.in_ok-begin.ensures.begins) in
-    let a = unasked_answer c.args.text.now c.args.held.now.entries c.args.limit c.args.most c.args.node.now NoSuchNode tt c.requires.room s c.requires.some in
-    (a.0, a.1, refl)
+pub loop-init : goal.loop-init
+loop-init g c =
+    let q : Evaluation = evaluation c.args.text.now c.args.bounds c.args.work.now.held.entries c.args.node.now c.args.steps.now in
+    let work : Evaluator = record { held = c.args.work.now.held; waiting = c.clear.new.self; stack = c.clear-2.new.self } in
+    let after : Evaluator = record { held = c.args.work.now.held; waiting = c.clear.new.self; stack = c.begin.new.stack } in
+    let a : Awaits q work c.in_ok-asked.asked c.args.steps.now = first_awaits q work c.in_ok-asked.asked c.args.node.now c.args.steps.now (c.in_ok-asked.ensures ∙ c.in_ok-copy.ensures) refl refl refl c.clear.ensures.empty c.clear-2.ensures c.requires.memo c.requires.room c.requires.new c.requires.some in
+    begun_flies q work after c.in_ok-asked.asked c.args.steps.now c.begin.new.steps c.in_ok-running.running c.in_ok-running.ensures.ticks refl refl a c.in_ok-running.ensures.begins
 
-pub returns-in-WrongCount-clause-answer : goal.returns-in-WrongCount-clause-answer
-returns-in-WrongCount-clause-answer g c =
-    let same : c.in_ok-asked.asked ≡ c.args.node.now = c.in_ok-asked.ensures ∙ c.in_ok-copy.ensures in
-    let s : EndsUnasked c.args.text.now c.args.node.now BadCount = subst (λ (n : Node). EndsUnasked c.args.text.now n BadCount) same (subst (λ (b : Begun). Begins c.args.text.now c.in_ok-asked.asked b) c.in-WrongCount.is c.in_ok-begin.ensures.begins) in
-    let a = unasked_answer c.args.text.now c.args.held.now.entries c.args.limit c.args.most c.args.node.now BadCount tt c.requires.room s c.requires.some in
-    (a.0, a.1, refl)
+pub returns-in_err-next : goal.returns-in_err-next
+returns-in_err-next g c =
+    let q : Evaluation = evaluation c.args.text.now c.args.bounds c.args.work.now.held.entries c.args.node.now c.args.steps.now in
+    let w : HasEnded q c.step.new.work.held.entries c.step.new.steps (Err c.in_err-next.field-0.0) = c.in_err-next.ensures c.args.work.now.held.entries c.args.node.now c.args.steps.now c.loop.invariant in
+    subst (λ (x : Result Value EvalRefusal). HasEnded q c.step.new.work.held.entries c.step.new.steps x) (sym (let e : c.from_residual-in_err-next.result ≡ Err c.in_err-next.field-0.0 = first_of (search rules, grind (arith, common_steps)) in e)) w
+
+pub returns-in-Done : goal.returns-in-Done
+returns-in-Done g c =
+    let q : Evaluation = evaluation c.args.text.now c.args.bounds c.args.work.now.held.entries c.args.node.now c.args.steps.now in
+    subst (λ (p : Progress). Flew q c.step.new.work c.step.new.steps (Ok p)) c.in-Done.is (c.in_ok-next.ensures c.args.work.now.held.entries c.args.node.now c.args.steps.now c.loop.invariant)
+
+pub returns : goal.returns
+returns g c =
+    over_broken (evaluation c.args.text.now c.args.bounds c.args.work.now.held.entries c.args.node.now c.args.steps.now) c.loop.steps c.loop.work c.loop.running c.loop.invariant.run c.loop.invariant.over

@@ -1,88 +1,105 @@
-use Rattle.std.proofs.Common.{◌≡◌, ◌+◌, ◌∙◌, suc, length, List, refl, sym, subst, ap, reverse, inl, arith, []}
-use Rattle.std.proofs.lemmas.List.{append-nil}
-use Rattle.std.proofs.lemmas.Result.{IfOk-weaker}
+use Rattle.std.proofs.Common.{◌≡◌, ◌∙◌, ℕ, List, Err, refl, sym, ap, subst, rules, arith}
+use Rattle.std.proofs.lemmas.Grind.{common_steps}
+use Rattle.std.specs.Prelude.{Result}
 use Rattle.mx_value.specs.declared.node.Node.{Node}
-use Rattle.mx_formula.specs.declared.frame.Stop.{Stop}
-use Rattle.mx_formula.specs.declared.frame.Stop.TheVariants as stop
+use Rattle.mx_value.specs.declared.refusal.EvalRefusal.TheVariants as refusal
+use Rattle.mx_meaning.specs.Held.{nodes_of}
 use Rattle.mx_meaning.specs.Lists.{Has}
-use Rattle.mx_meaning.specs.Held.{Entry, Grown, IsMemo, nodes_of}
-use Rattle.mx_machine.specs.declared.machine.Progress.{Progress}
-use Rattle.mx_machine.specs.declared.machine.Progress.TheVariants.{Fault}
-use Rattle.mx_formula.specs.Tasks.{run_at, env_of, stopped_at}
-use Rattle.mx_machine.specs.Frames.{IsGood, IsStep, IsTop, depth_after}
-use Rattle.mx_machine.proofs.Past.{top_past}
-use Rattle.mx_machine.proofs.Tops.{lost_reversed, top_at, fault_top}
+use Rattle.mx_meaning.specs.Runs.{Asks, Ends, Faults, Run, gives}
+use Rattle.mx_code.specs.Told.{told}
+use Rattle.mx_step.specs.declared.reached.Stop.{Stop}
+use Rattle.mx_step.specs.declared.reached.Stop.TheVariants as stop
+use Rattle.mx_step.specs.declared.scope.Scope.{Scope}
+use Rattle.mx_step.specs.Homes.{home_of}
+use Rattle.mx_step.specs.Came.{StopsAs}
+use Rattle.mx_machine.specs.declared.evaluator.Evaluator.{Evaluator}
+use Rattle.mx_machine.specs.declared.evaluator.Progress.{Progress}
+use Rattle.mx_machine.specs.declared.evaluator.Running.{Running}
+use Rattle.mx_value.specs.declared.refusal.EvalRefusal.{EvalRefusal}
+use Rattle.mx_machine.specs.Frames.{Evaluation, Flew, Flies, HasEnded, IsNew, Over, PassesTo, Waited, evaluation}
+use Rattle.mx_machine.proofs.Flown.{flew_broken, flew_fault, over_broken, over_past}
+use Rattle.mx_machine.proofs.Waits.{begun_flies, not_begun}
 use Rattle.mx_machine.proofs.machine.step.Goals as goal
 
-pub returns-in_err-push-in-Value-clause-grown : goal.returns-in_err-push-in-Value-clause-grown
-returns-in_err-push-in-Value-clause-grown g c = λ start asked t. record { more = []; is = c.run_past.ensures.still ∙ sym (append-nil c.args.held.now.entries) }
+pub returns-in_err-value : goal.returns-in_err-value
+returns-in_err-value g c = λ start asked before f. flew_broken (evaluation c.args.text.now c.args.bounds start asked before) c.args.steps.now _ _ (let e : c.from_residual.result ≡ Err refusal.NoMemory = first_of (search rules, grind (arith, common_steps)) in e) (over_broken (evaluation c.args.text.now c.args.bounds start asked before) c.args.steps.now c.args.work.now c.args.running f.run f.over)
 
-pub returns-in_ok-push-in-Value-clause-grown : goal.returns-in_ok-push-in-Value-clause-grown
-returns-in_ok-push-in-Value-clause-grown g c = λ start asked t.
-    let still = c.run_past.ensures.still in
-    subst (λ (h : List Entry). Grown h c.give.new.held.entries) still (c.give.ensures.grown (λ h. t.apart.unheld c.args.running.node (inl refl) (subst (λ (es : List Entry). Has (nodes_of es) c.args.running.node) still h)))
+pub returns-in_err-node-in-Faults : goal.returns-in_err-node-in-Faults
+returns-in_err-node-in-Faults g c = λ start asked before f. flew_broken (evaluation c.args.text.now c.args.bounds start asked before) c.args.steps.now _ _ (let e : c.from_residual-in_err-node-in-Faults.result ≡ Err refusal.NoMemory = first_of (search rules, grind (arith, common_steps)) in e) (over_broken (evaluation c.args.text.now c.args.bounds start asked before) c.args.steps.now c.args.work.now c.args.running f.run f.over)
 
-pub returns-in_ok-push-in-Value-clause-good : goal.returns-in_ok-push-in-Value-clause-good
-returns-in_ok-push-in-Value-clause-good g c = λ start asked t.
-    let there = top_at c.args.text.now c.args.limit start asked c.args.held.now.entries (reverse c.args.waiting.now.entries) in
-    let at : Stop → Type 0 = λ s. IsTop c.args.text.now c.args.limit start c.args.held.now.entries asked (reverse c.args.waiting.now.entries) c.args.running.node c.run_past.new.events (stopped_at s c.run_past.new.tasks.items (env_of c.args.running.node c.run_past.new.scope)) in
-    let before = there c.args.running.node c.get.result.now c.args.running.frame.events (λ n. run_at c.args.running.next c.args.running.frame.tasks.items (env_of n c.args.running.frame.scope)) (sym c.get.ensures) t in
-    let top : at (stop.Value c.in-Value.value) = subst at c.in-Value.is
-    (there c.get.result.now c.args.running.node c.run_past.new.events (λ n. stopped_at c.in_ok-value.field-0 c.run_past.new.tasks.items (env_of n c.run_past.new.scope)) c.get.ensures
-    (top_past c.args.text.now c.args.limit start asked c.args.held.now.entries (reverse c.args.waiting.now.entries) c.get.result.now (run_at c.args.running.next c.args.running.frame.tasks.items (env_of c.get.result.now c.args.running.frame.scope)) (stopped_at c.in_ok-value.field-0 c.run_past.new.tasks.items (env_of c.get.result.now c.run_past.new.scope)) c.args.running.frame.events c.run_past.new.events c.in_ok-value.ensures.past before)) in
-    let still = c.run_past.ensures.still in
-    c.give.ensures.good c.args.text.now c.args.limit start asked (subst (λ (h : List Entry). IsMemo c.args.text.now h) (sym still) c.requires.memo)
-    (subst (λ (h : List Entry). IsTop c.args.text.now c.args.limit start h asked (reverse c.args.waiting.now.entries) c.args.running.node c.run_past.new.events (stopped_at (stop.Value c.in-Value.value) c.run_past.new.tasks.items (env_of c.args.running.node c.run_past.new.scope))) (sym still) top)
+pub returns-in_err-to-in-Asks : goal.returns-in_err-to-in-Asks
+returns-in_err-to-in-Asks g c = λ start asked before f. flew_broken (evaluation c.args.text.now c.args.bounds start asked before) c.args.steps.now _ _ (let e : c.from_residual-in_err-to-in-Asks.result ≡ Err refusal.NoMemory = first_of (search rules, grind (arith, common_steps)) in e) (over_broken (evaluation c.args.text.now c.args.bounds start asked before) c.args.steps.now c.args.work.now c.args.running f.run f.over)
 
-pub returns-in-Fault-clause-good : goal.returns-in-Fault-clause-good
-returns-in-Fault-clause-good g c = λ start asked t.
-    let there = top_at c.args.text.now c.args.limit start asked c.args.held.now.entries (reverse c.args.waiting.now.entries) in
-    let at : Stop → Type 0 = λ s. IsTop c.args.text.now c.args.limit start c.args.held.now.entries asked (reverse c.args.waiting.now.entries) c.args.running.node c.run_past.new.events (stopped_at s c.run_past.new.tasks.items (env_of c.args.running.node c.run_past.new.scope)) in
-    let before = there c.args.running.node c.get.result.now c.args.running.frame.events (λ n. run_at c.args.running.next c.args.running.frame.tasks.items (env_of n c.args.running.frame.scope)) (sym c.get.ensures) t in
-    let top : at (stop.Fault c.in-Fault.kind) = subst at c.in-Fault.is
-    (there c.get.result.now c.args.running.node c.run_past.new.events (λ n. stopped_at c.in_ok-value.field-0 c.run_past.new.tasks.items (env_of n c.run_past.new.scope)) c.get.ensures
-    (top_past c.args.text.now c.args.limit start asked c.args.held.now.entries (reverse c.args.waiting.now.entries) c.get.result.now (run_at c.args.running.next c.args.running.frame.tasks.items (env_of c.get.result.now c.args.running.frame.scope)) (stopped_at c.in_ok-value.field-0 c.run_past.new.tasks.items (env_of c.get.result.now c.run_past.new.scope)) c.args.running.frame.events c.run_past.new.events c.in_ok-value.ensures.past before)) in
-    let f = fault_top c.args.text.now c.args.limit start asked c.args.held.now.entries (reverse c.args.waiting.now.entries) c.args.running.node c.run_past.new.events c.in-Fault.kind c.args.running.node c.run_past.new.scope.line c.requires.memo top in
-    subst (λ (h : List Entry). IsStep c.args.text.now c.args.limit start asked h (suc (length c.args.waiting.now.entries)) c.args.waiting.now.entries (Fault c.in-Fault.kind c.args.running.node c.run_past.new.scope.line)) (sym c.run_past.ensures.still)
-    (c.requires.memo, (f.0, f.1, lost_reversed c.args.text.now asked c.args.waiting.now.entries f.2))
+pub returns-in-Gives : goal.returns-in-Gives
+returns-in-Gives g c = λ start asked before f.
+    let q : Evaluation = evaluation c.args.text.now c.args.bounds start asked before in
+    let scope : Scope = c.args.running.scope in
+    let p : PassesTo c.args.text.now c.args.work.now.held.entries scope f.run c.args.running.events c.run_past.new.events c.in_ok-value.field-0 c.run_past.new.stack.top = c.in_ok-value.ensures.runs f.run f.does in
+    let work : Evaluator = record { held = c.args.work.now.held; waiting = c.args.work.now.waiting; stack = c.run_past.new.stack } in
+    let r : Running = record { scope = scope; events = c.run_past.new.events } in
+    let o : Over q work r p.rest c.args.steps.now = over_past q c.args.steps.now c.args.work.now work c.args.running c.run_past.new.events f.run p.rest refl refl c.in_ok-value.ensures.below p.past f.over in
+    let s : p.rest ≡ gives c.in-Gives.value = subst (λ (x : Stop). StopsAs (told scope.code) (home_of scope) p.rest x c.run_past.new.stack.top) c.in-Gives.is p.stops in
+    c.give.ensures q c.args.steps.now refl (subst (λ (x : Run). Over q work r x c.args.steps.now) s o)
 
-pub returns-in_ok-to-in-Ask-clause-full : goal.returns-in_ok-to-in-Ask-clause-full
-returns-in_ok-to-in-Ask-clause-full g c = c.ask.ensures.room c.args.most
+pub returns-in_ok-node-in-Faults : goal.returns-in_ok-node-in-Faults
+returns-in_ok-node-in-Faults g c = λ start asked before f.
+    let q : Evaluation = evaluation c.args.text.now c.args.bounds start asked before in
+    let scope : Scope = c.args.running.scope in
+    let p : PassesTo c.args.text.now c.args.work.now.held.entries scope f.run c.args.running.events c.run_past.new.events c.in_ok-value.field-0 c.run_past.new.stack.top = c.in_ok-value.ensures.runs f.run f.does in
+    let work : Evaluator = record { held = c.args.work.now.held; waiting = c.args.work.now.waiting; stack = c.run_past.new.stack } in
+    let r : Running = record { scope = scope; events = c.run_past.new.events } in
+    let o : Over q work r p.rest c.args.steps.now = over_past q c.args.steps.now c.args.work.now work c.args.running c.run_past.new.events f.run p.rest refl refl c.in_ok-value.ensures.below p.past f.over in
+    let s : p.rest ≡ Ends (Faults c.in-Faults.kind scope.node c.in-Faults.line) = subst (λ (x : Stop). StopsAs (told scope.code) (home_of scope) p.rest x c.run_past.new.stack.top) c.in-Faults.is p.stops in
+    flew_fault q c.args.steps.now work r c.in-Faults.kind scope.node c.in_ok-node-in-Faults.node c.in-Faults.line (c.in_ok-node-in-Faults.ensures ∙ c.get.ensures) (subst (λ (x : Run). Over q work r x c.args.steps.now) s o)
 
-pub returns-in_err-to-in-Ask-clause-grown : goal.returns-in_err-to-in-Ask-clause-grown
-returns-in_err-to-in-Ask-clause-grown g c = λ start asked t. record { more = []; is = c.run_past.ensures.still ∙ sym (append-nil c.args.held.now.entries) }
+pub returns-in_err-wait-in-Asks : goal.returns-in_err-wait-in-Asks
+returns-in_err-wait-in-Asks g c = λ start asked before f.
+    let q : Evaluation = evaluation c.args.text.now c.args.bounds start asked before in
+    let scope : Scope = c.args.running.scope in
+    let p : PassesTo c.args.text.now c.args.work.now.held.entries scope f.run c.args.running.events c.run_past.new.events c.in_ok-value.field-0 c.run_past.new.stack.top = c.in_ok-value.ensures.runs f.run f.does in
+    let work : Evaluator = record { held = c.args.work.now.held; waiting = c.args.work.now.waiting; stack = c.run_past.new.stack } in
+    let r : Running = record { scope = scope; events = c.run_past.new.events } in
+    let o : Over q work r p.rest c.args.steps.now = over_past q c.args.steps.now c.args.work.now work c.args.running c.run_past.new.events f.run p.rest refl refl c.in_ok-value.ensures.below p.past f.over in
+    let s : StopsAs (told scope.code) (home_of scope) p.rest (stop.Asks c.in-Asks.node) c.run_past.new.stack.top = subst (λ (x : Stop). StopsAs (told scope.code) (home_of scope) p.rest x c.run_past.new.stack.top) c.in-Asks.is p.stops in
+    let new : Has (nodes_of c.args.work.now.held.entries) c.in-Asks.node → ⊥ = subst (λ (x : Stop). IsNew c.args.work.now.held.entries x) c.in-Asks.is c.in_ok-value.ensures.new in
+    let to : c.in_ok-to-in-Asks.to ≡ c.in-Asks.node = c.in_ok-to-in-Asks.ensures in
+    let asks : Over q work r (Asks c.in_ok-to-in-Asks.to s.0) c.args.steps.now = subst (λ (x : Node). Over q work r (Asks x s.0) c.args.steps.now) (sym to) (subst (λ (x : Run). Over q work r x c.args.steps.now) s.1 o) in
+    let fresh : Has (nodes_of c.args.work.now.held.entries) c.in_ok-to-in-Asks.to → ⊥ = subst (λ (x : Node). Has (nodes_of c.args.work.now.held.entries) x → ⊥) (sym to) new in
+    let w : HasEnded q c.wait.new.work.held.entries c.args.steps.now (Err c.in_err-wait-in-Asks.field-0.0) = c.in_err-wait-in-Asks.ensures q c.args.steps.now s.0 refl asks s.2 fresh in
+    subst (λ (x : Result Progress EvalRefusal). Flew q c.wait.new.work c.args.steps.now x) (sym (let e : c.from_residual-in_err-wait-in-Asks.result ≡ Err c.in_err-wait-in-Asks.field-0.0 = first_of (search rules, grind (arith, common_steps)) in e)) w
 
-pub returns-in_ok-to-in-Ask-clause-grown : goal.returns-in_ok-to-in-Ask-clause-grown
-returns-in_ok-to-in-Ask-clause-grown g c = λ start asked t. record { more = []; is = c.run_past.ensures.still ∙ sym (append-nil c.args.held.now.entries) }
+pub returns-in_err-next-in-Asks : goal.returns-in_err-next-in-Asks
+returns-in_err-next-in-Asks g c = λ start asked before f.
+    let q : Evaluation = evaluation c.args.text.now c.args.bounds start asked before in
+    let scope : Scope = c.args.running.scope in
+    let p : PassesTo c.args.text.now c.args.work.now.held.entries scope f.run c.args.running.events c.run_past.new.events c.in_ok-value.field-0 c.run_past.new.stack.top = c.in_ok-value.ensures.runs f.run f.does in
+    let work : Evaluator = record { held = c.args.work.now.held; waiting = c.args.work.now.waiting; stack = c.run_past.new.stack } in
+    let r : Running = record { scope = scope; events = c.run_past.new.events } in
+    let o : Over q work r p.rest c.args.steps.now = over_past q c.args.steps.now c.args.work.now work c.args.running c.run_past.new.events f.run p.rest refl refl c.in_ok-value.ensures.below p.past f.over in
+    let s : StopsAs (told scope.code) (home_of scope) p.rest (stop.Asks c.in-Asks.node) c.run_past.new.stack.top = subst (λ (x : Stop). StopsAs (told scope.code) (home_of scope) p.rest x c.run_past.new.stack.top) c.in-Asks.is p.stops in
+    let new : Has (nodes_of c.args.work.now.held.entries) c.in-Asks.node → ⊥ = subst (λ (x : Stop). IsNew c.args.work.now.held.entries x) c.in-Asks.is c.in_ok-value.ensures.new in
+    let to : c.in_ok-to-in-Asks.to ≡ c.in-Asks.node = c.in_ok-to-in-Asks.ensures in
+    let asks : Over q work r (Asks c.in_ok-to-in-Asks.to s.0) c.args.steps.now = subst (λ (x : Node). Over q work r (Asks x s.0) c.args.steps.now) (sym to) (subst (λ (x : Run). Over q work r x c.args.steps.now) s.1 o) in
+    let fresh : Has (nodes_of c.args.work.now.held.entries) c.in_ok-to-in-Asks.to → ⊥ = subst (λ (x : Node). Has (nodes_of c.args.work.now.held.entries) x → ⊥) (sym to) new in
+    let a = c.in_ok-wait-in-Asks.ensures q c.args.steps.now s.0 refl asks s.2 fresh in
+    let after : Evaluator = record { held = c.wait.new.work.held; waiting = c.wait.new.work.waiting; stack = c.begin.new.stack } in
+    let w : HasEnded q after.held.entries c.args.steps.now (Err c.in_err-next-in-Asks.field-0.0) = not_begun q c.wait.new.work after c.in_ok-to-in-Asks.to c.args.steps.now c.in_err-next-in-Asks.field-0.0 refl a c.in_err-next-in-Asks.ensures.begins in
+    subst (λ (n : ℕ). Flew q after n c.from_residual-in_err-next-in-Asks.result) (sym c.in_err-next-in-Asks.ensures.same)
+    (subst (λ (x : Result Progress EvalRefusal). Flew q after c.args.steps.now x) (sym (let e : c.from_residual-in_err-next-in-Asks.result ≡ Err c.in_err-next-in-Asks.field-0.0 = first_of (search rules, grind (arith, common_steps)) in e)) w)
 
-pub returns-in_ok-to-in-Ask-clause-good : goal.returns-in_ok-to-in-Ask-clause-good
-returns-in_ok-to-in-Ask-clause-good g c = λ start asked t.
-    let there = top_at c.args.text.now c.args.limit start asked c.args.held.now.entries (reverse c.args.waiting.now.entries) in
-    let at : Stop → Type 0 = λ s. IsTop c.args.text.now c.args.limit start c.args.held.now.entries asked (reverse c.args.waiting.now.entries) c.args.running.node c.run_past.new.events (stopped_at s c.run_past.new.tasks.items (env_of c.args.running.node c.run_past.new.scope)) in
-    let before = there c.args.running.node c.get.result.now c.args.running.frame.events (λ n. run_at c.args.running.next c.args.running.frame.tasks.items (env_of n c.args.running.frame.scope)) (sym c.get.ensures) t in
-    let top : at (stop.Ask c.in-Ask.to) = subst at c.in-Ask.is
-    (there c.get.result.now c.args.running.node c.run_past.new.events (λ n. stopped_at c.in_ok-value.field-0 c.run_past.new.tasks.items (env_of n c.run_past.new.scope)) c.get.ensures
-    (top_past c.args.text.now c.args.limit start asked c.args.held.now.entries (reverse c.args.waiting.now.entries) c.get.result.now (run_at c.args.running.next c.args.running.frame.tasks.items (env_of c.get.result.now c.args.running.frame.scope)) (stopped_at c.in_ok-value.field-0 c.run_past.new.tasks.items (env_of c.get.result.now c.run_past.new.scope)) c.args.running.frame.events c.run_past.new.events c.in_ok-value.ensures.past before)) in
-    let still = c.run_past.ensures.still in
-    let asks : IsTop c.args.text.now c.args.limit start c.run_past.new.held.entries asked (reverse c.args.waiting.now.entries) c.args.running.node c.run_past.new.events (stopped_at (stop.Ask c.in_ok-to-in-Ask.to) c.run_past.new.tasks.items (env_of c.args.running.node c.run_past.new.scope)) =
-    subst (λ (h : List Entry). IsTop c.args.text.now c.args.limit start h asked (reverse c.args.waiting.now.entries) c.args.running.node c.run_past.new.events (stopped_at (stop.Ask c.in_ok-to-in-Ask.to) c.run_past.new.tasks.items (env_of c.args.running.node c.run_past.new.scope))) (sym still)
-    (subst (λ (m : Node). at (stop.Ask m)) (sym c.in_ok-to-in-Ask.ensures) top) in
-    IfOk-weaker c.ask.result (IsGood c.args.text.now c.args.limit start asked c.run_past.new.held.entries (suc (length c.args.waiting.now.entries)) c.ask.new.waiting.entries)
-    (λ (p : Progress). IsStep c.args.text.now c.args.limit start asked c.run_past.new.held.entries (suc (length c.args.waiting.now.entries)) c.ask.new.waiting.entries p) (λ p h. (subst (λ (es : List Entry). IsMemo c.args.text.now es) (sym still) c.requires.memo, h))
-    (c.ask.ensures.good start asked asks)
-
-pub returns-in_ok-to-in-Ask-clause-ticks : goal.returns-in_ok-to-in-Ask-clause-ticks
-returns-in_ok-to-in-Ask-clause-ticks g c = λ start asked t.
-    let there = top_at c.args.text.now c.args.limit start asked c.args.held.now.entries (reverse c.args.waiting.now.entries) in
-    let at : Stop → Type 0 = λ s. IsTop c.args.text.now c.args.limit start c.args.held.now.entries asked (reverse c.args.waiting.now.entries) c.args.running.node c.run_past.new.events (stopped_at s c.run_past.new.tasks.items (env_of c.args.running.node c.run_past.new.scope)) in
-    let before = there c.args.running.node c.get.result.now c.args.running.frame.events (λ n. run_at c.args.running.next c.args.running.frame.tasks.items (env_of n c.args.running.frame.scope)) (sym c.get.ensures) t in
-    let top : at (stop.Ask c.in-Ask.to) = subst at c.in-Ask.is
-    (there c.get.result.now c.args.running.node c.run_past.new.events (λ n. stopped_at c.in_ok-value.field-0 c.run_past.new.tasks.items (env_of n c.run_past.new.scope)) c.get.ensures
-    (top_past c.args.text.now c.args.limit start asked c.args.held.now.entries (reverse c.args.waiting.now.entries) c.get.result.now (run_at c.args.running.next c.args.running.frame.tasks.items (env_of c.get.result.now c.args.running.frame.scope)) (stopped_at c.in_ok-value.field-0 c.run_past.new.tasks.items (env_of c.get.result.now c.run_past.new.scope)) c.args.running.frame.events c.run_past.new.events c.in_ok-value.ensures.past before)) in
-    let still = c.run_past.ensures.still in
-    let asks : IsTop c.args.text.now c.args.limit start c.run_past.new.held.entries asked (reverse c.args.waiting.now.entries) c.args.running.node c.run_past.new.events (stopped_at (stop.Ask c.in_ok-to-in-Ask.to) c.run_past.new.tasks.items (env_of c.args.running.node c.run_past.new.scope)) =
-    subst (λ (h : List Entry). IsTop c.args.text.now c.args.limit start h asked (reverse c.args.waiting.now.entries) c.args.running.node c.run_past.new.events (stopped_at (stop.Ask c.in_ok-to-in-Ask.to) c.run_past.new.tasks.items (env_of c.args.running.node c.run_past.new.scope))) (sym still)
-    (subst (λ (m : Node). at (stop.Ask m)) (sym c.in_ok-to-in-Ask.ensures) top) in
-    IfOk-weaker c.ask.result (λ (p : Progress). c.ask.new.steps + suc (length c.args.waiting.now.entries) ≡ c.args.steps.now + depth_after (suc (length c.args.waiting.now.entries)) (length c.ask.new.waiting.entries) p)
-    (λ (p : Progress). c.ask.new.steps + length c.args.held.now.entries + suc (length c.args.waiting.now.entries) ≡ c.args.steps.now + length c.run_past.new.held.entries + depth_after (suc (length c.args.waiting.now.entries)) (length c.ask.new.waiting.entries) p) (λ p h. omega (arith, h, ap length still))
-    (c.ask.ensures.ticks start asked asks)
+pub returns-in_ok-next-in-Asks : goal.returns-in_ok-next-in-Asks
+returns-in_ok-next-in-Asks g c = λ start asked before f.
+    let q : Evaluation = evaluation c.args.text.now c.args.bounds start asked before in
+    let scope : Scope = c.args.running.scope in
+    let p : PassesTo c.args.text.now c.args.work.now.held.entries scope f.run c.args.running.events c.run_past.new.events c.in_ok-value.field-0 c.run_past.new.stack.top = c.in_ok-value.ensures.runs f.run f.does in
+    let work : Evaluator = record { held = c.args.work.now.held; waiting = c.args.work.now.waiting; stack = c.run_past.new.stack } in
+    let r : Running = record { scope = scope; events = c.run_past.new.events } in
+    let o : Over q work r p.rest c.args.steps.now = over_past q c.args.steps.now c.args.work.now work c.args.running c.run_past.new.events f.run p.rest refl refl c.in_ok-value.ensures.below p.past f.over in
+    let s : StopsAs (told scope.code) (home_of scope) p.rest (stop.Asks c.in-Asks.node) c.run_past.new.stack.top = subst (λ (x : Stop). StopsAs (told scope.code) (home_of scope) p.rest x c.run_past.new.stack.top) c.in-Asks.is p.stops in
+    let new : Has (nodes_of c.args.work.now.held.entries) c.in-Asks.node → ⊥ = subst (λ (x : Stop). IsNew c.args.work.now.held.entries x) c.in-Asks.is c.in_ok-value.ensures.new in
+    let to : c.in_ok-to-in-Asks.to ≡ c.in-Asks.node = c.in_ok-to-in-Asks.ensures in
+    let asks : Over q work r (Asks c.in_ok-to-in-Asks.to s.0) c.args.steps.now = subst (λ (x : Node). Over q work r (Asks x s.0) c.args.steps.now) (sym to) (subst (λ (x : Run). Over q work r x c.args.steps.now) s.1 o) in
+    let fresh : Has (nodes_of c.args.work.now.held.entries) c.in_ok-to-in-Asks.to → ⊥ = subst (λ (x : Node). Has (nodes_of c.args.work.now.held.entries) x → ⊥) (sym to) new in
+    let a = c.in_ok-wait-in-Asks.ensures q c.args.steps.now s.0 refl asks s.2 fresh in
+    let after : Evaluator = record { held = c.wait.new.work.held; waiting = c.wait.new.work.waiting; stack = c.begin.new.stack } in
+    begun_flies q c.wait.new.work after c.in_ok-to-in-Asks.to c.args.steps.now c.begin.new.steps c.in_ok-next-in-Asks.next c.in_ok-next-in-Asks.ensures.ticks refl refl a c.in_ok-next-in-Asks.ensures.begins

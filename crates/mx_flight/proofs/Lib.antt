@@ -1,0 +1,5 @@
+pub mod Standing
+pub mod Waiting
+pub mod Deep
+pub mod Tops
+pub mod Past

@@ -1,0 +1,2 @@
+//! Runs in flight: what holds of those that wait and of the one on top, whatever runs them.
+#![tactic(auto)]

@@ -1,6 +1,0 @@
-use Rattle.std.proofs.Common.{refl}
-use Rattle.mx_formula.proofs.Stack.{cont-push}
-use Rattle.mx_formula.proofs.statement.enter_block.Goals as goal
-
-pub returns : goal.returns
-returns c = λ env. rw (c.in_ok-push.ensures.items, cont-push, c.in-Some.ensures.1) refl

@@ -1,0 +1,4 @@
+pub mod Stacks
+pub mod Tolds
+pub mod Looks
+pub mod Callings
