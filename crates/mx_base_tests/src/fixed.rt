@@ -2,6 +2,7 @@
 //! `//` and `%` round down. All numbers are raw: 1.0 is 10^9.
 use mx_value::fixed::{Fixed, NumFault};
 use mx_value::rounding::div_half_even;
+use std::process::Abort;
 use std::test::Fail;
 
 fn number(raw: i128) -> Result<Fixed, NumFault> {
@@ -241,18 +242,34 @@ const ROOTS: [(i128, u32, i128); 22] = [
     (2_000_000_000, 365, 1_001_900_837),
 ];
 
+fn products_are(rt: &impl Abort, rows: &[(i128, i128, i128)]) -> Result<(), Fail> {
+    for (x, y, product) in rows {
+        assert_eq!(rt; number(*x)?.mul(number(*y)?)?.raw(), *product);
+    }
+    Ok(())
+}
+
 #[test]
 fn a_product_is_rounded_half_to_even(rt: HostRuntime) -> Result<(), Fail> {
-    for (x, y, product) in PRODUCTS {
-        assert_eq!(rt; number(x)?.mul(number(y)?)?.raw(), product);
+    products_are(&rt, &PRODUCTS)
+}
+
+fn quotients_are(rt: &impl Abort, rows: &[(i128, i128, i128)]) -> Result<(), Fail> {
+    for (x, y, quotient) in rows {
+        assert_eq!(rt; number(*x)?.div(number(*y)?)?.raw(), *quotient);
     }
     Ok(())
 }
 
 #[test]
 fn a_quotient_is_rounded_half_to_even(rt: HostRuntime) -> Result<(), Fail> {
-    for (x, y, quotient) in QUOTIENTS {
-        assert_eq!(rt; number(x)?.div(number(y)?)?.raw(), quotient);
+    quotients_are(&rt, &QUOTIENTS)
+}
+
+fn floors_are(rt: &impl Abort, rows: &[(i128, i128, i128, i128)]) -> Result<(), Fail> {
+    for (x, y, floor, rest) in rows {
+        assert_eq!(rt; number(*x)?.floor_div(number(*y)?)?.raw(), *floor);
+        assert_eq!(rt; number(*x)?.rem(number(*y)?)?.raw(), *rest);
     }
     Ok(())
 }
@@ -261,27 +278,31 @@ fn a_quotient_is_rounded_half_to_even(rt: HostRuntime) -> Result<(), Fail> {
 fn a_floor_is_rounded_down_and_the_rest_has_the_divisor_s_sign(
     rt: HostRuntime,
 ) -> Result<(), Fail> {
-    for (x, y, floor, rest) in FLOORS {
-        assert_eq!(rt; number(x)?.floor_div(number(y)?)?.raw(), floor);
-        assert_eq!(rt; number(x)?.rem(number(y)?)?.raw(), rest);
+    floors_are(&rt, &FLOORS)
+}
+
+fn powers_are(rt: &impl Abort, rows: &[(i128, i64, i128)]) -> Result<(), Fail> {
+    for (x, n, power) in rows {
+        assert_eq!(rt; number(*x)?.pow(*n)?.raw(), *power);
     }
     Ok(())
 }
 
 #[test]
 fn a_power_is_the_fold_of_rounded_products(rt: HostRuntime) -> Result<(), Fail> {
-    for (x, n, power) in POWERS {
-        assert_eq!(rt; number(x)?.pow(n)?.raw(), power);
+    powers_are(&rt, &POWERS)
+}
+
+fn roots_are(rt: &impl Abort, rows: &[(i128, u32, i128)]) -> Result<(), Fail> {
+    for (x, n, root) in rows {
+        assert_eq!(rt; number(*x)?.root(*n)?.raw(), *root);
     }
     Ok(())
 }
 
 #[test]
 fn a_root_is_the_greatest_base(rt: HostRuntime) -> Result<(), Fail> {
-    for (x, n, root) in ROOTS {
-        assert_eq!(rt; number(x)?.root(n)?.raw(), root);
-    }
-    Ok(())
+    roots_are(&rt, &ROOTS)
 }
 
 #[test]

@@ -1,6 +1,6 @@
 //! The examples of the user guide, written by tools/guide.py: each script with what it answers.
 
-use crate::tests::answers;
+use crate::worked::answer_all;
 use std::test::Fail;
 
 const EXAMPLES: [(&[u8], &[u8]); 20] = [
@@ -88,8 +88,5 @@ const EXAMPLES: [(&[u8], &[u8]); 20] = [
 
 #[test]
 fn the_examples_of_the_guide_answer_as_it_says(rt: HostRuntime) -> Result<(), Fail> {
-    for (script, answer) in EXAMPLES {
-        answers(&rt, rt.alloc(), script, answer)?;
-    }
-    Ok(())
+    answer_all(&rt, rt.alloc(), &EXAMPLES)
 }

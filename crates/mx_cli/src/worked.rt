@@ -231,9 +231,9 @@ const FAULTS: [(&[u8], &[u8]); 12] = [
     ),
 ];
 
-/// Evaluations whose search is given up: an expression too far within others, a formula of several lines, a fault and a ring
-/// behind values that were found. The first and the last are found by it.
-const SEARCHES: [(&[u8], &[u8]); 5] = [
+/// Evaluations whose formulas rest on others, by chains, in several lines, and up to a fault or a ring behind
+/// values that were computed.
+const CHAINED: [(&[u8], &[u8]); 5] = [
     (
         b"cells f(n) = 0 if n < 1 else 0 + (0 + (0 + (0 + (0 + (0 + (1 + f(n - 1)))))))\neval f(3)\neval f(150)\n",
         b"ok\n= 3 runs 4\n= 150 runs 147\n",
@@ -256,7 +256,7 @@ const SEARCHES: [(&[u8], &[u8]); 5] = [
     ),
 ];
 
-fn answer_all(rt: &impl Abort, alloc: Global, rows: &[(&[u8], &[u8])]) -> Result<(), Fail> {
+pub fn answer_all(rt: &impl Abort, alloc: Global, rows: &[(&[u8], &[u8])]) -> Result<(), Fail> {
     for (script, output) in rows {
         answers(rt, alloc, script, output)?;
     }
@@ -284,8 +284,8 @@ fn a_fault_is_told_with_its_node_and_line(rt: HostRuntime) -> Result<(), Fail> {
 }
 
 #[test]
-fn a_search_that_is_given_up_leaves_no_trace(rt: HostRuntime) -> Result<(), Fail> {
-    answer_all(&rt, rt.alloc(), &SEARCHES)
+fn values_behind_a_fault_or_a_ring_are_not_run_again(rt: HostRuntime) -> Result<(), Fail> {
+    answer_all(&rt, rt.alloc(), &CHAINED)
 }
 
 /// The definition of cells by a number in so many parentheses, and a question.

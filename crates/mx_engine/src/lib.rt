@@ -3,9 +3,5 @@
 
 pub mod edit;
 pub mod engine;
-#[cfg(test)]
-mod tests;
-#[cfg(test)]
-mod trees;
 
 pub use mx_machine::steps;

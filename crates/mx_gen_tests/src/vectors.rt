@@ -112,19 +112,46 @@ fn text_of(alloc: Global, edit: &Edit) -> Result<Vec<u8>, Fail> {
     Ok(out)
 }
 
+/// The edits are these lines.
+fn compare(alloc: Global, edits: &[Edit], wanted: &[&[u8]]) -> Result<(), Fail> {
+    if edits.len() != wanted.len() {
+        return Err("another number of edits")?;
+    }
+    for (at, edit) in edits.iter().enumerate() {
+        let line = wanted.get(at).ok_or("no such line")?;
+        if text_of(alloc, edit)?.as_slice() != *line {
+            return Err("another edit")?;
+        }
+    }
+    Ok(())
+}
+
+fn compare_models(
+    alloc: Global,
+    rows: &[(u32, u64, &'static [&'static [u8]])],
+) -> Result<(), Fail> {
+    for (n, seed, wanted) in rows {
+        let edits = make(alloc, *n, *seed)?;
+        compare(alloc, edits.as_slice(), *wanted)?;
+    }
+    Ok(())
+}
+
 #[test]
 fn the_edits_are_those_of_the_rules(rt: HostRuntime) -> Result<(), Fail> {
-    let alloc = rt.alloc();
-    for (n, seed, wanted) in SMALL {
-        let edits = make(alloc, n, seed)?;
-        if edits.len() != wanted.len() {
-            return Err("another number of edits")?;
-        }
-        for (at, edit) in edits.iter().enumerate() {
-            let line = wanted.get(at).ok_or("no such line")?;
-            if text_of(alloc, edit)?.as_slice() != *line {
-                return Err("another edit")?;
-            }
+    compare_models(rt.alloc(), &SMALL)
+}
+
+/// The edits at these places are these lines.
+fn compare_places(
+    alloc: Global,
+    edits: &[Edit],
+    rows: &[(usize, &'static [u8])],
+) -> Result<(), Fail> {
+    for (at, wanted) in rows {
+        let edit = edits.get(*at).ok_or("no such edit")?;
+        if text_of(alloc, edit)?.as_slice() != *wanted {
+            return Err("another edit")?;
         }
     }
     Ok(())
@@ -137,13 +164,7 @@ fn the_largest_model_is_made(rt: HostRuntime) -> Result<(), Fail> {
     if edits.len() != 6000 {
         return Err("another number of edits")?;
     }
-    for (at, wanted) in LARGE {
-        let edit = edits.get(at).ok_or("no such edit")?;
-        if text_of(alloc, edit)?.as_slice() != wanted {
-            return Err("another edit")?;
-        }
-    }
-    Ok(())
+    compare_places(alloc, edits.as_slice(), &LARGE)
 }
 
 #[test]

@@ -29,18 +29,25 @@ const OTHERS: [&str; 13] = [
     "caf\u{e9}",
 ];
 
+/// How many of these are names of files.
+fn count_names(rows: &[&str]) -> usize {
+    let mut count: usize = 0;
+    for name in rows {
+        if is_file_name(name) {
+            count = count.saturating_add(1);
+        }
+    }
+    count
+}
+
 #[test]
 fn parts_joined_by_slashes_are_names(rt: HostRuntime) {
-    for name in NAMES {
-        assert!(rt; is_file_name(name));
-    }
+    assert_eq!(rt; count_names(&NAMES), NAMES.len());
 }
 
 #[test]
 fn empty_parts_folders_and_other_bytes_are_none(rt: HostRuntime) {
-    for name in OTHERS {
-        assert!(rt; !is_file_name(name));
-    }
+    assert_eq!(rt; count_names(&OTHERS), 0);
 }
 
 #[test]

@@ -51,23 +51,30 @@ fn is_decimal(field: &str, raw: i128) -> bool {
     number_of(field.as_bytes()) == Some(Value::Fix(number))
 }
 
+fn are_whole(rows: &[(&str, i64)]) -> bool {
+    rows.iter().all(|row| is_whole(row.0, row.1))
+}
+
+fn are_decimal(rows: &[(&str, i128)]) -> bool {
+    rows.iter().all(|row| is_decimal(row.0, row.1))
+}
+
+fn are_none(rows: &[&str]) -> bool {
+    rows.iter()
+        .all(|field| number_of(field.as_bytes()).is_none())
+}
+
 #[test]
 fn whole_numbers(rt: HostRuntime) {
-    for (field, n) in WHOLE {
-        assert!(rt; is_whole(field, n));
-    }
+    assert!(rt; are_whole(&WHOLE));
 }
 
 #[test]
 fn decimal_numbers(rt: HostRuntime) {
-    for (field, raw) in DECIMAL {
-        assert!(rt; is_decimal(field, raw));
-    }
+    assert!(rt; are_decimal(&DECIMAL));
 }
 
 #[test]
 fn other_fields_say_none(rt: HostRuntime) {
-    for field in NONE {
-        assert!(rt; number_of(field.as_bytes()).is_none());
-    }
+    assert!(rt; are_none(&NONE));
 }

@@ -1,9 +1,9 @@
 //! Rows of an engine's answers, worked by hand.
 ghost use Rattle.std.specs.Prelude.{◌≡◌, ◌<◌};
 
-use crate::edit::{Edit, EditRefusal};
-use crate::engine::Engine;
 use crate::trees::{formula, int, label, name, node, of_n, param, path, product, sum};
+use mx_engine::edit::{Edit, EditRefusal};
+use mx_engine::engine::Engine;
 use mx_machine::steps::Steps;
 use mx_syntax::expr::{ProductOp, SumOp};
 use mx_syntax::stmt::{Formula, Stmt};
