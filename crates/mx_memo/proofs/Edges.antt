@@ -4,7 +4,7 @@ use Rattle.std.specs.Prelude.{filter}
 use Rattle.std.proofs.lemmas.Bool.{eqb-true, eq-eqb}
 use Rattle.std.specs.FinMap as map
 use Rattle.mx_graph.specs.Relation.{Entry, find, IsApart, is_set, is_marked_in, is_kept}
-use Rattle.mx_memo.specs.Kept.{Has}
+use Rattle.mx_memo.specs.Places.{Has}
 use Rattle.mx_memo.proofs.Places.{Nodes}
 
 pub find_has : (k : ℕ) (xs : List Entry) (e : Entry) → find k xs ≡ Some e → Has xs e

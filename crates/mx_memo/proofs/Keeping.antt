@@ -10,8 +10,8 @@ use Rattle.mx_graph.specs.Relation.{Entry, Graph, IsRelation, no_graph, find, is
 use Rattle.mx_memo.specs.declared.slot.Slot.{Slot}
 use Rattle.mx_memo.specs.declared.slot.Watched.{Watched}
 use Rattle.mx_memo.specs.declared.slot.Slot.TheVariants.{Free, Watch}
-use Rattle.mx_memo.specs.Places.{slot_at, node_place, key_place, at, IsPlaced, if_live, held_in}
-use Rattle.mx_memo.specs.Kept.{Kept, Source, sources_at, source_in, kept, entries, body_of, IsNode, IsWhole, Has, Sifts, Done, Keeps, Drops}
+use Rattle.mx_memo.specs.Places.{slot_at, node_place, key_place, at, IsPlaced, if_live, held_in, Has}
+use Rattle.mx_memo.specs.Kept.{Kept, Source, sources_at, source_in, kept, entries, body_of, IsNode, IsWhole, Sifts, Done, Keeps, Drops}
 use Rattle.mx_memo.proofs.Places.{Nodes, if_live_same, if_live_gone}
 use Rattle.mx_memo.proofs.Edges.{find_has, has_find, filter_has, marked_test, test_marked, both_unmarked, kept_unmarked}
 

@@ -4,11 +4,14 @@ pub mod Steps
 pub mod Edges
 pub mod Keeping
 pub mod Touching
-pub mod RollingBack
 pub mod Pushing
 pub mod Reading
 pub mod KeyPushing
 pub mod Restoring
 pub mod Sources
 pub mod Table
-pub mod Going
+pub mod Standing
+pub mod Spreading
+pub mod Starts
+pub mod Dropping
+pub mod Settling

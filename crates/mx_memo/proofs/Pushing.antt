@@ -14,8 +14,8 @@ use Rattle.mx_memo.specs.declared.slot.Slot.{Slot}
 use Rattle.mx_memo.specs.declared.slot.Held.{Held}
 use Rattle.mx_memo.specs.declared.slot.Watched.{Watched}
 use Rattle.mx_memo.specs.declared.slot.Slot.TheVariants.{Free, Node, Watch}
-use Rattle.mx_memo.specs.Places.{slot_at, node_place, key_place, at, IsPlacedIn}
-use Rattle.mx_memo.specs.Kept.{Kept, Source, sources_at, source_in, kept, entries, body_of, IsNode, IsWhole, Has}
+use Rattle.mx_memo.specs.Places.{slot_at, node_place, key_place, at, IsPlacedIn, Has}
+use Rattle.mx_memo.specs.Kept.{Kept, Source, sources_at, source_in, kept, entries, body_of, IsNode, IsWhole}
 use Rattle.mx_memo.proofs.Places.{Nodes, same_or, at_below}
 use Rattle.mx_memo.proofs.Edges.{has_find}
 use Rattle.mx_memo.proofs.Keeping.{at_has}

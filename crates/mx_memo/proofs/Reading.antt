@@ -8,8 +8,8 @@ use Rattle.mx_graph.specs.Relation.{Entry, Graph, IsRelation}
 use Rattle.mx_edit.specs.declared.key.Key.{Key}
 use Rattle.mx_memo.specs.declared.slot.Slot.{Slot}
 use Rattle.mx_memo.specs.declared.slot.Slot.TheVariants.{Free, Node, Watch}
-use Rattle.mx_memo.specs.Places.{slot_at, node_place, key_place, at, IsPlacedIn, IsPlaced}
-use Rattle.mx_memo.specs.Kept.{Kept, Source, asked, sources_at, source_in, kept, entries, IsNode, IsWhole, Has, IsHeld, IsKeyAt, with_read}
+use Rattle.mx_memo.specs.Places.{slot_at, node_place, key_place, at, IsPlacedIn, IsPlaced, Has}
+use Rattle.mx_memo.specs.Kept.{Kept, Source, asked, sources_at, source_in, kept, entries, IsNode, IsWhole, IsHeld, IsKeyAt, with_read}
 use Rattle.mx_memo.proofs.Places.{Nodes}
 use Rattle.mx_memo.proofs.Edges.{find_has, has_find}
 use Rattle.mx_memo.proofs.Touching.{entry_at, at_entry}

@@ -9,8 +9,8 @@ use Rattle.mx_edit.specs.declared.key.Key.{Key}
 use Rattle.mx_memo.specs.declared.slot.Slot.{Slot}
 use Rattle.mx_memo.specs.declared.slot.Held.{Held}
 use Rattle.mx_memo.specs.declared.slot.Slot.TheVariants.{Free, Node, Watch}
-use Rattle.mx_memo.specs.Places.{slot_at, node_place}
-use Rattle.mx_memo.specs.Kept.{Kept, Source, looked, asked, source_in, entries, IsNode, IsWhole, IsKeyAt, Has, with_read}
+use Rattle.mx_memo.specs.Places.{slot_at, node_place, Has}
+use Rattle.mx_memo.specs.Kept.{Kept, Source, looked, asked, source_in, entries, IsNode, IsWhole, IsKeyAt, with_read}
 use Rattle.mx_memo.specs.Held.{sources_of, with_sources, AreThere, AreNodes, asked_id}
 use Rattle.mx_memo.proofs.Places.{at_below}
 use Rattle.mx_memo.proofs.Touching.{entry_at}

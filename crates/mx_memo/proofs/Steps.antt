@@ -1,4 +1,4 @@
--- What a loop over the keys has marked.
+-- What a loop over the keys or the held nodes has marked.
 use Rattle.std.proofs.Common.{◌≡◌, ℕ, ◌+◌, Bool, List, Option, Some, None, refl, subst, arith, ◌⊎◌, inl, inr}
 use Rattle.std.specs.Prelude.{◌↔◌, IsSome, IfSome}
 use Rattle.std.specs.FinMap as map
@@ -7,7 +7,7 @@ use Rattle.mx_graph.specs.Relation.{Entry}
 use Rattle.mx_edit.specs.declared.key.Key.{Key}
 use Rattle.mx_memo.specs.declared.slot.Slot.{Slot}
 use Rattle.mx_memo.specs.Places.{at, IsPlacedIn}
-use Rattle.mx_memo.specs.Marked.{IsMarkedBy, IsMarkedFrom}
+use Rattle.mx_memo.specs.Marked.{IsMarkedBy, IsMarkedFrom, AreLive}
 use Rattle.mx_memo.proofs.Places.{Nodes, same_or}
 
 pub live_entry : (place : Slot → Option ℕ) (old now : Nodes) (slots : List Slot) (list : List (Option NodeId)) → IsPlacedIn place old slots list → (p : ℕ) → ((q : ℕ) → IsSome (map.get now q) ↔ IsSome (map.get old q)) → IfSome (at list p) (λ id. IsSome (map.get now id.at))
@@ -16,6 +16,13 @@ live_entry place old now slots list h p live = by (at list p) refl
     by : (o : Option NodeId) → at list p ≡ o → IfSome o (λ id. IsSome (map.get now id.at))
     by None e = tt
     by (Some id) e = (live id.at).1 (h.told p id e).1
+
+pub live_node : (old now : Nodes) (order : List (Option NodeId)) → AreLive old order → (p : ℕ) → ((q : ℕ) → IsSome (map.get now q) ↔ IsSome (map.get old q)) → IfSome (at order p) (λ id. IsSome (map.get now id.at))
+live_node old now order h p live = by (at order p) refl
+  where
+    by : (o : Option NodeId) → at order p ≡ o → IfSome o (λ id. IsSome (map.get now id.at))
+    by None e = tt
+    by (Some id) e = (live id.at).1 (h p id e)
 
 module _ (slots : List Slot) (changed : Key → Bool) (keys : List (Option NodeId)) (edges : List Entry) where
   pub from_none : (q : ℕ) → IsMarkedFrom slots changed keys edges 0 q → ⊥

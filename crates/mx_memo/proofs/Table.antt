@@ -11,8 +11,8 @@ use Rattle.mx_memo.specs.declared.slot.Body.{Body}
 use Rattle.mx_memo.specs.declared.slot.Held.{Held}
 use Rattle.mx_memo.specs.declared.slot.Slot.{Slot}
 use Rattle.mx_memo.specs.declared.slot.Slot.TheVariants.{Free, Node, Watch}
-use Rattle.mx_memo.specs.Places.{slot_at, node_place, cleared, at, IsPlacedIn}
-use Rattle.mx_memo.specs.Kept.{Kept, Has, kept, entries, body_of, IsWhole}
+use Rattle.mx_memo.specs.Places.{slot_at, node_place, cleared, at, IsPlacedIn, Has}
+use Rattle.mx_memo.specs.Kept.{Kept, kept, entries, body_of, IsWhole}
 use Rattle.mx_memo.specs.Found.{node_at, IsFound, look_without, IsNew, IsNodeAt, IsHeldAs, IsBodyAt, IsHeldWith}
 use Rattle.mx_memo.proofs.Places.{Nodes, same_or, at_below, slot_freed}
 use Rattle.mx_memo.proofs.Touching.{at_entry, entry_at}

@@ -1,4 +1,4 @@
--- Marked are exactly the nodes that are touched.
+-- Entries with their edges.
 use Rattle.std.proofs.Common.{◌≡◌, ◌∙◌, ℕ, ◌+◌, Bool, true, false, cond, eqb, suc, zero, List, [], ◌∷◌, length, Option, Some, None, refl, sym, ap, subst, arith, ◌⊎◌, inl, inr}
 use Rattle.std.specs.Prelude.{◌↔◌}
 use Rattle.std.specs.FinMap as map
@@ -9,9 +9,9 @@ use Rattle.mx_edit.specs.declared.key.Key.{Key}
 use Rattle.mx_memo.specs.declared.slot.Slot.{Slot}
 use Rattle.mx_memo.specs.declared.slot.Watched.{Watched}
 use Rattle.mx_memo.specs.declared.slot.Slot.TheVariants.{Free, Node, Watch}
-use Rattle.mx_memo.specs.Places.{slot_at, node_place, key_place, at}
+use Rattle.mx_memo.specs.Places.{slot_at, node_place, key_place, at, Has}
 use Rattle.mx_memo.specs.Marked.{IsChangedKey, IsMarkedBy, IsMarkedFrom}
-use Rattle.mx_memo.specs.Kept.{Kept, Source, looked, asked, sources_at, source_in, kept, entries, IsNode, IsWhole, Has, HasChanged, IsTouched, Here, ByAsk}
+use Rattle.mx_memo.specs.Kept.{Kept, Source, looked, asked, sources_at, source_in, kept, entries, IsNode, IsWhole, HasChanged, IsTouched, Here, ByAsk}
 use Rattle.mx_memo.proofs.Places.{at_below}
 use Rattle.mx_memo.proofs.Edges.{find_has, has_find}
 
@@ -89,85 +89,3 @@ pub node_read : (q : ℕ) (s : Slot) (m : ℕ) → source_in q s ≡ asked m →
 node_read q Free m e = cc
 node_read q (Node h) m e = cc
 node_read q (Watch w) m e = cc
-
-module _ (g marked : Graph) (slots : List Slot) (order keys : List (Option NodeId)) (changed : Key → Bool) (whole : IsWhole g slots order keys) (relation : IsRelation g)
-    (from : (q : ℕ) → (map.get marked.nodes q ≡ Some true) ↔ ((map.get g.nodes q ≡ Some true) ⊎ IsMarkedFrom slots changed keys g.edges (length keys) q)) where
-  abbrev pub held : List Kept
-  held = entries g.edges slots 0 order
-
-  marked_by : (q : ℕ) → IsMarkedFrom slots changed keys g.edges (length keys) q → map.get marked.nodes q ≡ Some true
-  marked_by q m = (from q).1 (inr m)
-
-  by_marked : (q : ℕ) → map.get marked.nodes q ≡ Some true → IsMarkedFrom slots changed keys g.edges (length keys) q
-  by_marked q m = elim ((from q).0 m) [ inl a ↦ absurd (whole.unmarked q a) | inr a ↦ a ]
-
-  through : (o : Option NodeId) (k : ℕ) (e : Entry) → find k g.edges ≡ Some e → IsMarkedBy slots changed g.edges o e.read.at → IsMarkedBy slots changed g.edges o e.reader.at
-  through None k e f m = m
-  through (Some id) k e f m = (m.0, Through k e f m.1)
-
-  pub closed : (k : ℕ) (e : Entry) → find k g.edges ≡ Some e → map.get marked.nodes e.read.at ≡ Some true → map.get marked.nodes e.reader.at ≡ Some true
-  closed k e f m = let a = by_marked e.read.at m in marked_by e.reader.at (record { place = a.place; below = a.below; by = through (at keys a.place) k e f a.by })
-
-  -- a changed key that the edge reads is marked
-  key_marked : (e : Entry) → Has g.edges e → (w : Watched) → slot_at slots e.read.at ≡ Watch w → changed w.key ≡ true → map.get marked.nodes e.read.at ≡ Some true
-  key_marked e h w s c =
-      let st = whole.placed.keys_in.stands e.read.at w.place (ap key_place s) in
-      let by : IsMarkedBy slots changed g.edges (Some st.id) e.read.at
-      = (record { watched = w; slot = ap (slot_at slots) st.is ∙ s; tells = c }, subst (λ q. Reaches g.edges st.id.at q) st.is Itself) in
-      marked_by e.read.at (record { place = w.place; below = at_below keys w.place st.id st.there; by = subst (λ o. IsMarkedBy slots changed g.edges o e.read.at) (sym st.there) by })
-
-  pub touched_marked : (q : ℕ) → IsTouched (HasChanged changed) held q → map.get marked.nodes q ≡ Some true
-  touched_marked q (Here r h c) =
-      let i = entry_at g.edges slots 0 order r h in
-      let f = read_edge slots i.id.at g.edges (looked c.key) (subst (λ (r : Kept). Has r.sources (looked c.key)) (sym i.is) c.among) in
-      let k = key_read f.edge.read.at (slot_at slots f.edge.read.at) c.key f.is in
-      let m = key_marked f.edge f.among k.0 k.1 (ap changed k.2 ∙ c.tells) in
-      subst (λ n. map.get marked.nodes n ≡ Some true) (f.reader ∙ ap (λ (r : Kept). r.id) i.is) (closed f.edge.id.at f.edge (has_find g.edges relation.apart f.edge f.among) m)
-  touched_marked q (ByAsk r h m a t) =
-      let i = entry_at g.edges slots 0 order r h in
-      let f = read_edge slots i.id.at g.edges (asked m) (subst (λ (r : Kept). Has r.sources (asked m)) (sym i.is) a) in
-      let n = node_read f.edge.read.at (slot_at slots f.edge.read.at) m f.is in
-      subst (λ n. map.get marked.nodes n ≡ Some true) (f.reader ∙ ap (λ (r : Kept). r.id) i.is)
-      (closed f.edge.id.at f.edge (has_find g.edges relation.apart f.edge f.among) (subst (λ k. map.get marked.nodes k ≡ Some true) (sym n) (touched_marked m t)))
-
-  -- a key reads nothing
-  key_end : (s q : ℕ) (w : Watched) → slot_at slots q ≡ Watch w → Reaches g.edges s q → s ≡ q
-  key_end s q w k Itself = refl
-  key_end s q w k (Through n e f more) = absurd (subst IsNode k (whole.reads n e f))
-
-  -- a node that reads what is a changed key, or a node that is touched, is touched
-  reader_touched : (s : ℕ) → IsChangedKey slots changed s → (k : ℕ) (e : Entry) → find k g.edges ≡ Some e → Reaches g.edges s e.read.at → (stamp : ℕ) (id : NodeId) → Has held (kept g.edges slots stamp id) → Has (sources_at slots id.at g.edges) (source_in e.read.at (slot_at slots e.read.at))
-      → ((p : ℕ) (i : NodeId) → at order p ≡ Some i → i.at ≡ e.read.at → IsTouched (HasChanged changed) held e.read.at)
-      → (t : Slot) → slot_at slots e.read.at ≡ t → IsTouched (HasChanged changed) held id.at
-  reader_touched s c k e f more stamp id among read next Free t = absurd (whole.placed.live e.read.at (relation.between k e f).1 t)
-  reader_touched s c k e f more stamp id among read next (Watch w) t =
-      let same : s ≡ e.read.at = key_end s e.read.at w t more in
-      let both : Watch c.watched ≡ Watch w = sym c.slot ∙ ap (slot_at slots) same ∙ t in
-      let key : c.watched ≡ w = cc in
-      Here (kept g.edges slots stamp id) among (record {
-        key = w.key;
-        among = subst (λ u. Has (sources_at slots id.at g.edges) (source_in e.read.at u)) t read;
-        tells = ap (λ (v : Watched). changed v.key) (sym key) ∙ c.tells;
-      })
-  reader_touched s c k e f more stamp id among read next (Node h) t =
-      let st = whole.placed.nodes_in.stands e.read.at h.place (ap node_place t) in
-      ByAsk (kept g.edges slots stamp id) among e.read.at (subst (λ u. Has (sources_at slots id.at g.edges) (source_in e.read.at u)) t read) (next h.place st.id st.there st.is)
-
-  -- what reaches a changed key is touched
-  reach_touched : (s : ℕ) → IsChangedKey slots changed s → (q : ℕ) → Reaches g.edges s q → (p : ℕ) (id : NodeId) → at order p ≡ Some id → id.at ≡ q → IsTouched (HasChanged changed) held q
-  reach_touched s c q Itself p id there is =
-      let place : node_place (slot_at slots id.at) ≡ Some p = (whole.placed.nodes_in.told p id there).0 in
-      let none : node_place (slot_at slots id.at) ≡ None = ap (λ n. node_place (slot_at slots n)) is ∙ ap node_place c.slot in
-      cc
-  reach_touched s c q (Through k e f more) p id there is =
-      let entry = at_entry g.edges slots 0 order p id there in
-      let read = edge_read slots id.at g.edges e (find_has k g.edges e f) (sym is) in
-      subst (λ n. IsTouched (HasChanged changed) held n) is
-      (reader_touched s c k e f more entry.stamp id entry.among read (λ p i there is. reach_touched s c e.read.at more p i there is) (slot_at slots e.read.at) refl)
-
-  marked_from : (o : Option NodeId) (q : ℕ) → IsMarkedBy slots changed g.edges o q → (p : ℕ) (id : NodeId) → at order p ≡ Some id → id.at ≡ q → IsTouched (HasChanged changed) held q
-  marked_from None q m p id there is = absurd m
-  marked_from (Some s) q m p id there is = reach_touched s.at m.0 q m.1 p id there is
-
-  pub marked_touched : (p : ℕ) (id : NodeId) → at order p ≡ Some id → map.get marked.nodes id.at ≡ Some true → IsTouched (HasChanged changed) held id.at
-  marked_touched p id there m = let a = by_marked id.at m in marked_from (at keys a.place) id.at a.by p id there refl

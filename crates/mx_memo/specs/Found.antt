@@ -7,8 +7,8 @@ use Rattle.mx_memo.specs.declared.slot.Body.{Body}
 use Rattle.mx_memo.specs.declared.slot.Held.{Held}
 use Rattle.mx_memo.specs.declared.slot.Slot.{Slot}
 use Rattle.mx_memo.specs.declared.slot.Slot.TheVariants.{Free, Node, Watch}
-use Rattle.mx_memo.specs.Places.{slot_at, at}
-use Rattle.mx_memo.specs.Kept.{Kept, Has, body_of}
+use Rattle.mx_memo.specs.Places.{slot_at, at, Has}
+use Rattle.mx_memo.specs.Kept.{Kept, body_of}
 
 -- the node that the vertex q is
 abbrev pub node_at : List Slot → ℕ → Asked

@@ -5,8 +5,8 @@ use Rattle.mx_edit.specs.declared.key.Key.{Key}
 use Rattle.mx_memo.specs.declared.slot.Body.{Body}
 use Rattle.mx_memo.specs.declared.slot.Slot.{Slot}
 use Rattle.mx_memo.specs.declared.slot.Slot.TheVariants.{Free}
-use Rattle.mx_memo.specs.Places.{slot_at}
-use Rattle.mx_memo.specs.Kept.{Kept, Source, looked, asked, source_in, IsNode, Has}
+use Rattle.mx_memo.specs.Places.{slot_at, Has}
+use Rattle.mx_memo.specs.Kept.{Kept, Source, looked, asked, source_in, IsNode}
 
 -- what these vertices are as sources of a run
 abbrev pub sources_of : List Slot → List NodeId → List Source

@@ -10,7 +10,7 @@ use Rattle.mx_memo.specs.declared.slot.Body.{Body}
 use Rattle.mx_memo.specs.declared.slot.Slot.{Slot}
 use Rattle.mx_memo.specs.declared.slot.Watched.{Watched}
 use Rattle.mx_memo.specs.declared.slot.Slot.TheVariants.{Free, Node, Watch}
-use Rattle.mx_memo.specs.Places.{slot_at, IsPlaced}
+use Rattle.mx_memo.specs.Places.{slot_at, Has, IsPlaced}
 
 -- what a run took from elsewhere: a key that it looked up, or a held node that it asked, by its id
 pub data Source : Type 0 where
@@ -68,11 +68,6 @@ pub record IsWhole (graph : Graph) (slots : List Slot) (order keys : List (Optio
   pub unmarked : (q : ℕ) → map.get graph.nodes q ≡ Some true → ⊥
   pub reads : (k : ℕ) (e : Entry) → find k graph.edges ≡ Some e → IsNode (slot_at slots e.reader.at)
   pub once : (q r : ℕ) (v w : Watched) → slot_at slots q ≡ Watch v → slot_at slots r ≡ Watch w → v.key ≡ w.key → q ≡ r
-
--- x is among xs
-abbrev pub Has : {X : Type 0} → List X → X → Type 0
-Has [] x = ⊥
-Has (y ∷ ys) x = (y ≡ x) ⊎ Has ys x
 
 -- it looked up a key that is changed
 pub record HasChanged (changed : Key → Bool) (r : Kept) : Type 0 where

@@ -5,3 +5,4 @@ pub mod Restoring
 pub mod Held
 pub mod Found
 pub mod Memos
+pub mod Stamps

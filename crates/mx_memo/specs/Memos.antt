@@ -5,8 +5,8 @@ use Rattle.mx_value.specs.Equality.{node_eq}
 use Rattle.mx_memo.specs.Found.{IsFound}
 use Rattle.mx_graph.specs.declared.ids.NodeId.{NodeId}
 use Rattle.mx_memo.specs.declared.memo.Memo.TheInside.{Inside}
-use Rattle.mx_memo.specs.Places.{held_in}
-use Rattle.mx_memo.specs.Kept.{Kept, Has, IsHeld, entries, IsWhole}
+use Rattle.mx_memo.specs.Places.{held_in, Has}
+use Rattle.mx_memo.specs.Kept.{Kept, IsHeld, entries, IsWhole}
 
 -- the held nodes in order of holding, and the last stamp that was given
 pub record Memory : Type 0 where

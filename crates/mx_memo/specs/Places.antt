@@ -1,5 +1,5 @@
 -- Where the vertices of the graph stand.
-use Rattle.std.specs.Prelude.{◌≡◌, ℕ, ◌+◌, ◌<◌, List, [], ◌∷◌, Option, Some, None, IsSome, Bool, if◌then◌else◌, is_some, length, slice_index_or, slice_set}
+use Rattle.std.specs.Prelude.{◌≡◌, ◌⊎◌, ℕ, ◌+◌, ◌<◌, List, [], ◌∷◌, Option, Some, None, IsSome, Bool, if◌then◌else◌, is_some, length, slice_index_or, slice_set}
 use Rattle.std.specs.Ordering.{nat_cmp}
 use Rattle.std.specs.FinMap as map
 use Rattle.mx_graph.specs.declared.ids.NodeId.{NodeId}
@@ -48,6 +48,33 @@ pub record IsPlaced (nodes : map.FinMap nat_cmp Bool) (slots : List Slot) (order
   pub live : (q : ℕ) → IsSome (map.get nodes q) → slot_at slots q ≡ Free → ⊥
   pub nodes_in : IsPlacedIn node_place nodes slots order
   pub keys_in : IsPlacedIn key_place nodes slots keys
+
+-- the vertex at another place
+abbrev pub with_place : ℕ → Slot → Slot
+with_place p Free = Free
+with_place p (Node h) = Node (record h { place = p })
+with_place p (Watch w) = Watch (record w { place = p })
+
+-- the same vertex, maybe at another place
+abbrev pub IsAlike : Slot → Slot → Type 0
+IsAlike s t = (p : ℕ) → with_place p t ≡ with_place p s
+
+-- x is among xs
+abbrev pub Has : {X : Type 0} → List X → X → Type 0
+Has [] x = ⊥
+Has (y ∷ ys) x = (y ≡ x) ⊎ Has ys x
+
+-- no vertex stands twice
+abbrev pub StandOnce : List (Option NodeId) → Type 0
+StandOnce [] = Unit {0}
+StandOnce (None ∷ list) = StandOnce list
+StandOnce (Some id ∷ list) = ((j : NodeId) → Has list (Some j) → id.at ≡ j.at → ⊥) × StandOnce list
+
+-- each vertex of the list is told its place in it, and all else is as it was
+pub record IsSettled (slots slots2 : List Slot) (list : List (Option NodeId)) : Type 0 where
+  pub alike : (q : ℕ) → IsAlike (slot_at slots q) (slot_at slots2 q)
+  pub told : (p : ℕ) (id : NodeId) → at list p ≡ Some id → slot_at slots2 id.at ≡ with_place p (slot_at slots id.at)
+  pub others : (q : ℕ) → ((p : ℕ) (id : NodeId) → at list p ≡ Some id → id.at ≡ q → ⊥) → slot_at slots2 q ≡ slot_at slots q
 
 -- what stands there, where it is a vertex of the graph
 abbrev pub if_live : map.FinMap nat_cmp Bool → Option NodeId → Option NodeId

@@ -3,8 +3,8 @@ ghost use Rattle.std.specs.Prelude.{◌≡◌, ◌<◌, ◌≤◌, length};
 ghost use Rattle.std.specs.HashMap.{get as look_up};
 ghost use Rattle.mx_value.specs.Equality.{node_eq};
 ghost use Rattle.mx_memo.specs.Found.{IsFound};
-ghost use Rattle.mx_memo.specs.Places.{held_in};
-ghost use Rattle.mx_memo.specs.Kept.{IsTouched, HasChanged, IsToGo, Sifts, IsWhole, entries};
+ghost use Rattle.mx_memo.specs.Places.{held_in, slot_at};
+ghost use Rattle.mx_memo.specs.Kept.{IsTouched, HasChanged, IsToGo, Sifts, IsNode, IsWhole, entries};
 
 use crate::finding::Table;
 use crate::marking::{mark_after, mark_changed, mark_where};
@@ -86,5 +86,31 @@ pub fn drop_where<T: NodeTest>(
 {
     graph.relation();
     mark_where(graph, slots.as_slice(), order.as_slice(), test);
+    sweep(graph, slots, order, keys, count, table);
+}
+
+/// Drops a held node, with all that reach it.
+pub fn drop_one(
+    graph: &mut ReadGraph,
+    slots: &mut Vec<Slot>,
+    order: &mut Vec<Option<NodeId>>,
+    keys: &mut Vec<Option<NodeId>>,
+    count: &mut u32,
+    table: &mut Table,
+    from: NodeId,
+)
+    requires found { IsFound (look_up node_eq table.old) slots.old.items order.old.items }
+    requires count { count.old ≡ held_in order.old.items }
+    requires whole { IsWhole graph.old slots.old.items order.old.items keys.old.items }
+    requires node { IsNode (slot_at slots.old.items from.at) }
+    ensures found { IsFound (look_up node_eq table.new) slots.new.items order.new.items }
+    ensures count { count.new ≡ held_in order.new.items }
+    ensures less { count.new ≤ count.old }
+    ensures last { length order.new.items ≡ length order.old.items }
+    ensures whole { IsWhole graph.new slots.new.items order.new.items keys.new.items }
+    ensures sifts { Sifts (IsTouched (λ r. r.id ≡ from.at) (entries graph.old.edges slots.old.items 0 order.old.items)) (entries graph.old.edges slots.old.items 0 order.old.items) (entries graph.new.edges slots.new.items 0 order.new.items) }
+{
+    graph.relation();
+    graph.mark_readers(from);
     sweep(graph, slots, order, keys, count, table);
 }

@@ -1,16 +1,19 @@
 //! The memo.
 ghost use Rattle.std.specs.Prelude.{◌≡◌, ◌<◌, ◌≤◌, ◌+◌, ◌↔◌, Err, IfOk, IfSome, IfNone, MatchOption, OnErr, length};
 ghost use Rattle.mx_memo.specs.declared.refusal.HoldRefusal.TheVariants.{Full};
-ghost use Rattle.mx_memo.specs.Kept.{Has, IsHeld, IsTouched, HasChanged, IsToGo, Sifts};
+ghost use Rattle.mx_memo.specs.Places.{Has};
+ghost use Rattle.mx_memo.specs.Kept.{IsHeld, IsTouched, HasChanged, IsToGo, Sifts};
 ghost use Rattle.mx_memo.specs.Held.{entry_with};
+ghost use Rattle.mx_memo.specs.Stamps.{NoneAfter, IsNextAfter, IsHeldSince};
 ghost use Rattle.mx_memo.specs.Found.{IsHeldAs, IsHeldWith, IsNew};
 ghost use Rattle.mx_memo.specs.Memos.{AreHeld, HoldsLast, nothing_held, most_held};
 
-use crate::drops::{drop_after, drop_changed, drop_where};
+use crate::drops::{drop_after, drop_changed, drop_one, drop_where};
 use crate::finding::{Table, holds_node, node_laws};
 use crate::holding::{hold_with, vertices_of};
 use crate::refusal::HoldRefusal;
 use crate::slot::{Body, Slot};
+use crate::stamps::{first_from, place_at};
 use crate::test_of_key::KeyTest;
 use crate::test_of_node::NodeTest;
 use crate::vertices::body_at;
@@ -106,6 +109,25 @@ impl Memo {
         body_at(&self.slots, id)
     }
 
+    /// The stamp of a held node: its place in the order of holding, from 1. None exactly where no node of this id is held.
+    pub fn stamp(&self, id: NodeId) -> Option<usize>
+        ensures { MatchOption result (IsHeld self.now.held id.at → ⊥) (λ stamp. IsHeldSince self.now.held id.at stamp) }
+    {
+        let Some(place) = place_at(&self.slots, id) else {
+            return None;
+        };
+        let is_below = place < self.order.len();
+        prove!(is_below);
+        Some(place + 1)
+    }
+
+    /// The held node of the least stamp above this one. None exactly where there is none.
+    pub fn after(&self, stamp: usize) -> Option<NodeId>
+        ensures { MatchOption result (NoneAfter self.now.held stamp) (λ id. IsNextAfter self.now.held stamp id.at) }
+    {
+        first_from(&self.order, stamp)
+    }
+
     /// Holds a node behind all others, with the keys that its run looked up and the held nodes that it asked, each once
     /// and in order of first occurrence. `Full` comes exactly where as many are held as may be. After an error the memo is
     /// as before.
@@ -185,6 +207,26 @@ impl Memo {
             &mut self.count,
             &mut self.table,
             test,
+        );
+        before - self.count
+    }
+
+    /// Drops a held node, with all that reach it, and tells how many are dropped. It costs what is dropped.
+    pub fn drop_node(&mut self, from: NodeId) -> u32
+        requires { IsHeld self.old.held from.at }
+        ensures drops { Sifts (IsTouched (λ r. r.id ≡ from.at) self.old.held) self.old.held self.new.held }
+        ensures count { result + length self.new.held ≡ length self.old.held }
+        ensures last { self.new.last ≡ self.old.last }
+    {
+        let before = self.count;
+        drop_one(
+            &mut self.graph,
+            &mut self.slots,
+            &mut self.order,
+            &mut self.keys,
+            &mut self.count,
+            &mut self.table,
+            from,
         );
         before - self.count
     }

@@ -1,14 +1,15 @@
 use Rattle.std.proofs.Common.{◌≡◌, ◌∙◌, ℕ, List, Option, Some, true, ap, subst, length, ◌⊎◌}
-use Rattle.std.specs.Prelude.{◌↔◌, filter}
+use Rattle.std.specs.Prelude.{◌↔◌}
 use Rattle.std.specs.FinMap as map
 use Rattle.std.proofs.lemmas.List.{length-map}
 use Rattle.mx_graph.specs.declared.ids.NodeId.{NodeId}
-use Rattle.mx_graph.specs.Relation.{is_kept}
 use Rattle.mx_memo.specs.declared.slot.Slot.{Slot}
-use Rattle.mx_memo.specs.Marked.{IsMarkedFrom}
-use Rattle.mx_memo.specs.Kept.{IsTouched, HasChanged, entries}
-use Rattle.mx_memo.proofs.Keeping.{IsDropped, sifted, left_whole, placed_live}
-use Rattle.mx_memo.proofs.Touching.{closed, touched_marked, marked_touched}
+use Rattle.mx_memo.specs.Marked.{IsMarkedFrom, IsChangedKey}
+use Rattle.mx_memo.specs.Kept.{HasChanged}
+use Rattle.mx_memo.proofs.Keeping.{placed_live}
+use Rattle.mx_memo.proofs.Spreading.{either}
+use Rattle.mx_memo.proofs.Starts.{keys_spread, spread_keys, changed_started, changed_here, changed_key}
+use Rattle.mx_memo.proofs.Dropping.{IsSwept, swept_whole, swept_sifts}
 use Rattle.mx_memo.proofs.drops.drop_changed.Given.{Over}
 use Rattle.mx_memo.proofs.drops.drop_changed.Goals as goal
 
@@ -20,26 +21,27 @@ from g c q =
     subst (λ (xs : List (Option NodeId)). (map.get c.mark_changed.new.graph.nodes q ≡ Some true) ↔ ((map.get c.args.graph.now.nodes q ≡ Some true) ⊎ IsMarkedFrom c.args.slots.now.items (g.T.KeyTest.changed c.args.test.now) xs c.args.graph.now.edges (length xs) q)) c.as_slice-2.ensures.value
     (subst (λ (xs : List Slot). (map.get c.mark_changed.new.graph.nodes q ≡ Some true) ↔ ((map.get c.args.graph.now.nodes q ≡ Some true) ⊎ IsMarkedFrom xs (g.T.KeyTest.changed c.args.test.now) c.as_slice-2.result.now c.args.graph.now.edges (length c.as_slice-2.result.now) q)) c.as_slice.ensures.value (c.mark_changed.ensures.marked q))
 
-dropped : (g : Over) (c : goal.After-sweep g) → IsDropped c.args.graph.now c.mark_changed.new.graph c.sweep.new.graph c.args.slots.now.items c.sweep.new.slots.items c.args.order.now.items c.sweep.new.order.items
-dropped g c = record {
-  relation = c.relation.ensures;
+swept : (g : Over) (c : goal.After-sweep g) → IsSwept c.args.graph.now c.mark_changed.new.graph c.sweep.new.graph c.args.slots.now.items c.sweep.new.slots.items c.args.order.now.items c.sweep.new.order.items (IsChangedKey c.args.slots.now.items (g.T.KeyTest.changed c.args.test.now))
+swept g c = record {
   live = c.mark_changed.ensures.live;
-  closed = closed c.args.graph.now c.mark_changed.new.graph c.args.slots.now.items c.args.order.now.items c.args.keys.now.items (g.T.KeyTest.changed c.args.test.now) c.requires.whole c.relation.ensures (from g c);
+  edges_stay = c.mark_changed.ensures.edges;
+  from = λ q. either (from g c q) (keys_spread c.args.graph.now c.args.slots.now.items c.args.order.now.items c.args.keys.now.items c.requires.whole c.relation.ensures (g.T.KeyTest.changed c.args.test.now) q) (spread_keys c.args.graph.now c.args.slots.now.items c.args.order.now.items c.args.keys.now.items c.requires.whole c.relation.ensures (g.T.KeyTest.changed c.args.test.now) q);
   nodes = c.sweep.ensures.nodes;
-  edges = c.sweep.ensures.edges ∙ ap (filter (is_kept c.mark_changed.new.graph.nodes)) c.mark_changed.ensures.edges;
+  edges = c.sweep.ensures.edges;
   slots_are = c.sweep.ensures.slots;
   order_is = c.sweep.ensures.order;
 }
 
 pub returns-clause-whole : goal.returns-clause-whole
-returns-clause-whole g c = left_whole c.args.graph.now c.mark_changed.new.graph c.sweep.new.graph c.args.slots.now.items c.sweep.new.slots.items c.args.order.now.items c.sweep.new.order.items c.args.keys.now.items c.sweep.new.keys.items c.requires.whole (dropped g c) c.sweep.ensures.placed
+returns-clause-whole g c = swept_whole c.args.graph.now c.mark_changed.new.graph c.sweep.new.graph c.args.slots.now.items c.sweep.new.slots.items c.args.order.now.items c.sweep.new.order.items c.args.keys.now.items c.sweep.new.keys.items c.requires.whole c.relation.ensures (IsChangedKey c.args.slots.now.items (g.T.KeyTest.changed c.args.test.now)) (swept g c) c.sweep.ensures.placed
 
 pub returns-clause-sifts : goal.returns-clause-sifts
 returns-clause-sifts g c =
-    sifted c.args.graph.now c.mark_changed.new.graph c.sweep.new.graph c.args.slots.now.items c.sweep.new.slots.items c.args.order.now.items c.sweep.new.order.items c.args.keys.now.items c.sweep.new.keys.items c.requires.whole (dropped g c)
-    (IsTouched (HasChanged (g.T.KeyTest.changed c.args.test.now)) (entries c.args.graph.now.edges c.args.slots.now.items 0 c.args.order.now.items))
-    (marked_touched c.args.graph.now c.mark_changed.new.graph c.args.slots.now.items c.args.order.now.items c.args.keys.now.items (g.T.KeyTest.changed c.args.test.now) c.requires.whole c.relation.ensures (from g c))
-    (touched_marked c.args.graph.now c.mark_changed.new.graph c.args.slots.now.items c.args.order.now.items c.args.keys.now.items (g.T.KeyTest.changed c.args.test.now) c.requires.whole c.relation.ensures (from g c))
+    swept_sifts c.args.graph.now c.mark_changed.new.graph c.sweep.new.graph c.args.slots.now.items c.sweep.new.slots.items c.args.order.now.items c.sweep.new.order.items c.args.keys.now.items c.sweep.new.keys.items c.requires.whole c.relation.ensures (IsChangedKey c.args.slots.now.items (g.T.KeyTest.changed c.args.test.now)) (swept g c)
+    (HasChanged (g.T.KeyTest.changed c.args.test.now))
+    (changed_started c.args.graph.now c.args.slots.now.items c.args.order.now.items c.args.keys.now.items c.requires.whole c.relation.ensures (g.T.KeyTest.changed c.args.test.now))
+    (changed_here c.args.graph.now c.args.slots.now.items c.args.order.now.items c.args.keys.now.items c.requires.whole c.relation.ensures (g.T.KeyTest.changed c.args.test.now))
+    (changed_key c.args.graph.now c.args.slots.now.items c.args.order.now.items c.args.keys.now.items c.requires.whole c.relation.ensures (g.T.KeyTest.changed c.args.test.now))
 
 pub returns-clause-last : goal.returns-clause-last
 returns-clause-last g c = ap length c.sweep.ensures.order ∙ length-map c.args.order.now.items _
