@@ -15,3 +15,4 @@ pub mod Spreading
 pub mod Starts
 pub mod Dropping
 pub mod Settling
+pub mod Settled

@@ -1,5 +1,5 @@
 -- Stamps: where held nodes stand in the order of holding.
-use Rattle.std.specs.Prelude.{◌≡◌, ℕ, ◌<◌, ◌≤◌, List, Option, Some}
+use Rattle.std.specs.Prelude.{◌≡◌, ℕ, ◌+◌, ◌<◌, ◌≤◌, List, [], ◌∷◌, Option, Some}
 use Rattle.mx_graph.specs.declared.ids.NodeId.{NodeId}
 use Rattle.mx_memo.specs.Places.{at, Has}
 use Rattle.mx_memo.specs.Kept.{Kept}
@@ -33,3 +33,8 @@ pub record IsHeldSince (held : List Kept) (id stamp : ℕ) : Type 0 where
   pub among : Has held entry
   pub id_is : entry.id ≡ id
   pub stamp_is : entry.stamp ≡ stamp
+
+-- the held nodes with the stamps above p, without a gap
+abbrev pub renumbered : ℕ → List Kept → List Kept
+renumbered p [] = []
+renumbered p (r ∷ rs) = record r { stamp = p + 1 } ∷ renumbered (p + 1) rs

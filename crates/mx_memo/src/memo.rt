@@ -4,7 +4,7 @@ ghost use Rattle.mx_memo.specs.declared.refusal.HoldRefusal.TheVariants.{Full};
 ghost use Rattle.mx_memo.specs.Places.{Has};
 ghost use Rattle.mx_memo.specs.Kept.{IsHeld, IsTouched, HasChanged, IsToGo, Sifts};
 ghost use Rattle.mx_memo.specs.Held.{entry_with};
-ghost use Rattle.mx_memo.specs.Stamps.{NoneAfter, IsNextAfter, IsHeldSince};
+ghost use Rattle.mx_memo.specs.Stamps.{NoneAfter, IsNextAfter, IsHeldSince, renumbered};
 ghost use Rattle.mx_memo.specs.Found.{IsHeldAs, IsHeldWith, IsNew};
 ghost use Rattle.mx_memo.specs.Memos.{AreHeld, HoldsLast, nothing_held, most_held};
 
@@ -12,6 +12,7 @@ use crate::drops::{drop_after, drop_changed, drop_one, drop_where};
 use crate::finding::{Table, holds_node, node_laws};
 use crate::holding::{hold_with, vertices_of};
 use crate::refusal::HoldRefusal;
+use crate::settle::settle;
 use crate::slot::{Body, Slot};
 use crate::stamps::{first_from, place_at};
 use crate::test_of_key::KeyTest;
@@ -126,6 +127,14 @@ impl Memo {
         ensures { MatchOption result (NoneAfter self.now.held stamp) (λ id. IsNextAfter self.now.held stamp id.at) }
     {
         first_from(&self.order, stamp)
+    }
+
+    /// Gives the held nodes, in their order, the stamps from 1 without a gap. Takes no memory.
+    pub fn renumber(&mut self)
+        ensures held { self.new.held ≡ renumbered 0 self.old.held }
+        ensures last { self.new.last ≡ length self.old.held }
+    {
+        settle(&mut self.slots, &mut self.order);
     }
 
     /// Holds a node behind all others, with the keys that its run looked up and the held nodes that it asked, each once
