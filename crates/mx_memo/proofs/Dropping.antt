@@ -1,5 +1,5 @@
 -- What a marking from some vertices and a sweep leave.
-use Rattle.std.proofs.Common.{◌≡◌, ◌∙◌, ℕ, ◌+◌, true, cond, List, Option, Some, None, ap, map as map_list, ◌⊎◌}
+use Rattle.std.proofs.Common.{◌≡◌, ◌∙◌, ℕ, ◌+◌, true, cond, List, ◌∷◌, Option, Some, None, refl, ap, map as map_list, ◌⊎◌}
 use Rattle.std.specs.Prelude.{◌↔◌, IsSome, filter}
 use Rattle.std.specs.FinMap as map
 use Rattle.mx_graph.specs.declared.ids.NodeId.{NodeId}
@@ -8,7 +8,7 @@ use Rattle.mx_memo.specs.declared.slot.Slot.{Slot}
 use Rattle.mx_memo.specs.declared.slot.Watched.{Watched}
 use Rattle.mx_memo.specs.declared.slot.Slot.TheVariants.{Free, Watch}
 use Rattle.mx_memo.specs.Places.{slot_at, at, IsPlaced, if_live, Has}
-use Rattle.mx_memo.specs.Kept.{Kept, looked, kept, entries, IsWhole, IsTouched, Sifts}
+use Rattle.mx_memo.specs.Kept.{Kept, looked, kept, entries, IsWhole, IsTouched, Here, ByAsk, Sifts, Done, Keeps, Drops}
 use Rattle.mx_memo.proofs.Keeping.{IsDropped, sifted, left_whole}
 use Rattle.mx_memo.proofs.Spreading.{Spreads, closed, touched_marked, marked_touched}
 
@@ -39,9 +39,22 @@ module _ (g marked left : Graph) (slots slots2 : List Slot) (order order2 keys k
 
   pub swept_sifts : (passes : Kept → Type 0) → ((r : Kept) → Has (entries g.edges slots 0 order) r → passes r → Spreads g.edges Start r.id)
       → ((p : ℕ) (id : NodeId) → at order p ≡ Some id → Start id.at → (stamp : ℕ) → stamp ≡ p + 1 → passes (kept g.edges slots stamp id))
-      → ((q : ℕ) (w : Watched) → slot_at slots q ≡ Watch w → Start q → (r : Kept) → Has r.sources (looked w.key) → passes r)
+      → ((q : ℕ) (w : Watched) → slot_at slots q ≡ Watch w → Start q → (r : Kept) → Has (entries g.edges slots 0 order) r → Has r.sources (looked w.key) → passes r)
       → Sifts (IsTouched passes (entries g.edges slots 0 order)) (entries g.edges slots 0 order) (entries left.edges slots2 0 order2)
   swept_sifts passes started here by_key =
       sifted g marked left slots slots2 order order2 keys keys2 whole dropped (IsTouched passes (entries g.edges slots 0 order))
       (marked_touched g marked slots order keys whole relation Start s.from passes started here by_key)
       (touched_marked g marked slots order keys whole relation Start s.from passes started here by_key)
+
+never : (held : List Kept) (q : ℕ) → IsTouched (λ r. ⊥) held q → ⊥
+never held q (Here r h c) = c
+never held q (ByAsk r h m a t) = never held m t
+
+all_left : (Out : ℕ → Type 0) (xs ys : List Kept) → ((q : ℕ) → Out q → ⊥) → Sifts Out xs ys → ys ≡ xs
+all_left Out xs ys n Done = refl
+all_left Out xs ys n (Keeps r rs ks o s) = ap (λ (ls : List Kept). r ∷ ls) (all_left Out rs ks n s)
+all_left Out xs ys n (Drops r rs ks o s) = absurd (n r.id o)
+
+-- where nothing passes, all is left
+pub left_all : (held left : List Kept) → Sifts (IsTouched (λ r. ⊥) held) held left → left ≡ held
+left_all held left s = all_left (IsTouched (λ r. ⊥) held) held left (never held) s

@@ -1,7 +1,5 @@
 -- What is seen of a memo whose vertices were told new places.
 use Rattle.std.proofs.Common.{◌≡◌, ◌∙◌, ℕ, ◌+◌, true, false, cond, eqb, List, [], ◌∷◌, length, Option, Some, None, refl, sym, ap, subst, arith}
-use Rattle.std.specs.Ordering.{nat_cmp}
-use Rattle.std.specs.FinMap as map
 use Rattle.mx_graph.specs.declared.ids.NodeId.{NodeId}
 use Rattle.mx_graph.specs.Relation.{Entry, Graph}
 use Rattle.mx_value.specs.declared.node.Node.{Node as Asked}
@@ -9,7 +7,7 @@ use Rattle.mx_memo.specs.declared.slot.Body.{Body}
 use Rattle.mx_memo.specs.declared.slot.Slot.{Slot}
 use Rattle.mx_memo.specs.declared.slot.Slot.TheVariants.{Free, Node, Watch}
 use Rattle.mx_memo.specs.Places.{slot_at, node_place, key_place, at, with_place, IsAlike, IsPlacedIn, IsSettled, StandOnce, held_in}
-use Rattle.mx_memo.specs.Kept.{Kept, Source, sources_at, source_in, kept, entries, body_of, IsNode, IsWhole}
+use Rattle.mx_memo.specs.Kept.{Kept, Source, sources_at, source_in, kept, entries, body_of, IsWhole}
 use Rattle.mx_memo.specs.Stamps.{renumbered}
 use Rattle.mx_memo.specs.Found.{IsFound}
 use Rattle.mx_memo.proofs.Places.{Nodes}
@@ -135,7 +133,7 @@ key_back s t a p e = by s (ap key_place (sym (a 0)) ∙ key_moves t p 0 e)
     by (Node h) e = cc
     by (Watch w) e = (w.place, refl)
 
-not_both : (s : Slot) (k p : ℕ) → node_place s ≡ Some k → key_place s ≡ Some p → ⊥
+pub not_both : (s : Slot) (k p : ℕ) → node_place s ≡ Some k → key_place s ≡ Some p → ⊥
 not_both Free k p a b = cc
 not_both (Node h) k p a b = cc
 not_both (Watch w) k p a b = cc

@@ -1,5 +1,5 @@
 -- A list without its free places, and vertices that are told their new ones.
-use Rattle.std.proofs.Common.{◌≡◌, ◌∙◌, ℕ, ◌+◌, ◌<◌, suc, zero, true, false, cond, eqb, List, [], ◌∷◌, length, Option, Some, None, is_some, refl, sym, ap, subst, arith, ◌⊎◌, inl, inr}
+use Rattle.std.proofs.Common.{◌≡◌, ◌∙◌, ℕ, ◌+◌, ◌<◌, suc, zero, true, false, cond, eqb, List, [], ◌∷◌, length, Option, Some, None, is_some, refl, sym, ap, subst, arith, inl, inr}
 use Rattle.std.specs.Prelude.{filter}
 use Rattle.std.proofs.lemmas.Bool.{eqb-true, eq-eqb}
 use Rattle.std.proofs.lemmas.List.{get_or_past}
@@ -70,15 +70,14 @@ has_there (o ∷ list) (suc p) id e = inr (has_there list p id e)
 pub once_of : (place : Slot → Option ℕ) (slots : List Slot) (k : ℕ) (list : List (Option NodeId)) → ((p : ℕ) (id : NodeId) → at list p ≡ Some id → place (slot_at slots id.at) ≡ Some (k + p)) → StandOnce list
 once_of place slots k [] h = tt
 once_of place slots k (None ∷ list) h = once_of place slots (k + 1) list (λ p id e. h (suc p) id e ∙ ap Some (omega arith))
-once_of place slots k (Some i ∷ list) h =
-    (
-      λ j n s.
+once_of place slots k (Some i ∷ list) h = (
+  λ j n s.
       let f = at_has list j n in
       let both : Some (k + 0) ≡ Some (k + suc f.0) = sym (h 0 i refl) ∙ ap (λ q. place (slot_at slots q)) s ∙ h (suc f.0) j f.1 in
       let same : k + 0 ≡ k + suc f.0 = cc in
       absurd (omega (arith, same)),
-      once_of place slots (k + 1) list (λ p id e. h (suc p) id e ∙ ap Some (omega arith)),
-    )
+  once_of place slots (k + 1) list (λ p id e. h (suc p) id e ∙ ap Some (omega arith)),
+)
 
 abbrev pub taken : List (Option NodeId) → List (Option NodeId)
 taken list = filter is_some list

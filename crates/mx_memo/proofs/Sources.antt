@@ -10,11 +10,11 @@ use Rattle.mx_memo.specs.declared.slot.Slot.{Slot}
 use Rattle.mx_memo.specs.declared.slot.Held.{Held}
 use Rattle.mx_memo.specs.declared.slot.Slot.TheVariants.{Free, Node, Watch}
 use Rattle.mx_memo.specs.Places.{slot_at, node_place, Has}
-use Rattle.mx_memo.specs.Kept.{Kept, Source, looked, asked, source_in, entries, IsNode, IsWhole, IsKeyAt, with_read}
+use Rattle.mx_memo.specs.Kept.{Kept, Source, looked, source_in, entries, IsWhole, IsKeyAt, with_read}
 use Rattle.mx_memo.specs.Held.{sources_of, with_sources, AreThere, AreNodes, asked_id}
 use Rattle.mx_memo.proofs.Places.{at_below}
 use Rattle.mx_memo.proofs.Touching.{entry_at}
-use Rattle.mx_memo.proofs.Reading.{node_not_free, read_of_node}
+use Rattle.mx_memo.proofs.Reading.{read_of_node}
 
 pub has_push : {X : Type 0} (xs : List X) (y x : X) → Has (xs ++ y ∷ []) x → Has xs x ⊎ (y ≡ x)
 has_push [] y x h = elim h [ inl e ↦ inr e | inr i ↦ absurd i ]

@@ -43,7 +43,7 @@ module _ (g marked : Graph) (slots : List Slot) (order keys : List (Option NodeI
 
   module _ (passes : Kept → Type 0) (started : (r : Kept) → Has held r → passes r → Spreads g.edges Start r.id)
       (here : (p : ℕ) (id : NodeId) → at order p ≡ Some id → Start id.at → (stamp : ℕ) → stamp ≡ p + 1 → passes (kept g.edges slots stamp id))
-      (by_key : (s : ℕ) (w : Watched) → slot_at slots s ≡ Watch w → Start s → (r : Kept) → Has r.sources (looked w.key) → passes r) where
+      (by_key : (s : ℕ) (w : Watched) → slot_at slots s ≡ Watch w → Start s → (r : Kept) → Has held r → Has r.sources (looked w.key) → passes r) where
     pub touched_marked : (q : ℕ) → IsTouched passes held q → map.get marked.nodes q ≡ Some true
     touched_marked q (Here r h c) = spread r.id (started r h c)
     touched_marked q (ByAsk r h m a t) =
@@ -61,7 +61,7 @@ module _ (g marked : Graph) (slots : List Slot) (order keys : List (Option NodeI
     reader_touched s b k e f more stamp id among read next (Watch w) t =
         let same : s ≡ e.read.at = key_end s e.read.at w t more in
         Here (kept g.edges slots stamp id) among
-        (by_key e.read.at w t (subst Start same b) (kept g.edges slots stamp id) (subst (λ u. Has (sources_at slots id.at g.edges) (source_in e.read.at u)) t read))
+        (by_key e.read.at w t (subst Start same b) (kept g.edges slots stamp id) among (subst (λ u. Has (sources_at slots id.at g.edges) (source_in e.read.at u)) t read))
     reader_touched s b k e f more stamp id among read next (Node h) t =
         let st = whole.placed.nodes_in.stands e.read.at h.place (ap node_place t) in
         ByAsk (kept g.edges slots stamp id) among e.read.at (subst (λ u. Has (sources_at slots id.at g.edges) (source_in e.read.at u)) t read) (next h.place st.id st.there st.is)

@@ -1,5 +1,5 @@
 -- Stamps and places.
-use Rattle.std.proofs.Common.{◌≡◌, ◌∙◌, ℕ, ◌+◌, ◌<◌, ◌≤◌, List, Option, Some, refl, ap, arith}
+use Rattle.std.proofs.Common.{◌≡◌, ◌∙◌, ℕ, ◌+◌, List, Option, Some, refl, ap, arith}
 use Rattle.mx_graph.specs.declared.ids.NodeId.{NodeId}
 use Rattle.mx_graph.specs.Relation.{Entry, Graph}
 use Rattle.mx_memo.specs.declared.slot.Slot.{Slot}

@@ -1,20 +1,20 @@
 -- From which vertices each marking starts, and which held nodes pass with them.
-use Rattle.std.proofs.Common.{◌≡◌, ◌∙◌, ℕ, ◌+◌, ◌<◌, ◌≤◌, Bool, true, List, length, Option, Some, None, refl, ap, sym, subst, arith, ◌⊎◌, inl, inr}
-use Rattle.std.specs.Prelude.{◌↔◌}
-use Rattle.std.specs.FinMap as map
+use Rattle.std.proofs.Common.{◌≡◌, ◌∙◌, ℕ, ◌+◌, ◌<◌, ◌≤◌, Bool, true, false, cond, List, [], ◌∷◌, length, Option, Some, None, refl, ap, sym, subst, arith, inl, inr}
 use Rattle.mx_graph.specs.declared.ids.NodeId.{NodeId}
-use Rattle.mx_graph.specs.Relation.{Entry, Graph, IsRelation, Reaches, Itself, Through}
+use Rattle.std.proofs.lemmas.Bool.{eq-eqb}
+use Rattle.mx_graph.specs.Relation.{Entry, Graph, IsRelation, Reaches, Itself, Through, by_read, first_in}
 use Rattle.mx_edit.specs.declared.key.Key.{Key}
 use Rattle.mx_memo.specs.declared.slot.Body.{Body}
 use Rattle.mx_memo.specs.declared.slot.Slot.{Slot}
 use Rattle.mx_memo.specs.declared.slot.Watched.{Watched}
 use Rattle.mx_memo.specs.declared.slot.Slot.TheVariants.{Free, Node, Watch}
 use Rattle.mx_memo.specs.Places.{slot_at, node_place, key_place, at, Has}
-use Rattle.mx_memo.specs.Marked.{IsChangedKey, IsMarkedBy, IsMarkedFrom, DoesReach, IsReaching, AreLive, IsGoing, DoesGo, IsGoingFrom}
+use Rattle.mx_memo.specs.Marked.{IsChangedKey, IsMarkedBy, IsMarkedFrom, DoesReach, IsReaching, AreLive, IsGoing, DoesGo, IsGoingFrom, IsUnreadBy, IsUnreadFrom}
 use Rattle.mx_memo.specs.Kept.{Kept, looked, kept, entries, body_of, IsNode, IsWhole, HasChanged, IsToGo}
 use Rattle.mx_memo.proofs.Places.{at_below}
 use Rattle.mx_memo.proofs.Edges.{has_find}
 use Rattle.mx_memo.proofs.Touching.{read_edge, entry_at, key_read}
+use Rattle.mx_memo.proofs.Settled.{not_both}
 use Rattle.mx_memo.proofs.Spreading.{Spreads}
 
 -- a vertex that stands in the order is no key
@@ -61,8 +61,8 @@ module _ (g : Graph) (slots : List Slot) (order keys : List (Option NodeId)) (wh
     pub changed_here : (p : ℕ) (id : NodeId) → at order p ≡ Some id → IsChangedKey slots changed id.at → (stamp : ℕ) → stamp ≡ p + 1 → HasChanged changed (kept g.edges slots stamp id)
     changed_here p id there b stamp e = absurd (no_key slots id.at p b.watched (in_order p id there) b.slot)
 
-    pub changed_key : (s : ℕ) (w : Watched) → slot_at slots s ≡ Watch w → IsChangedKey slots changed s → (r : Kept) → Has r.sources (looked w.key) → HasChanged changed r
-    changed_key s w t b r h =
+    pub changed_key : (s : ℕ) (w : Watched) → slot_at slots s ≡ Watch w → IsChangedKey slots changed s → (r : Kept) → Has held r → Has r.sources (looked w.key) → HasChanged changed r
+    changed_key s w t b r i h =
         let both : Watch b.watched ≡ Watch w = sym b.slot ∙ t in
         let key : b.watched ≡ w = cc in
         record { key = w.key; among = h; tells = ap (λ (v : Watched). changed v.key) (sym key) ∙ b.tells }
@@ -101,8 +101,8 @@ module _ (g : Graph) (slots : List Slot) (order keys : List (Option NodeId)) (wh
     pub goes_here : (p : ℕ) (id : NodeId) → at order p ≡ Some id → IsGoing slots goes id.at → (stamp : ℕ) → stamp ≡ p + 1 → IsToGo goes (kept g.edges slots stamp id)
     goes_here p id there b stamp e = ap (λ (t : Slot). goes (body_of t)) b.slot ∙ b.tells
 
-    pub goes_key : (s : ℕ) (w : Watched) → slot_at slots s ≡ Watch w → IsGoing slots goes s → (r : Kept) → Has r.sources (looked w.key) → IsToGo goes r
-    goes_key s w t b r h = absurd (no_key slots s b.held.place w (ap node_place b.slot) t)
+    pub goes_key : (s : ℕ) (w : Watched) → slot_at slots s ≡ Watch w → IsGoing slots goes s → (r : Kept) → Has held r → Has r.sources (looked w.key) → IsToGo goes r
+    goes_key s w t b r i h = absurd (no_key slots s b.held.place w (ap node_place b.slot) t)
 
   module _ (stamp : ℕ) where
     -- the vertex q stands at the place of the stamp or a later one
@@ -149,8 +149,8 @@ module _ (g : Graph) (slots : List Slot) (order keys : List (Option NodeId)) (wh
         let l = b.above in
         omega (arith, e, z, l)
 
-    pub late_key : (s : ℕ) (w : Watched) → slot_at slots s ≡ Watch w → IsLate s → (r : Kept) → Has r.sources (looked w.key) → stamp < r.stamp
-    late_key s w t b r h = absurd (no_key slots s b.place w (ap (λ k. node_place (slot_at slots k)) (sym b.is) ∙ in_order b.place b.id b.there) t)
+    pub late_key : (s : ℕ) (w : Watched) → slot_at slots s ≡ Watch w → IsLate s → (r : Kept) → Has held r → Has r.sources (looked w.key) → stamp < r.stamp
+    late_key s w t b r i h = absurd (no_key slots s b.place w (ap (λ k. node_place (slot_at slots k)) (sym b.is) ∙ in_order b.place b.id b.there) t)
 
   module _ (from : NodeId) where
     pub one_spread : (q : ℕ) → Reaches g.edges from.at q → Spreads g.edges (λ s. s ≡ from.at) q
@@ -165,5 +165,49 @@ module _ (g : Graph) (slots : List Slot) (order keys : List (Option NodeId)) (wh
     pub one_here : (p : ℕ) (id : NodeId) → at order p ≡ Some id → id.at ≡ from.at → (stamp : ℕ) → stamp ≡ p + 1 → id.at ≡ from.at
     one_here p id there b stamp e = b
 
-    pub one_key : IsNode (slot_at slots from.at) → (s : ℕ) (w : Watched) → slot_at slots s ≡ Watch w → s ≡ from.at → (r : Kept) → Has r.sources (looked w.key) → r.id ≡ from.at
-    one_key node s w t b r h = absurd (subst IsNode (ap (slot_at slots) (sym b) ∙ t) node)
+    pub one_key : IsNode (slot_at slots from.at) → (s : ℕ) (w : Watched) → slot_at slots s ≡ Watch w → s ≡ from.at → (r : Kept) → Has held r → Has r.sources (looked w.key) → r.id ≡ from.at
+    one_key node s w t b r i h = absurd (subst IsNode (ap (slot_at slots) (sym b) ∙ t) node)
+
+  -- the vertex q is a key that none reads
+  pub record IsUnread (q : ℕ) : Type 0 where
+    pub place : ℕ
+    pub id : NodeId
+    pub there : at keys place ≡ Some id
+    pub is : id.at ≡ q
+    pub unread : first_in (by_read id) g.edges ≡ None
+
+  unread_by : (p : ℕ) (o : Option NodeId) (q : ℕ) → at keys p ≡ o → IsUnreadBy g.edges o q → Spreads g.edges IsUnread q
+  unread_by p None q e m = absurd m
+  unread_by p (Some id) q e m = record { start = id.at; begins = record { place = p; id = id; there = e; is = refl; unread = m.0 }; reaches = m.1 }
+
+  pub unread_spread : (q : ℕ) → IsUnreadFrom keys g.edges (length keys) q → Spreads g.edges IsUnread q
+  unread_spread q m = unread_by m.place (at keys m.place) q refl m.by
+
+  pub spread_unread : (q : ℕ) → Spreads g.edges IsUnread q → IsUnreadFrom keys g.edges (length keys) q
+  spread_unread q s =
+      let b = s.begins in
+      let by : IsUnreadBy g.edges (Some b.id) q = (b.unread, subst (λ k. Reaches g.edges k q) (sym b.is) s.reaches) in
+      record { place = b.place; below = at_below keys b.place b.id b.there; by = subst (λ o. IsUnreadBy g.edges o q) (sym b.there) by }
+
+  pub unread_here : (p : ℕ) (id : NodeId) → at order p ≡ Some id → IsUnread id.at → (stamp : ℕ) → stamp ≡ p + 1 → ⊥
+  unread_here p id there b stamp e =
+      not_both (slot_at slots id.at) p b.place (in_order p id there) (ap (λ k. key_place (slot_at slots k)) (sym b.is) ∙ (whole.placed.keys_in.told b.place b.id b.there).0)
+
+  none_first : (test : Entry → Bool) (es : List Entry) → first_in test es ≡ None → (e : Entry) → Has es e → test e ≡ true → ⊥
+  none_first test [] n e h t = h
+  none_first test (x ∷ es) n e h t =
+      elim (test x) as (λ b. test x ≡ b → cond b (Some x.id) (first_in test es) ≡ None → ⊥) [
+        | true ↦ λ y m. cc
+        | false ↦ λ y m. elim h [
+          | inl s ↦ let no : false ≡ true = sym y ∙ ap test s ∙ t in cc
+          | inr i ↦ none_first test es m e i t
+        ]
+      ] refl n
+
+  pub unread_key : (s : ℕ) (w : Watched) → slot_at slots s ≡ Watch w → IsUnread s → (r : Kept) → Has held r → Has r.sources (looked w.key) → ⊥
+  unread_key s w t b r h l =
+      let i = entry_at g.edges slots 0 order r h in
+      let f = read_edge slots i.id.at g.edges (looked w.key) (subst (λ (r : Kept). Has r.sources (looked w.key)) (sym i.is) l) in
+      let k = key_read f.edge.read.at (slot_at slots f.edge.read.at) w.key f.is in
+      let same : f.edge.read.at ≡ s = whole.once f.edge.read.at s k.0 w k.1 t k.2 in
+      none_first (by_read b.id) g.edges b.unread f.edge f.among (eq-eqb f.edge.read.at b.id.at (same ∙ sym b.is))

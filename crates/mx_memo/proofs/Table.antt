@@ -1,5 +1,5 @@
 -- The table of the held nodes as vertices come and go.
-use Rattle.std.proofs.Common.{◌≡◌, ◌∙◌, ℕ, ◌<◌, ◌≤◌, Bool, true, false, cond, suc, zero, List, [], ◌∷◌, ◌++◌, length, Option, Some, None, Result, Ok, Err, refl, sym, ap, subst, arith, ◌⊎◌, inl, inr}
+use Rattle.std.proofs.Common.{◌≡◌, ◌∙◌, ℕ, ◌<◌, ◌≤◌, true, false, cond, suc, zero, List, [], ◌∷◌, ◌++◌, length, Option, Some, None, Result, Ok, Err, refl, sym, ap, subst, arith, ◌⊎◌, inl, inr}
 use Rattle.std.specs.Prelude.{IsOk, OnOk, MatchOption}
 use Rattle.std.proofs.lemmas.List.{get_or-set_same, get_or-set_other, get_or_past, set_past}
 use Rattle.std.proofs.Math.ListN.{set}
@@ -14,7 +14,7 @@ use Rattle.mx_memo.specs.declared.slot.Slot.TheVariants.{Free, Node, Watch}
 use Rattle.mx_memo.specs.Places.{slot_at, node_place, cleared, at, IsPlacedIn, Has}
 use Rattle.mx_memo.specs.Kept.{Kept, kept, entries, body_of, IsWhole}
 use Rattle.mx_memo.specs.Found.{node_at, IsFound, look_without, IsNew, IsNodeAt, IsHeldAs, IsBodyAt, IsHeldWith}
-use Rattle.mx_memo.proofs.Places.{Nodes, same_or, at_below, slot_freed}
+use Rattle.mx_memo.proofs.Places.{Nodes, same_or, slot_freed}
 use Rattle.mx_memo.proofs.Touching.{at_entry, entry_at}
 
 abbrev pub NodeLaws : Type 0

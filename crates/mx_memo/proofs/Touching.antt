@@ -1,19 +1,15 @@
 -- Entries with their edges.
-use Rattle.std.proofs.Common.{◌≡◌, ◌∙◌, ℕ, ◌+◌, Bool, true, false, cond, eqb, suc, zero, List, [], ◌∷◌, length, Option, Some, None, refl, sym, ap, subst, arith, ◌⊎◌, inl, inr}
-use Rattle.std.specs.Prelude.{◌↔◌}
-use Rattle.std.specs.FinMap as map
+use Rattle.std.proofs.Common.{◌≡◌, ◌∙◌, ℕ, ◌+◌, true, false, cond, eqb, suc, zero, List, [], ◌∷◌, Option, Some, None, refl, ap, arith, inl, inr}
 use Rattle.std.proofs.lemmas.Bool.{eqb-true, eqb-false}
 use Rattle.mx_graph.specs.declared.ids.NodeId.{NodeId}
-use Rattle.mx_graph.specs.Relation.{Entry, Graph, IsRelation, Reaches, Itself, Through, find}
+use Rattle.mx_graph.specs.Relation.{Entry}
 use Rattle.mx_edit.specs.declared.key.Key.{Key}
 use Rattle.mx_memo.specs.declared.slot.Slot.{Slot}
 use Rattle.mx_memo.specs.declared.slot.Watched.{Watched}
 use Rattle.mx_memo.specs.declared.slot.Slot.TheVariants.{Free, Node, Watch}
-use Rattle.mx_memo.specs.Places.{slot_at, node_place, key_place, at, Has}
-use Rattle.mx_memo.specs.Marked.{IsChangedKey, IsMarkedBy, IsMarkedFrom}
-use Rattle.mx_memo.specs.Kept.{Kept, Source, looked, asked, sources_at, source_in, kept, entries, IsNode, IsWhole, HasChanged, IsTouched, Here, ByAsk}
+use Rattle.mx_memo.specs.Places.{slot_at, at, Has}
+use Rattle.mx_memo.specs.Kept.{Kept, Source, looked, asked, sources_at, source_in, kept, entries}
 use Rattle.mx_memo.proofs.Places.{at_below}
-use Rattle.mx_memo.proofs.Edges.{find_has, has_find}
 
 -- an edge of the vertex q that is read so
 pub record ReadsBy (slots : List Slot) (edges : List Entry) (q : ℕ) (r : Source) : Type 0 where

@@ -1,5 +1,5 @@
 -- What contracts see of a memo.
-use Rattle.std.specs.Prelude.{◌≡◌, ℕ, ◌+◌, Bool, true, false, ◌==◌, if◌then◌else◌, List, [], ◌∷◌, ◌++◌, ◌⊎◌, Option, Some, None, refl}
+use Rattle.std.specs.Prelude.{◌≡◌, ℕ, ◌+◌, Bool, true, ◌==◌, if◌then◌else◌, List, [], ◌∷◌, ◌++◌, Option, Some, None}
 use Rattle.std.specs.FinMap as map
 use Rattle.mx_graph.specs.declared.ids.NodeId.{NodeId}
 use Rattle.mx_graph.specs.Relation.{Entry, Graph, find}

@@ -3,7 +3,7 @@ use Rattle.std.specs.Prelude.{◌≡◌, ℕ, ◌<◌, ◌≤◌, List, Option, 
 use Rattle.std.specs.Ordering.{nat_cmp}
 use Rattle.std.specs.FinMap as map
 use Rattle.mx_graph.specs.declared.ids.NodeId.{NodeId}
-use Rattle.mx_graph.specs.Relation.{Entry, Reaches}
+use Rattle.mx_graph.specs.Relation.{Entry, Reaches, by_read, first_in}
 use Rattle.mx_edit.specs.declared.key.Key.{Key}
 use Rattle.mx_memo.specs.declared.slot.Body.{Body}
 use Rattle.mx_memo.specs.declared.slot.Held.{Held}
@@ -61,3 +61,14 @@ pub record IsGoingFrom (slots : List Slot) (goes : Body → Bool) (list : List (
   pub place : ℕ
   pub below : place < n
   pub by : DoesGo slots goes edges (at list place) q
+
+-- this vertex is read by none, and q reaches it
+abbrev pub IsUnreadBy : List Entry → Option NodeId → ℕ → Type 0
+IsUnreadBy edges None q = ⊥
+IsUnreadBy edges (Some id) q = (first_in (by_read id) edges ≡ None) × Reaches edges id.at q
+
+-- q reaches one that none reads, among the first n
+pub record IsUnreadFrom (keys : List (Option NodeId)) (edges : List Entry) (n q : ℕ) : Type 0 where
+  pub place : ℕ
+  pub below : place < n
+  pub by : IsUnreadBy edges (at keys place) q

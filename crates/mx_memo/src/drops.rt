@@ -12,6 +12,7 @@ use crate::slot::Slot;
 use crate::sweep::sweep;
 use crate::test_of_key::KeyTest;
 use crate::test_of_node::NodeTest;
+use crate::unread::drop_unread;
 use mx_graph::{NodeId, ReadGraph};
 
 /// Drops each node that read a changed key, with all that reach it.
@@ -37,6 +38,7 @@ pub fn drop_changed<T: KeyTest>(
     graph.relation();
     mark_changed(graph, slots.as_slice(), keys.as_slice(), test);
     sweep(graph, slots, order, keys, count, table);
+    drop_unread(graph, slots, order, keys, count, table);
 }
 
 /// Drops each node that was held after a stamp, with all that reach it.
@@ -62,6 +64,7 @@ pub fn drop_after(
     graph.relation();
     mark_after(graph, order.as_slice(), stamp);
     sweep(graph, slots, order, keys, count, table);
+    drop_unread(graph, slots, order, keys, count, table);
 }
 
 /// Drops each node that is to go, with all that reach it.
@@ -87,6 +90,7 @@ pub fn drop_where<T: NodeTest>(
     graph.relation();
     mark_where(graph, slots.as_slice(), order.as_slice(), test);
     sweep(graph, slots, order, keys, count, table);
+    drop_unread(graph, slots, order, keys, count, table);
 }
 
 /// Drops a held node, with all that reach it.
@@ -113,4 +117,5 @@ pub fn drop_one(
     graph.relation();
     graph.mark_readers(from);
     sweep(graph, slots, order, keys, count, table);
+    drop_unread(graph, slots, order, keys, count, table);
 }

@@ -16,6 +16,7 @@ mod stamps;
 mod sweep;
 mod test_of_key;
 mod test_of_node;
+mod unread;
 mod vertices;
 
 pub use laws::laws as memo_laws;

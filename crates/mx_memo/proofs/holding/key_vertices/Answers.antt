@@ -1,11 +1,9 @@
-use Rattle.std.proofs.Common.{◌≡◌, ◌∙◌, ◌++◌, ◌∷◌, [], List, map as map_list, ap, sym, subst, arith}
-use Rattle.mx_graph.specs.declared.ids.NodeId.{NodeId}
-use Rattle.mx_edit.specs.declared.key.Key.{Key}
+use Rattle.std.proofs.Common.{◌≡◌, ◌∙◌, ◌++◌, ◌∷◌, [], map as map_list, ap, sym, subst}
 use Rattle.std.proofs.Math.ListN.{take}
 use Rattle.std.proofs.lemmas.List.{take_more}
 use Rattle.mx_memo.specs.Kept.{looked}
 use Rattle.mx_memo.specs.Held.{sources_of, AreThere}
-use Rattle.mx_memo.proofs.Sources.{keys_more, there_more, there_stay}
+use Rattle.mx_memo.proofs.Sources.{keys_more, there_more}
 use Rattle.mx_memo.proofs.holding.key_vertices.Goals as goal
 
 pub loop-key-preserved : goal.loop-key-preserved

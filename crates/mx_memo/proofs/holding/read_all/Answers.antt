@@ -1,6 +1,6 @@
-use Rattle.std.proofs.Common.{◌≡◌, ◌∙◌, ◌++◌, ◌∷◌, [], List, map as map_list, ap, sym, arith}
-use Rattle.mx_memo.specs.Kept.{Kept, Source, entries, with_read}
-use Rattle.mx_memo.specs.Held.{sources_of, with_sources}
+use Rattle.std.proofs.Common.{◌∙◌, List, map as map_list, ap, sym, arith}
+use Rattle.mx_memo.specs.Kept.{Source, entries, with_read}
+use Rattle.mx_memo.specs.Held.{with_sources}
 use Rattle.mx_memo.proofs.Sources.{has_at, with_none, with_more, sources_next}
 use Rattle.mx_memo.proofs.holding.read_all.Goals as goal
 

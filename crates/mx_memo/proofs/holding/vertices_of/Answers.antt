@@ -1,8 +1,8 @@
-use Rattle.std.proofs.Common.{◌≡◌, ◌∙◌, ◌++◌, List, map as map_list, ap, sym, subst, inl, inr}
+use Rattle.std.proofs.Common.{◌∙◌, ◌++◌, List, map as map_list, ap, sym, subst, inl, inr}
 use Rattle.mx_graph.specs.declared.ids.NodeId.{NodeId}
 use Rattle.mx_memo.specs.Places.{slot_at, Has}
 use Rattle.mx_memo.specs.Kept.{Source, IsNode, looked}
-use Rattle.mx_memo.specs.Held.{sources_of, AreThere, AreNodes}
+use Rattle.mx_memo.specs.Held.{sources_of, AreNodes}
 use Rattle.mx_memo.proofs.Reading.{node_not_free}
 use Rattle.mx_memo.proofs.Sources.{sources_push, asked_sources, has_either}
 use Rattle.mx_memo.proofs.holding.vertices_of.Goals as goal

@@ -1,7 +1,3 @@
-use Rattle.std.proofs.Common.{◌≡◌, ℕ, Option, Some, None}
-use Rattle.std.specs.Prelude.{IsSome, IfSome}
-use Rattle.std.specs.FinMap as map
-use Rattle.mx_graph.specs.declared.ids.NodeId.{NodeId}
 use Rattle.mx_memo.proofs.Steps.{live_node}
 use Rattle.mx_memo.proofs.marking.mark_where.Goals as goal
 

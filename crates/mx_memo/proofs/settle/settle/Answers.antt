@@ -1,4 +1,4 @@
-use Rattle.std.proofs.Common.{rules, ◌≡◌, ◌∙◌, ◌+◌, ◌<◌, List, Option, Some, None, is_some, subst, sym, refl, ap, arith, length, Vec, Global}
+use Rattle.std.proofs.Common.{rules, ◌≡◌, ◌∙◌, ◌+◌, List, Option, Some, None, is_some, subst, sym, ap, arith, length, Vec, Global}
 use Rattle.mx_memo.specs.declared.slot.Slot.{Slot}
 use Rattle.std.specs.Prelude.{filter}
 use Rattle.std.proofs.lemmas.Fn.{filter_same}

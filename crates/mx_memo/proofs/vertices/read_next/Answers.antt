@@ -1,9 +1,7 @@
-use Rattle.std.proofs.Common.{◌∙◌, ◌++◌, ◌∷◌, [], List, is_some, ap}
-use Rattle.std.specs.FinMap as map
+use Rattle.std.proofs.Common.{◌∙◌, List, ap}
 use Rattle.mx_graph.specs.Relation.{Entry}
 use Rattle.mx_memo.specs.Places.{slot_at}
 use Rattle.mx_memo.specs.Kept.{entries}
-use Rattle.mx_memo.proofs.Places.{Nodes}
 use Rattle.mx_memo.proofs.Reading.{held_live, node_not_free, read_whole, entries_read}
 use Rattle.mx_memo.proofs.vertices.read_next.Goals as goal
 

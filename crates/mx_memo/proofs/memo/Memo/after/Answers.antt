@@ -1,4 +1,4 @@
-use Rattle.std.proofs.Common.{◌≡◌, List, Option, subst}
+use Rattle.std.proofs.Common.{List, Option, subst}
 use Rattle.mx_graph.specs.declared.ids.NodeId.{NodeId}
 use Rattle.mx_memo.specs.Stamps.{NoneFrom, IsFirstFrom, NoneAfter, IsNextAfter}
 use Rattle.mx_memo.specs.Memos.{Memory}

@@ -1,4 +1,4 @@
-use Rattle.std.proofs.Common.{◌∙◌, length, ap, subst, arith}
+use Rattle.std.proofs.Common.{length, ap, arith}
 use Rattle.mx_memo.specs.Memos.{Memory}
 use Rattle.mx_memo.proofs.Keeping.{entries_length}
 use Rattle.mx_memo.proofs.memo.Memo.drop_where.Goals as goal

@@ -1,4 +1,4 @@
-use Rattle.std.proofs.Common.{◌≡◌, ◌∙◌, List, Option, length, ap, sym, subst, arith}
+use Rattle.std.proofs.Common.{◌≡◌, ◌∙◌, List, Option, length, ap, sym, subst}
 use Rattle.std.specs.HashMap.{get as look_up}
 use Rattle.mx_graph.specs.declared.ids.NodeId.{NodeId}
 use Rattle.mx_value.specs.Equality.{node_eq}

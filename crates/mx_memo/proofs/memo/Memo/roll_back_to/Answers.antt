@@ -1,4 +1,4 @@
-use Rattle.std.proofs.Common.{◌<◌, ◌∙◌, List, subst, arith}
+use Rattle.std.proofs.Common.{◌<◌, subst, arith}
 use Rattle.mx_memo.specs.Kept.{IsTouched, Sifts, entries}
 use Rattle.mx_memo.specs.Memos.{Memory}
 use Rattle.mx_memo.proofs.memo.Memo.roll_back_to.Goals as goal
