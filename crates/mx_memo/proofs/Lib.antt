@@ -16,3 +16,4 @@ pub mod Starts
 pub mod Dropping
 pub mod Settling
 pub mod Settled
+pub mod Walking

@@ -1,6 +1,6 @@
 -- One more edge, and what is seen of it.
 use Rattle.std.proofs.Common.{◌≡◌, ◌∙◌, ℕ, ◌+◌, Bool, true, false, cond, eqb, List, [], ◌∷◌, ◌++◌, map as map_list, Option, Some, None, is_some, Result, Ok, Err, refl, sym, ap, subst, ◌⊎◌, inl, inr}
-use Rattle.std.specs.Prelude.{IsSome, OnOk}
+use Rattle.std.specs.Prelude.{IsSome, OnOk, IfOk}
 use Rattle.std.specs.FinMap as map
 use Rattle.std.proofs.lemmas.Bool.{eqb-true, eqb-false, eq-eqb}
 use Rattle.mx_graph.specs.declared.ids.NodeId.{NodeId}
@@ -146,3 +146,19 @@ node_held g slots order keys w q n = by (slot_at slots q) refl n
         let st = w.placed.nodes_in.stands q h.place (ap node_place e) in
         let f = at_entry g.edges slots 0 order h.place st.id st.there in
         record { entry = kept g.edges slots f.stamp st.id; among = f.among; is = st.is }
+
+-- a held node as it is seen
+pub held_kept : (g : Graph) (slots : List Slot) (order keys : List (Option NodeId)) → IsWhole g slots order keys → (q : ℕ) → IsNode (slot_at slots q) → (stamp : ℕ) × (id : NodeId) × Has (entries g.edges slots 0 order) (kept g.edges slots stamp id) × (id.at ≡ q)
+held_kept g slots order keys w q n = by (slot_at slots q) refl n
+  where
+    by : (s : Slot) → slot_at slots q ≡ s → IsNode s → (stamp : ℕ) × (id : NodeId) × Has (entries g.edges slots 0 order) (kept g.edges slots stamp id) × (id.at ≡ q)
+    by Free e n = absurd n
+    by (Watch v) e n = absurd n
+    by (Node h) e n =
+        let st = w.placed.nodes_in.stands q h.place (ap node_place e) in
+        let f = at_entry g.edges slots 0 order h.place st.id st.there in
+        (f.stamp, st.id, f.among, st.is)
+
+pub ok_map : {A E : Type 0} (r : Result A E) (P Q : A → Type 0) → ((a : A) → P a → Q a) → IfOk r P → IfOk r Q
+ok_map (Ok a) P Q f p = f a p
+ok_map (Err e) P Q f p = tt

@@ -6,3 +6,4 @@ pub mod Held
 pub mod Found
 pub mod Memos
 pub mod Stamps
+pub mod Reading

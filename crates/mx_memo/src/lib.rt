@@ -18,6 +18,7 @@ mod test_of_key;
 mod test_of_node;
 mod unread;
 mod vertices;
+mod walks;
 
 pub use laws::laws as memo_laws;
 pub use memo::Memo;

@@ -4,6 +4,7 @@ ghost use Rattle.mx_memo.specs.declared.refusal.HoldRefusal.TheVariants.{Full};
 ghost use Rattle.mx_memo.specs.Places.{Has};
 ghost use Rattle.mx_memo.specs.Kept.{IsHeld, IsTouched, HasChanged, IsToGo, Sifts};
 ghost use Rattle.mx_memo.specs.Held.{entry_with};
+ghost use Rattle.mx_memo.specs.Reading.{LookedUp, Asked};
 ghost use Rattle.mx_memo.specs.Stamps.{NoneAfter, IsNextAfter, IsHeldSince, renumbered};
 ghost use Rattle.mx_memo.specs.Found.{IsHeldAs, IsHeldWith, IsNew};
 ghost use Rattle.mx_memo.specs.Memos.{AreHeld, HoldsLast, nothing_held, most_held};
@@ -18,6 +19,7 @@ use crate::stamps::{first_from, place_at};
 use crate::test_of_key::KeyTest;
 use crate::test_of_node::NodeTest;
 use crate::vertices::body_at;
+use crate::walks::{asks_at, keys_at};
 use mx_edit::key::Key;
 use mx_graph::{NoMemory, NodeId, ReadGraph};
 use mx_list::shared::Shared;
@@ -120,6 +122,22 @@ impl Memo {
         let is_below = place < self.order.len();
         prove!(is_below);
         Some(place + 1)
+    }
+
+    /// The keys that the run of a held node looked up, each once and in order of first occurrence.
+    pub fn keys_of(&self, alloc: Global, id: NodeId) -> Result<Vec<Key>, NoMemory>
+        requires { IsHeld self.now.held id.at }
+        ensures { IfOk result (λ keys. LookedUp self.now.held id.at keys.items) }
+    {
+        keys_at(alloc, &self.graph, &self.slots, id)
+    }
+
+    /// The held nodes that the run of a held node asked, each once and in order of first occurrence.
+    pub fn asks_of(&self, alloc: Global, id: NodeId) -> Result<Vec<NodeId>, NoMemory>
+        requires { IsHeld self.now.held id.at }
+        ensures { IfOk result (λ ids. Asked self.now.held id.at ids.items) }
+    {
+        asks_at(alloc, &self.graph, &self.slots, id)
     }
 
     /// The held node of the least stamp above this one. None exactly where there is none.

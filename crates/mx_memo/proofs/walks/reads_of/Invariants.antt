@@ -1,0 +1,10 @@
+use Rattle.std.proofs.Common.{ℕ, ◌-◌, length}
+use Rattle.mx_memo.specs.Reading.{reads_in}
+use Rattle.mx_memo.proofs.Walking.{IsWalking}
+use Rattle.mx_memo.proofs.walks.reads_of.Given as goal
+
+abbrev pub invariant-reads : goal.invariant-reads
+invariant-reads l = IsWalking l.graph.edges l.fn.id l.next l.ids.items
+
+abbrev pub decreases-reads : goal.decreases-reads
+decreases-reads l = length (reads_in l.fn.id l.graph.edges) - length l.ids.items
