@@ -1,9 +1,9 @@
 //! The clearings.
 ghost use Rattle.std.specs.Prelude.{◌≡◌, ◌+◌, [], length};
 ghost use Rattle.mx_memo.specs.Kept.{IsTouched, IsToGo, Sifts};
-ghost use Rattle.mx_clear.specs.Scope.{is_one, is_of_cells, is_any};
+ghost use Rattle.mx_clear.specs.Scope.{is_one, is_of_cells, is_in_space, is_any};
 
-use crate::scope::{OfCells, One};
+use crate::scope::{OfCells, OfSpace, One};
 use mx_memo::{Every, Memo};
 use mx_value::label::Label;
 use mx_value::node::Node;
@@ -25,6 +25,16 @@ pub fn clear_cells(memo: &mut Memo, at: &Addr, name: &Label) -> u32
     ensures last { memo.new.last ≡ memo.old.last }
 {
     memo.drop_where(&OfCells { at, name })
+}
+
+/// Drops the nodes of the cells in the space at an address and below it, and the items whose spaces stand there, and tells
+/// how many nodes are dropped.
+pub fn clear_space(memo: &mut Memo, at: &Addr) -> u32
+    ensures drops { Sifts (IsTouched (IsToGo (is_in_space at.now)) memo.old.held) memo.old.held memo.new.held }
+    ensures count { result + length memo.new.held ≡ length memo.old.held }
+    ensures last { memo.new.last ≡ memo.old.last }
+{
+    memo.drop_where(&OfSpace { at })
 }
 
 /// Drops every node, and tells how many they are.

@@ -4,4 +4,4 @@
 mod clearing;
 mod scope;
 
-pub use clearing::{clear_all, clear_cells, clear_node};
+pub use clearing::{clear_all, clear_cells, clear_node, clear_space};
