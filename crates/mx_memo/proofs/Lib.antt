@@ -10,10 +10,11 @@ pub mod KeyPushing
 pub mod Restoring
 pub mod Sources
 pub mod Table
-pub mod Standing
+pub mod Stamping
 pub mod Spreading
 pub mod Starts
 pub mod Dropping
 pub mod Settling
 pub mod Settled
 pub mod Walking
+pub mod Begun

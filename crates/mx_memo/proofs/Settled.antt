@@ -5,6 +5,7 @@ use Rattle.mx_graph.specs.Relation.{Entry, Graph}
 use Rattle.mx_value.specs.declared.node.Node.{Node as Asked}
 use Rattle.mx_memo.specs.declared.slot.Body.{Body}
 use Rattle.mx_memo.specs.declared.slot.Slot.{Slot}
+use Rattle.mx_memo.specs.declared.standing.Standing.{Standing}
 use Rattle.mx_memo.specs.declared.slot.Slot.TheVariants.{Free, Node, Watch}
 use Rattle.mx_memo.specs.Places.{slot_at, node_place, key_place, at, with_place, IsAlike, IsPlacedIn, IsSettled, StandOnce, held_in}
 use Rattle.mx_memo.specs.Kept.{Kept, Source, sources_at, source_in, kept, entries, body_of, IsWhole}
@@ -52,7 +53,7 @@ module _ (slots slots2 : List Slot) (alike : (q : ℕ) → IsAlike (slot_at slot
         w.once q r x.0 y.0 x.1 y.1 (x.2 ∙ e ∙ sym y.2);
   }
 
-  pub alike_found : (look : Asked → Option NodeId) (order : List (Option NodeId)) → IsFound look slots order → IsFound look slots2 order
+  pub alike_found : (look : Asked → Option Standing) (order : List (Option NodeId)) → IsFound look slots order → IsFound look slots2 order
   alike_found look order found p id e = ap (λ (b : Body). look b.node) (alike_body (slot_at slots id.at) (slot_at slots2 id.at) (alike id.at)) ∙ found p id e
 
 pub entries_taken : (edges : List Entry) (slots : List Slot) (p k : ℕ) (list : List (Option NodeId)) → entries edges slots p (taken list) ≡ renumbered p (entries edges slots k list)
@@ -163,5 +164,5 @@ module _ (g : Graph) (slots slots2 : List Slot) (order keys : List (Option NodeI
       (settled_in node_place key_place node_moves node_back key_back not_both g.nodes slots slots2 order keys whole.placed.nodes_in whole.placed.keys_in s)
       (others_in node_place key_place node_moves node_back key_back not_both g.nodes slots slots2 order keys whole.placed.nodes_in whole.placed.keys_in s)
 
-pub found_taken : (look : Asked → Option NodeId) (slots : List Slot) (order : List (Option NodeId)) → IsFound look slots order → IsFound look slots (taken order)
+pub found_taken : (look : Asked → Option Standing) (slots : List Slot) (order : List (Option NodeId)) → IsFound look slots order → IsFound look slots (taken order)
 found_taken look slots order found p id e = let f = taken_in order p id e in found f.0 id f.1

@@ -10,10 +10,12 @@ use Rattle.mx_value.specs.Equality.{node_eq}
 use Rattle.mx_memo.specs.declared.slot.Body.{Body}
 use Rattle.mx_memo.specs.declared.slot.Held.{Held}
 use Rattle.mx_memo.specs.declared.slot.Slot.{Slot}
+use Rattle.mx_memo.specs.declared.standing.Standing.{Standing}
+use Rattle.mx_memo.specs.declared.standing.Standing.TheVariants.{Begun, Ended}
 use Rattle.mx_memo.specs.declared.slot.Slot.TheVariants.{Free, Node, Watch}
 use Rattle.mx_memo.specs.Places.{slot_at, node_place, cleared, at, IsPlacedIn, Has}
 use Rattle.mx_memo.specs.Kept.{Kept, kept, entries, body_of, IsWhole}
-use Rattle.mx_memo.specs.Found.{node_at, IsFound, look_without, IsNew, IsNodeAt, IsHeldAs, IsBodyAt, IsHeldWith}
+use Rattle.mx_memo.specs.Found.{node_at, IsFound, is_begun, look_without, IsNew, IsNodeAt, IsHeldAs, IsBodyAt, IsHeldWith}
 use Rattle.mx_memo.proofs.Places.{Nodes, same_or, slot_freed}
 use Rattle.mx_memo.proofs.Touching.{at_entry, entry_at}
 
@@ -45,22 +47,28 @@ cleared_old (Some k) list p j e =
 none_some : (j : NodeId) → None ≡ Some j → ⊥
 none_some j h = cc
 
+none_ended : (j : NodeId) → None ≡ Some (Ended j) → ⊥
+none_ended j h = cc
+
+begun_ended : (j : NodeId) → Some Begun ≡ Some (Ended j) → ⊥
+begun_ended j h = let no : Begun ≡ Ended j = cc in cc
+
 -- a vertex that stands is there
 pub there_not_free : (nodes : Nodes) (slots : List Slot) (order : List (Option NodeId)) (p : ℕ) (id : NodeId) → IsPlacedIn node_place nodes slots order → at order p ≡ Some id → slot_at slots id.at ≡ Free → ⊥
 there_not_free nodes slots order p id h e f = let n : None ≡ Some p = ap node_place (sym f) ∙ (h.told p id e).0 in cc
 
-module _ (laws : NodeLaws) (look look2 : Asked → Option NodeId) (nodes : Nodes) (slots : List Slot) (order : List (Option NodeId)) (q : ℕ) (placed : IsPlacedIn node_place nodes slots order) (found : IsFound look slots order)
+module _ (laws : NodeLaws) (look look2 : Asked → Option Standing) (nodes : Nodes) (slots : List Slot) (order : List (Option NodeId)) (q : ℕ) (placed : IsPlacedIn node_place nodes slots order) (found : IsFound look slots order)
     (left : (n : Asked) → look2 n ≡ look_without (slot_at slots q) look n) where
-  by_slot : (t : Slot) → slot_at slots q ≡ t → (p : ℕ) (j : NodeId) → at order p ≡ Some j → (q ≡ j.at → ⊥) → look_without t look (node_at slots j.at) ≡ Some j
+  by_slot : (t : Slot) → slot_at slots q ≡ t → (p : ℕ) (j : NodeId) → at order p ≡ Some j → (q ≡ j.at → ⊥) → look_without t look (node_at slots j.at) ≡ Some (Ended j)
   by_slot Free e p j a n = found p j a
   by_slot (Watch w) e p j a n = found p j a
   by_slot (Node h) e p j a n =
-      elim (node_eq h.body.node (node_at slots j.at)) as (λ b. node_eq h.body.node (node_at slots j.at) ≡ b → cond b None (look (node_at slots j.at)) ≡ Some j) [
+      elim (node_eq h.body.node (node_at slots j.at)) as (λ b. node_eq h.body.node (node_at slots j.at) ≡ b → cond b None (look (node_at slots j.at)) ≡ Some (Ended j)) [
         | true ↦ λ t.
             let st = placed.stands q h.place (ap node_place e) in
             let own : node_at slots st.id.at ≡ h.body.node = ap (node_at slots) st.is ∙ ap (λ (s : Slot). (body_of s).node) e in
             let same : node_at slots st.id.at ≡ node_at slots j.at = own ∙ (laws h.body.node (node_at slots j.at)).0 t in
-            let both : Some st.id ≡ Some j = sym (found h.place st.id st.there) ∙ ap look same ∙ found p j a in
+            let both : Some (Ended st.id) ≡ Some (Ended j) = sym (found h.place st.id st.there) ∙ ap look same ∙ found p j a in
             let id : st.id ≡ j = cc in
             absurd (n (sym st.is ∙ ap (λ (i : NodeId). i.at) id))
         | false ↦ λ t. found p j a
@@ -80,8 +88,24 @@ module _ (laws : NodeLaws) (look look2 : Asked → Option NodeId) (nodes : Nodes
   found_turn slots2 order2 a b =
       subst (λ (xs : List Slot). IsFound look2 xs order2) (sym a) (subst (λ (xs : List (Option NodeId)). IsFound look2 (set slots q Free) xs) (sym b) turn)
 
+  begun_by : (t : Slot) → slot_at slots q ≡ t → (n : Asked) → is_begun (look_without t look n) ≡ is_begun (look n)
+  begun_by Free e n = refl
+  begun_by (Watch w) e n = refl
+  begun_by (Node h) e n =
+      elim (node_eq h.body.node n) as (λ b. node_eq h.body.node n ≡ b → is_begun (cond b None (look n)) ≡ is_begun (look n)) [
+        | true ↦ λ t.
+            let st = placed.stands q h.place (ap node_place e) in
+            let own : node_at slots st.id.at ≡ n = ap (node_at slots) st.is ∙ ap (λ (s : Slot). (body_of s).node) e ∙ (laws h.body.node n).0 t in
+            sym (ap is_begun (ap look (sym own) ∙ found h.place st.id st.there))
+        | false ↦ λ t. refl
+      ] refl
+
+  -- what has begun has begun
+  pub begun_turn : (n : Asked) → is_begun (look2 n) ≡ is_begun (look n)
+  begun_turn n = ap is_begun (left n) ∙ begun_by (slot_at slots q) refl n
+
 -- what is there stays
-pub found_same : (look look2 : Asked → Option NodeId) (nodes : Nodes) (slots slots2 : List Slot) (order : List (Option NodeId)) → IsPlacedIn node_place nodes slots order → ((n : Asked) → look2 n ≡ look n)
+pub found_same : (look look2 : Asked → Option Standing) (nodes : Nodes) (slots slots2 : List Slot) (order : List (Option NodeId)) → IsPlacedIn node_place nodes slots order → ((n : Asked) → look2 n ≡ look n)
     → ((q : ℕ) → (slot_at slots q ≡ Free → ⊥) → slot_at slots2 q ≡ slot_at slots q) → IsFound look slots order → IsFound look2 slots2 order
 found_same look look2 nodes slots slots2 order placed same stays found p id e =
     ap (λ (s : Slot). look2 (body_of s).node) (stays id.at (there_not_free nodes slots order p id placed e)) ∙ same (node_at slots id.at) ∙ found p id e
@@ -93,8 +117,8 @@ at_last (x ∷ list) id zero j e = inl e
 at_last (x ∷ list) id (suc p) j e = at_last list id p j e
 
 -- one more is held
-pub found_last : (laws : NodeLaws) (look look2 : Asked → Option NodeId) (nodes : Nodes) (edges : List Entry) (slots slots2 : List Slot) (order order2 : List (Option NodeId)) (id : NodeId) (held : Held) → IsPlacedIn node_place nodes slots order
-    → ((n : Asked) → look2 n ≡ cond (node_eq held.body.node n) (Some id) (look n)) → order2 ≡ order ++ Some id ∷ [] → slot_at slots2 id.at ≡ Node held
+pub found_last : (laws : NodeLaws) (look look2 : Asked → Option Standing) (nodes : Nodes) (edges : List Entry) (slots slots2 : List Slot) (order order2 : List (Option NodeId)) (id : NodeId) (held : Held) → IsPlacedIn node_place nodes slots order
+    → ((n : Asked) → look2 n ≡ cond (node_eq held.body.node n) (Some (Ended id)) (look n)) → order2 ≡ order ++ Some id ∷ [] → slot_at slots2 id.at ≡ Node held
     → ((q : ℕ) → (slot_at slots q ≡ Free → ⊥) → slot_at slots2 q ≡ slot_at slots q) → IsNew (entries edges slots 0 order) held.body.node → IsFound look slots order → IsFound look2 slots2 order2
 found_last laws look look2 nodes edges slots slots2 order order2 id held placed puts is node stays new found p j e =
     elim (at_last order id p j (subst (λ (xs : List (Option NodeId)). at xs p ≡ Some j) is e)) [
@@ -108,16 +132,16 @@ found_last laws look look2 nodes edges slots slots2 order order2 id held placed 
           ] refl in
           ap (λ (s : Slot). look2 (body_of s).node) (stays j.at (there_not_free nodes slots order p j placed a))
           ∙ puts (node_at slots j.at)
-          ∙ ap (λ b. cond b (Some id) (look (node_at slots j.at))) other
+          ∙ ap (λ b. cond b (Some (Ended id)) (look (node_at slots j.at))) other
           ∙ found p j a
       | inr s ↦
           let own : node_at slots2 id.at ≡ held.body.node = ap (λ (t : Slot). (body_of t).node) node in
           let same : node_eq held.body.node held.body.node ≡ true = (laws held.body.node held.body.node).1 refl in
-          subst (λ (i : NodeId). look2 (node_at slots2 i.at) ≡ Some i) s (ap look2 own ∙ puts held.body.node ∙ ap (λ b. cond b (Some id) (look held.body.node)) same)
+          subst (λ (i : NodeId). look2 (node_at slots2 i.at) ≡ Some (Ended i)) s (ap look2 own ∙ puts held.body.node ∙ ap (λ b. cond b (Some (Ended id)) (look held.body.node)) same)
     ]
 
-module _ (g : Graph) (slots : List Slot) (order keys : List (Option NodeId)) (whole : IsWhole g slots order keys) (look : Asked → Option NodeId) (found : IsFound look slots order) (n : Asked) where
-  found_as : (r : Kept) → Has (entries g.edges slots 0 order) r → r.body.node ≡ n → (j : NodeId) × ((look n ≡ Some j) × IsNodeAt slots j.at n)
+module _ (g : Graph) (slots : List Slot) (order keys : List (Option NodeId)) (whole : IsWhole g slots order keys) (look : Asked → Option Standing) (found : IsFound look slots order) (n : Asked) where
+  found_as : (r : Kept) → Has (entries g.edges slots 0 order) r → r.body.node ≡ n → (j : NodeId) × ((look n ≡ Some (Ended j)) × IsNodeAt slots j.at n)
   found_as r h e =
       let i = entry_at g.edges slots 0 order r h in
       let own : node_at slots i.id.at ≡ n = ap (λ (r : Kept). r.body.node) i.is ∙ e in
@@ -129,12 +153,15 @@ module _ (g : Graph) (slots : List Slot) (order keys : List (Option NodeId)) (wh
       by (Node h) e p t own = record { held = h; slot = e; is = ap (λ (s : Slot). (body_of s).node) (sym e) ∙ own }
 
   pub new_none : look n ≡ None → IsNew (entries g.edges slots 0 order) n
-  new_none none r h e = let f = found_as r h e in none_some f.0 (sym none ∙ f.1.0)
+  new_none none r h e = let f = found_as r h e in none_ended f.0 (sym none ∙ f.1.0)
 
-  pub new_other : (id : NodeId) → look n ≡ Some id → (IsNodeAt slots id.at n → ⊥) → IsNew (entries g.edges slots 0 order) n
+  pub new_begun : look n ≡ Some Begun → IsNew (entries g.edges slots 0 order) n
+  new_begun some r h e = let f = found_as r h e in begun_ended f.0 (sym some ∙ f.1.0)
+
+  pub new_other : (id : NodeId) → look n ≡ Some (Ended id) → (IsNodeAt slots id.at n → ⊥) → IsNew (entries g.edges slots 0 order) n
   new_other id some other r h e =
       let f = found_as r h e in
-      let both : Some f.0 ≡ Some id = sym f.1.0 ∙ some in
+      let both : Some (Ended f.0) ≡ Some (Ended id) = sym f.1.0 ∙ some in
       let same : f.0 ≡ id = cc in
       other (subst (λ (j : NodeId). IsNodeAt slots j.at n) same f.1.1)
 

@@ -1,5 +1,5 @@
 -- The edges of a reader, one behind the other.
-use Rattle.std.proofs.Common.{◌≡◌, ◌∙◌, ℕ, ◌+◌, ◌<◌, ◌≤◌, zero, suc, Bool, true, false, cond, eqb, List, [], ◌∷◌, ◌++◌, length, map as map_list, Option, Some, None, refl, sym, ap, subst, arith, ◌⊎◌, inl, inr, append_assoc}
+use Rattle.std.proofs.Common.{◌≡◌, ◌∙◌, ℕ, ◌+◌, ◌<◌, ◌≤◌, zero, suc, true, false, cond, eqb, List, [], ◌∷◌, ◌++◌, length, map as map_list, Option, Some, None, refl, sym, ap, subst, arith, inl, inr, append_assoc}
 use Rattle.std.specs.Prelude.{filter, IfSome}
 use Rattle.std.proofs.lemmas.Bool.{eqb-true}
 use Rattle.std.proofs.Math.ListN.{get_or, take}
@@ -12,7 +12,7 @@ use Rattle.mx_memo.specs.declared.slot.Slot.{Slot}
 use Rattle.mx_memo.specs.Places.{slot_at, Has}
 use Rattle.mx_memo.specs.Kept.{Source, looked, asked, source_in, sources_at}
 use Rattle.mx_memo.specs.Held.{sources_of}
-use Rattle.mx_memo.specs.Reading.{keys_in, asks_in, id_at, entry_read, reads_in}
+use Rattle.mx_memo.specs.Reading.{keys_in, asks_in, entry_read, reads_in}
 use Rattle.mx_memo.proofs.Edges.{has_find, filter_has}
 use Rattle.mx_memo.proofs.Sources.{sources_next}
 

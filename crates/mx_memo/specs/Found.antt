@@ -1,11 +1,13 @@
 -- How a node is found.
-use Rattle.std.specs.Prelude.{◌≡◌, ℕ, if◌then◌else◌, List, Option, Some, None}
+use Rattle.std.specs.Prelude.{◌≡◌, ℕ, Bool, true, false, if◌then◌else◌, List, [], ◌∷◌, Option, Some, None}
 use Rattle.mx_graph.specs.declared.ids.NodeId.{NodeId}
 use Rattle.mx_value.specs.declared.node.Node.{Node as Asked}
 use Rattle.mx_value.specs.Equality.{node_eq}
 use Rattle.mx_memo.specs.declared.slot.Body.{Body}
 use Rattle.mx_memo.specs.declared.slot.Held.{Held}
 use Rattle.mx_memo.specs.declared.slot.Slot.{Slot}
+use Rattle.mx_memo.specs.declared.standing.Standing.{Standing}
+use Rattle.mx_memo.specs.declared.standing.Standing.TheVariants.{Begun, Ended}
 use Rattle.mx_memo.specs.declared.slot.Slot.TheVariants.{Free, Node, Watch}
 use Rattle.mx_memo.specs.Places.{slot_at, at, Has}
 use Rattle.mx_memo.specs.Kept.{Kept, body_of}
@@ -15,11 +17,11 @@ abbrev pub node_at : List Slot → ℕ → Asked
 node_at slots q = (body_of (slot_at slots q)).node
 
 -- the table leads from each held node to its vertex
-abbrev pub IsFound : (Asked → Option NodeId) → List Slot → List (Option NodeId) → Type 0
-IsFound look slots order = (p : ℕ) (id : NodeId) → at order p ≡ Some id → look (node_at slots id.at) ≡ Some id
+abbrev pub IsFound : (Asked → Option Standing) → List Slot → List (Option NodeId) → Type 0
+IsFound look slots order = (p : ℕ) (id : NodeId) → at order p ≡ Some id → look (node_at slots id.at) ≡ Some (Ended id)
 
 -- the table without what a slot holds
-abbrev pub look_without : Slot → (Asked → Option NodeId) → Asked → Option NodeId
+abbrev pub look_without : Slot → (Asked → Option Standing) → Asked → Option Standing
 look_without Free look n = look n
 look_without (Node h) look n = if node_eq h.body.node n then None else look n
 look_without (Watch w) look n = look n
@@ -53,3 +55,23 @@ pub record IsHeldWith (held : List Kept) (id : ℕ) (body : Body) : Type 0 where
   pub among : Has held entry
   pub id_is : entry.id ≡ id
   pub body_is : entry.body ≡ body
+
+-- the run of the node has begun
+abbrev pub is_begun : Option Standing → Bool
+is_begun None = false
+is_begun (Some Begun) = true
+is_begun (Some (Ended id)) = false
+
+-- as far the node has come
+abbrev pub HasCome : List Kept → List Asked → Asked → Standing → Type 0
+HasCome held begun n Begun = Has begun n
+HasCome held begun n (Ended id) = IsHeldAs held id.at n
+
+-- the runs of exactly these have begun
+abbrev pub AreBegun : (Asked → Option Standing) → List Asked → Type 0
+AreBegun look begun = (n : Asked) → (is_begun (look n) ≡ true → Has begun n) × (Has begun n → is_begun (look n) ≡ true)
+
+-- each once
+abbrev pub AreDistinct : List Asked → Type 0
+AreDistinct [] = Unit {0}
+AreDistinct (n ∷ ns) = (Has ns n → ⊥) × AreDistinct ns

@@ -2,7 +2,8 @@
 ghost use Rattle.std.specs.Prelude.{◌≡◌, ◌<◌, ◌≤◌, length};
 ghost use Rattle.std.specs.HashMap.{get as look_up};
 ghost use Rattle.mx_value.specs.Equality.{node_eq};
-ghost use Rattle.mx_memo.specs.Found.{IsFound};
+ghost use Rattle.mx_value.specs.declared.node.Node.{Node as Asked};
+ghost use Rattle.mx_memo.specs.Found.{IsFound, is_begun};
 ghost use Rattle.mx_memo.specs.Places.{held_in, slot_at};
 ghost use Rattle.mx_memo.specs.Kept.{IsTouched, HasChanged, IsToGo, Sifts, IsNode, IsWhole, entries};
 
@@ -29,6 +30,7 @@ pub fn drop_changed<T: KeyTest>(
     requires count { count.old ≡ held_in order.old.items }
     requires whole { IsWhole graph.old slots.old.items order.old.items keys.old.items }
     ensures found { IsFound (look_up node_eq table.new) slots.new.items order.new.items }
+    ensures begun { (n : Asked) → is_begun (look_up node_eq table.new n) ≡ is_begun (look_up node_eq table.old n) }
     ensures count { count.new ≡ held_in order.new.items }
     ensures less { count.new ≤ count.old }
     ensures last { length order.new.items ≡ length order.old.items }
@@ -55,6 +57,7 @@ pub fn drop_after(
     requires count { count.old ≡ held_in order.old.items }
     requires whole { IsWhole graph.old slots.old.items order.old.items keys.old.items }
     ensures found { IsFound (look_up node_eq table.new) slots.new.items order.new.items }
+    ensures begun { (n : Asked) → is_begun (look_up node_eq table.new n) ≡ is_begun (look_up node_eq table.old n) }
     ensures count { count.new ≡ held_in order.new.items }
     ensures less { count.new ≤ count.old }
     ensures last { length order.new.items ≡ length order.old.items }
@@ -81,6 +84,7 @@ pub fn drop_where<T: NodeTest>(
     requires count { count.old ≡ held_in order.old.items }
     requires whole { IsWhole graph.old slots.old.items order.old.items keys.old.items }
     ensures found { IsFound (look_up node_eq table.new) slots.new.items order.new.items }
+    ensures begun { (n : Asked) → is_begun (look_up node_eq table.new n) ≡ is_begun (look_up node_eq table.old n) }
     ensures count { count.new ≡ held_in order.new.items }
     ensures less { count.new ≤ count.old }
     ensures last { length order.new.items ≡ length order.old.items }
@@ -108,6 +112,7 @@ pub fn drop_one(
     requires whole { IsWhole graph.old slots.old.items order.old.items keys.old.items }
     requires node { IsNode (slot_at slots.old.items from.at) }
     ensures found { IsFound (look_up node_eq table.new) slots.new.items order.new.items }
+    ensures begun { (n : Asked) → is_begun (look_up node_eq table.new n) ≡ is_begun (look_up node_eq table.old n) }
     ensures count { count.new ≡ held_in order.new.items }
     ensures less { count.new ≤ count.old }
     ensures last { length order.new.items ≡ length order.old.items }

@@ -1,5 +1,6 @@
-//! The table of the held nodes.
-ghost use Rattle.std.specs.Prelude.{◌≡◌, true, if◌then◌else◌, Some, ℕ};
+//! The table of the held nodes and of those whose run has begun.
+ghost use Rattle.std.specs.Prelude.{◌≡◌, ◌++◌, ◌∷◌, [], true, if◌then◌else◌, Some, None, OnOk, OnErr, MatchOption, option_to_list, ℕ};
+ghost use Rattle.mx_memo.specs.declared.standing.Standing.TheVariants.{Begun};
 ghost use Rattle.std.specs.HashMap.{get as look_up};
 ghost use Rattle.mx_value.specs.declared.node.Node.{Node as Asked};
 ghost use Rattle.mx_value.specs.Equality.{node_eq};
@@ -7,14 +8,15 @@ ghost use Rattle.mx_memo.specs.Places.{slot_at};
 ghost use Rattle.mx_memo.specs.Found.{IsNodeAt, look_without};
 
 use crate::slot::Slot;
-use mx_graph::NodeId;
+use crate::standing::Standing;
+use mx_graph::{NoMemory, NodeId};
 use mx_list::shared::Shared;
 use mx_value::equality::equality_laws;
 use mx_value::node::Node;
 use std::collections::HashMap;
 
-/// The vertices of the held nodes.
-pub type Table = HashMap<Shared<Node>, NodeId>;
+/// How far nodes have come.
+pub type Table = HashMap<Shared<Node>, Standing>;
 
 /// Whether two nodes are the same.
 fn is_same_node(a: &Shared<Node>, b: &Node) -> bool
@@ -61,4 +63,35 @@ pub fn node_laws()
     ensures { (a b : Asked) → (node_eq a b ≡ true → a ≡ b) × (a ≡ b → node_eq a b ≡ true) }
 {
     equality_laws();
+}
+
+/// Marks a node whose run begins. After an error nothing is seen to change.
+pub fn begin_in(
+    table: &mut Table,
+    begun: &mut Vec<Shared<Node>>,
+    node: &Shared<Node>,
+) -> Result<(), NoMemory>
+    ensures begun { OnOk result (begun.new.items ≡ begun.old.items ++ node.now ∷ []) }
+    ensures marked { OnOk result ((n : Asked) → look_up node_eq table.new n ≡ (if node_eq node.now n then Some Begun else look_up node_eq table.old n)) }
+    ensures stay { OnErr result (begun.new.items ≡ begun.old.items) }
+    ensures lost { OnErr result ((n : Asked) → look_up node_eq table.new n ≡ look_up node_eq table.old n) }
+{
+    let first = node.copy()?;
+    let second = node.copy()?;
+    table.reserve(1)?;
+    begun.push(first)?;
+    let _ = table.insert(second, Standing::Begun);
+    Ok(())
+}
+
+/// Takes the mark off the node whose run began last, and gives it.
+pub fn end_in(table: &mut Table, begun: &mut Vec<Shared<Node>>) -> Option<Shared<Node>>
+    ensures begun { begun.old.items ≡ begun.new.items ++ option_to_list result }
+    ensures table { MatchOption result ((n : Asked) → look_up node_eq table.new n ≡ look_up node_eq table.old n) (λ node. (n : Asked) → look_up node_eq table.new n ≡ (if node_eq node n then None else look_up node_eq table.old n)) }
+{
+    let Some(node) = begun.pop() else {
+        return None;
+    };
+    let _ = table.remove(&node);
+    Some(node)
 }

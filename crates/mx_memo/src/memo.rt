@@ -1,21 +1,22 @@
 //! The memo.
-ghost use Rattle.std.specs.Prelude.{◌≡◌, ◌<◌, ◌≤◌, ◌+◌, ◌↔◌, Err, IfOk, IfSome, IfNone, MatchOption, OnErr, length};
+ghost use Rattle.std.specs.Prelude.{◌≡◌, option_to_list, ◌++◌, ◌∷◌, [], OnOk, ◌<◌, ◌≤◌, ◌+◌, ◌↔◌, Err, IfOk, IfSome, IfNone, MatchOption, OnErr, length};
 ghost use Rattle.mx_memo.specs.declared.refusal.HoldRefusal.TheVariants.{Full};
 ghost use Rattle.mx_memo.specs.Places.{Has};
 ghost use Rattle.mx_memo.specs.Kept.{IsHeld, IsTouched, HasChanged, IsToGo, Sifts};
 ghost use Rattle.mx_memo.specs.Held.{entry_with};
 ghost use Rattle.mx_memo.specs.Reading.{LookedUp, Asked};
 ghost use Rattle.mx_memo.specs.Stamps.{NoneAfter, IsNextAfter, IsHeldSince, renumbered};
-ghost use Rattle.mx_memo.specs.Found.{IsHeldAs, IsHeldWith, IsNew};
+ghost use Rattle.mx_memo.specs.Found.{HasCome, IsHeldAs, IsHeldWith, IsNew};
 ghost use Rattle.mx_memo.specs.Memos.{AreHeld, HoldsLast, nothing_held, most_held};
 
 use crate::drops::{drop_after, drop_changed, drop_one, drop_where};
-use crate::finding::{Table, holds_node, node_laws};
+use crate::finding::{Table, begin_in, end_in, holds_node, node_laws};
 use crate::holding::{hold_with, vertices_of};
 use crate::refusal::HoldRefusal;
 use crate::settle::settle;
 use crate::slot::{Body, Slot};
 use crate::stamps::{first_from, place_at};
+use crate::standing::Standing;
 use crate::test_of_key::KeyTest;
 use crate::test_of_node::NodeTest;
 use crate::vertices::body_at;
@@ -42,8 +43,10 @@ pub struct Memo {
     // The keys, each at the place that its slot tells.
     keys: Vec<Option<NodeId>>,
     count: u32,
-    // The vertices of the held nodes.
+    // How far nodes have come.
     table: Table,
+    // The nodes whose runs have begun.
+    begun: Vec<Shared<Node>>,
 }
 
 impl Model for Memo {
@@ -74,6 +77,7 @@ impl Memo {
             keys: Vec::new(alloc),
             count: 0,
             table: HashMap::new(alloc),
+            begun: Vec::new(alloc),
         })
     }
 
@@ -91,18 +95,59 @@ impl Memo {
         self.order.len()
     }
 
+    /// How far a node has come, in one look: its run has begun, or it is held. None for a new one.
+    pub fn standing(&self, node: &Shared<Node>) -> Option<Standing>
+        ensures some { IfSome result (λ standing. HasCome self.now.held self.now.begun node.now standing) }
+        ensures none { IfNone result (IsNew self.now.held node.now × (Has self.now.begun node.now → ⊥)) }
+    {
+        let Some(standing) = self.table.get(node) else {
+            return None;
+        };
+        let Standing::Ended(id) = *standing else {
+            return Some(Standing::Begun);
+        };
+        if holds_node(&self.slots, id, node.get()) {
+            return Some(Standing::Ended(id));
+        }
+        None
+    }
+
     /// The held node that is this one.
     pub fn find(&self, node: &Shared<Node>) -> Option<NodeId>
         ensures some { IfSome result (λ id. IsHeldAs self.now.held id.at node.now) }
         ensures none { IfNone result (IsNew self.now.held node.now) }
     {
-        let Some(id) = self.table.get(node) else {
+        let Some(standing) = self.table.get(node) else {
             return None;
         };
-        if holds_node(&self.slots, *id, node.get()) {
-            return Some(*id);
+        let Standing::Ended(id) = *standing else {
+            return None;
+        };
+        if holds_node(&self.slots, id, node.get()) {
+            return Some(id);
         }
         None
+    }
+
+    /// Notes that the run of a node has begun, behind all others that have. After an error the memo is as before.
+    pub fn begin(&mut self, node: &Shared<Node>) -> Result<(), NoMemory>
+        requires new { IsNew self.old.held node.now }
+        requires once { Has self.old.begun node.now → ⊥ }
+        ensures begun { OnOk result (self.new ≡ record self.old { begun = self.old.begun ++ node.now ∷ [] }) }
+        ensures lost { OnErr result (self.new ≡ self.old) }
+    {
+        node_laws();
+        begin_in(&mut self.table, &mut self.begun, node)
+    }
+
+    /// Notes that the run that began last has ended, and gives its node. None exactly where none has begun. Takes no memory.
+    pub fn end_last(&mut self) -> Option<Shared<Node>>
+        ensures held { self.new.held ≡ self.old.held }
+        ensures last { self.new.last ≡ self.old.last }
+        ensures begun { self.old.begun ≡ self.new.begun ++ option_to_list result }
+    {
+        node_laws();
+        end_in(&mut self.table, &mut self.begun)
     }
 
     /// What a held node is and gives, and what its run read. None exactly where no node of this id is held.
@@ -151,15 +196,17 @@ impl Memo {
     pub fn renumber(&mut self)
         ensures held { self.new.held ≡ renumbered 0 self.old.held }
         ensures last { self.new.last ≡ length self.old.held }
+        ensures begun { self.new.begun ≡ self.old.begun }
     {
         settle(&mut self.slots, &mut self.order);
     }
 
     /// Holds a node behind all others, with the keys that its run looked up and the held nodes that it asked, each once
-    /// and in order of first occurrence. `Full` comes exactly where as many are held as may be. After an error the memo is
-    /// as before.
+    /// and in order of first occurrence. Its run has ended before. `Full` comes exactly where as many are held as may be.
+    /// After an error the memo is as before.
     pub fn hold(&mut self, body: Body, keys: &[Key], asks: &[NodeId]) -> Result<NodeId, HoldRefusal>
         requires new { IsNew self.old.held body.node }
+        requires ended { Has self.old.begun body.node → ⊥ }
         requires asks { AreHeld self.old.held asks.now }
         ensures held { IfOk result (λ id. HoldsLast self.old self.new (entry_with (self.old.last + 1) id.at body keys.now asks.now)) }
         ensures full { (result ≡ Err Full) ↔ (most_held ≤ length self.old.held) }
@@ -199,7 +246,7 @@ impl Memo {
             return Err(HoldRefusal::NoMemory);
         };
         self.count += 1;
-        let _ = self.table.insert(node, id);
+        let _ = self.table.insert(node, Standing::Ended(id));
         Ok(id)
     }
 
@@ -207,6 +254,7 @@ impl Memo {
     pub fn roll_back_to(&mut self, stamp: usize)
         ensures drops { Sifts (IsTouched (λ r. stamp < r.stamp) self.old.held) self.old.held self.new.held }
         ensures last { self.new.last ≡ self.old.last }
+        ensures begun { self.new.begun ≡ self.old.begun }
     {
         drop_after(
             &mut self.graph,
@@ -224,6 +272,7 @@ impl Memo {
         ensures drops { Sifts (IsTouched (HasChanged (T.changed test.now)) self.old.held) self.old.held self.new.held }
         ensures count { result + length self.new.held ≡ length self.old.held }
         ensures last { self.new.last ≡ self.old.last }
+        ensures begun { self.new.begun ≡ self.old.begun }
     {
         let before = self.count;
         drop_changed(
@@ -244,6 +293,7 @@ impl Memo {
         ensures drops { Sifts (IsTouched (λ r. r.id ≡ from.at) self.old.held) self.old.held self.new.held }
         ensures count { result + length self.new.held ≡ length self.old.held }
         ensures last { self.new.last ≡ self.old.last }
+        ensures begun { self.new.begun ≡ self.old.begun }
     {
         let before = self.count;
         drop_one(
@@ -263,6 +313,7 @@ impl Memo {
         ensures drops { Sifts (IsTouched (IsToGo (T.goes test.now)) self.old.held) self.old.held self.new.held }
         ensures count { result + length self.new.held ≡ length self.old.held }
         ensures last { self.new.last ≡ self.old.last }
+        ensures begun { self.new.begun ≡ self.old.begun }
     {
         let before = self.count;
         drop_where(

@@ -3,7 +3,8 @@ ghost use Rattle.std.specs.Prelude.{◌≡◌, ◌<◌, ◌≤◌, ◌+◌, Some
 ghost use Rattle.std.specs.FinMap as map;
 ghost use Rattle.std.specs.HashMap.{get as look_up};
 ghost use Rattle.mx_value.specs.Equality.{node_eq};
-ghost use Rattle.mx_memo.specs.Found.{IsFound};
+ghost use Rattle.mx_value.specs.declared.node.Node.{Node as Asked};
+ghost use Rattle.mx_memo.specs.Found.{IsFound, is_begun};
 ghost use Rattle.mx_graph.specs.Relation.{is_kept, is_marked_in};
 ghost use Rattle.mx_memo.specs.declared.slot.Slot.TheVariants.{Free};
 ghost use Rattle.mx_memo.specs.Places.{slot_at, node_place, key_place, cleared, CanClear, IsPlaced, if_live, held_in, counts};
@@ -53,6 +54,7 @@ pub fn sweep(
     requires count { count.old ≡ held_in order.old.items }
     requires placed { IsPlaced graph.old.nodes slots.old.items order.old.items keys.old.items }
     ensures found { IsFound (look_up node_eq table.new) slots.new.items order.new.items }
+    ensures begun { (n : Asked) → is_begun (look_up node_eq table.new n) ≡ is_begun (look_up node_eq table.old n) }
     ensures count { count.new ≡ held_in order.new.items }
     ensures less { count.new ≤ count.old }
     ensures placed { IsPlaced graph.new.nodes slots.new.items order.new.items keys.new.items }

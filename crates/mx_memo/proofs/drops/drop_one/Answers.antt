@@ -44,3 +44,6 @@ returns-clause-sifts c =
 
 pub returns-clause-last : goal.returns-clause-last
 returns-clause-last c = c.drop_unread.ensures.last ∙ ap length c.sweep.ensures.order ∙ length-map c.args.order.now.items _
+
+pub returns-clause-begun : goal.returns-clause-begun
+returns-clause-begun c n = c.drop_unread.ensures.begun n ∙ c.sweep.ensures.begun n

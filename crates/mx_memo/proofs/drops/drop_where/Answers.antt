@@ -50,3 +50,6 @@ returns-clause-sifts g c =
 
 pub returns-clause-last : goal.returns-clause-last
 returns-clause-last g c = c.drop_unread.ensures.last ∙ ap length c.sweep.ensures.order ∙ length-map c.args.order.now.items _
+
+pub returns-clause-begun : goal.returns-clause-begun
+returns-clause-begun g c n = c.drop_unread.ensures.begun n ∙ c.sweep.ensures.begun n

@@ -1,9 +1,9 @@
-use Rattle.std.proofs.Common.{◌≡◌, ◌∙◌, List, sym, ap, subst, arith}
+use Rattle.std.proofs.Common.{◌≡◌, ◌∙◌, List, refl, sym, ap, subst, arith}
 use Rattle.std.specs.HashMap.{get as look_up}
 use Rattle.mx_value.specs.Equality.{node_eq}
 use Rattle.mx_memo.specs.declared.slot.Slot.{Slot}
 use Rattle.mx_memo.specs.Found.{look_without}
-use Rattle.mx_memo.proofs.Table.{found_turn}
+use Rattle.mx_memo.proofs.Table.{found_turn, begun_turn}
 use Rattle.mx_graph.proofs.Removal.{rest-edges}
 use Rattle.mx_memo.specs.Places.{slot_at, node_place, key_place, cleared, held_in}
 use Rattle.mx_memo.proofs.Places.{can_clear, cleared_count, held_less}
@@ -11,7 +11,7 @@ use Rattle.mx_memo.proofs.Sweeping.{sweep_begin, sweep_turn, rest_of, sweep_same
 use Rattle.mx_memo.proofs.sweep.sweep.Goals as goal
 
 pub marked-init : goal.marked-init
-marked-init c = record { sweeping = sweep_begin c.args.graph.now c.args.slots.now.items c.args.order.now.items c.args.keys.now.items c.requires.placed; found = c.requires.found; count = c.requires.count }
+marked-init c = record { sweeping = sweep_begin c.args.graph.now c.args.slots.now.items c.args.order.now.items c.args.keys.now.items c.requires.placed; begun = λ n. refl; found = c.requires.found; count = c.requires.count }
 
 pub clear-requires-clause-order : goal.clear-requires-clause-order
 clear-requires-clause-order c = can_clear node_place c.marked.graph.nodes c.marked.slots.items c.marked.order.items c.marked.invariant.sweeping.placed.nodes_in c.index-at.result
@@ -31,6 +31,10 @@ marked-preserved c =
     record {
       sweeping =
           sweep_same c.args.graph.now c.args.slots.now.items c.args.order.now.items c.args.keys.now.items c.take_marked.new.self c.marked.slots.items c.clear.new.slots.items c.marked.order.items c.clear.new.order.items c.marked.keys.items c.clear.new.keys.items c.in-Some.id c.index-at.result c.index-at.ensures c.clear.ensures.slots c.clear.ensures.order c.clear.ensures.keys turn;
+      begun = λ n.
+          begun_turn c.node_laws.ensures (look_up node_eq c.marked.table) (look_up node_eq c.forget.new.table) c.marked.graph.nodes c.marked.slots.items c.marked.order.items c.index-at.result c.marked.invariant.sweeping.placed.nodes_in c.marked.invariant.found
+          (λ n. subst (λ (xs : List Slot). look_up node_eq c.forget.new.table n ≡ look_without (slot_at xs c.index-at.result) (look_up node_eq c.marked.table) n) c.as_slice.ensures.value (c.forget.ensures n)) n
+          ∙ c.marked.invariant.begun n;
       found =
           found_turn c.node_laws.ensures (look_up node_eq c.marked.table) (look_up node_eq c.forget.new.table) c.marked.graph.nodes c.marked.slots.items c.marked.order.items c.index-at.result c.marked.invariant.sweeping.placed.nodes_in c.marked.invariant.found
           (λ n. subst (λ (xs : List Slot). look_up node_eq c.forget.new.table n ≡ look_without (slot_at xs c.index-at.result) (look_up node_eq c.marked.table) n) c.as_slice.ensures.value (c.forget.ensures n))

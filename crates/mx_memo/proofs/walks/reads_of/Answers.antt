@@ -1,4 +1,4 @@
-use Rattle.std.proofs.Common.{◌≡◌, ◌∙◌, List, Option, Some, is_some, ap, subst, sym}
+use Rattle.std.proofs.Common.{Option, Some, is_some, ap, subst}
 use Rattle.mx_graph.specs.declared.ids.EdgeId.{EdgeId}
 use Rattle.mx_graph.specs.Relation.{Entry, IsEdge}
 use Rattle.mx_memo.proofs.Walking.{IsWalking, walk_begins, turn, turned, walk_ends}

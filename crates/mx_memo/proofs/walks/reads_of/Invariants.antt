@@ -1,4 +1,4 @@
-use Rattle.std.proofs.Common.{ℕ, ◌-◌, length}
+use Rattle.std.proofs.Common.{◌-◌, length}
 use Rattle.mx_memo.specs.Reading.{reads_in}
 use Rattle.mx_memo.proofs.Walking.{IsWalking}
 use Rattle.mx_memo.proofs.walks.reads_of.Given as goal

@@ -1,6 +1,9 @@
 use Rattle.std.proofs.Common.{◌≡◌, length, ap, sym, subst, arith}
 use Rattle.mx_memo.specs.Kept.{IsHeld, IsTouched, Sifts, entries}
+use Rattle.std.specs.HashMap.{get as look_up}
+use Rattle.mx_value.specs.Equality.{node_eq}
 use Rattle.mx_memo.specs.Memos.{Memory}
+use Rattle.mx_memo.proofs.Begun.{begun_same}
 use Rattle.mx_memo.proofs.Keeping.{entries_length}
 use Rattle.mx_memo.proofs.Reading.{held_node}
 use Rattle.mx_memo.proofs.memo.Memo.drop_node.Goals as goal
@@ -12,6 +15,8 @@ pub invariant_of-self : goal.invariant_of-self
 invariant_of-self c = record {
   whole = c.drop_one.ensures.whole;
   found = c.drop_one.ensures.found;
+  begun = begun_same (look_up node_eq c.self.inside.table) (look_up node_eq c.drop_one.new.table) c.self.inside.begun.items c.drop_one.ensures.begun c.self.invariant.begun;
+  begun_once = c.self.invariant.begun_once;
   counted = c.drop_one.ensures.count;
   few = let less = c.drop_one.ensures.less in let few = c.self.invariant.few in omega (arith, less, few);
 }

@@ -3,10 +3,13 @@ use Rattle.std.specs.HashMap.{get as look_up}
 use Rattle.mx_value.specs.declared.node.Node.{Node as Asked}
 use Rattle.mx_value.specs.Equality.{node_eq}
 use Rattle.mx_memo.specs.declared.slot.Held.{Held}
-use Rattle.mx_memo.specs.Found.{IsFound, IsNew}
+use Rattle.mx_memo.specs.declared.standing.Standing.{Standing}
+use Rattle.mx_memo.specs.declared.standing.Standing.TheVariants.{Ended}
+use Rattle.mx_memo.specs.Found.{IsFound, IsNew, is_begun}
+use Rattle.mx_memo.proofs.Begun.{begun_same, begun_held}
 use Rattle.mx_memo.proofs.Table.{found_same, found_last, ok_on}
 use Rattle.mx_graph.specs.declared.ids.NodeId.{NodeId}
-use Rattle.mx_memo.specs.Places.{held_in}
+use Rattle.mx_memo.specs.Places.{held_in, Has}
 use Rattle.mx_memo.specs.Kept.{IsHeld, IsWhole}
 use Rattle.mx_memo.specs.Memos.{Memory}
 use Rattle.mx_memo.proofs.Keeping.{entries_length}
@@ -58,9 +61,16 @@ invariant_of-self-2 c = record {
       let key : c.in-Ok.node ≡ c.args.body.node = c.in-Ok.ensures in
       let held : Held = record { body = c.args.body; place = length c.self.inside.order.items } in
       found_last c.node_laws.ensures (look_up node_eq c.self.inside.table) (look_up node_eq c.insert.new.self) c.self.inside.graph.nodes c.self.inside.graph.edges c.self.inside.slots.items c.hold_with-held.new.slots.items c.self.inside.order.items c.hold_with-held.new.order.items c.in-Ok-held.id held c.self.invariant.whole.placed.nodes_in
-      (λ n. updates.0 n ∙ ap (λ (k : Asked). cond (node_eq k n) (Some c.in-Ok-held.id) (look_up node_eq c.reserve.new.self n)) key ∙ ap (λ (o : Option NodeId). cond (node_eq c.args.body.node n) (Some c.in-Ok-held.id) o) (c.reserve.ensures.entries.2 n))
+      (λ n. updates.0 n ∙ ap (λ (k : Asked). cond (node_eq k n) (Some (Ended c.in-Ok-held.id)) (look_up node_eq c.reserve.new.self n)) key ∙ ap (λ (o : Option Standing). cond (node_eq c.args.body.node n) (Some (Ended c.in-Ok-held.id)) o) (c.reserve.ensures.entries.2 n))
       c.in-Ok-held.ensures.order c.in-Ok-held.ensures.node (λ q n. c.hold_with-held.ensures.stays q (λ f. n (sym (c.vertices_of-found.ensures.stays q n) ∙ f)) ∙ c.vertices_of-found.ensures.stays q n)
       (subst (λ (m : Memory). IsNew m.held c.args.body.node) (sym c.self.view_is) c.requires.new) c.self.invariant.found;
+  begun =
+      let updates = ok_on c.insert.result _ (c.insert.ensures.succeeds c.in-Ok-reserve.ensures.ok) c.insert.ensures.updates in
+      let key : c.in-Ok.node ≡ c.args.body.node = c.in-Ok.ensures in
+      begun_held c.node_laws.ensures (look_up node_eq c.self.inside.table) (look_up node_eq c.insert.new.self) c.self.inside.begun.items c.args.body.node c.in-Ok-held.id
+      (λ n. updates.0 n ∙ ap (λ (k : Asked). cond (node_eq k n) (Some (Ended c.in-Ok-held.id)) (look_up node_eq c.reserve.new.self n)) key ∙ ap (λ (o : Option Standing). cond (node_eq c.args.body.node n) (Some (Ended c.in-Ok-held.id)) o) (c.reserve.ensures.entries.2 n))
+      (subst (λ (m : Memory). Has m.begun c.args.body.node → ⊥) (sym c.self.view_is) c.requires.ended) c.self.invariant.begun;
+  begun_once = c.self.invariant.begun_once;
   counted =
       let counted = c.self.invariant.counted in
       let was = entries_length c.vertices_of-found.new.graph.edges c.vertices_of-found.new.slots.items 0 c.self.inside.order.items in
@@ -92,6 +102,8 @@ invariant_of-self-in_default-found c = record {
   found =
       found_same (look_up node_eq c.self.inside.table) (look_up node_eq c.reserve.new.self) c.self.inside.graph.nodes c.self.inside.slots.items c.vertices_of-found.new.slots.items c.self.inside.order.items c.self.invariant.whole.placed.nodes_in
       c.reserve.ensures.entries.2 c.vertices_of-found.ensures.stays c.self.invariant.found;
+  begun = begun_same (look_up node_eq c.self.inside.table) (look_up node_eq c.reserve.new.self) c.self.inside.begun.items (λ n. ap is_begun (c.reserve.ensures.entries.2 n)) c.self.invariant.begun;
+  begun_once = c.self.invariant.begun_once;
   counted = c.self.invariant.counted;
   few = c.self.invariant.few;
 }
@@ -105,6 +117,8 @@ invariant_of-self-in_default-held c =
           subst (λ (xs : List (Option NodeId)). IsFound (look_up node_eq c.reserve.new.self) c.hold_with-held.new.slots.items xs) (sym still)
           (found_same (look_up node_eq c.self.inside.table) (look_up node_eq c.reserve.new.self) c.self.inside.graph.nodes c.self.inside.slots.items c.hold_with-held.new.slots.items c.self.inside.order.items c.self.invariant.whole.placed.nodes_in
           c.reserve.ensures.entries.2 (λ q n. c.hold_with-held.ensures.stays q (λ f. n (sym (c.vertices_of-found.ensures.stays q n) ∙ f)) ∙ c.vertices_of-found.ensures.stays q n) c.self.invariant.found);
+      begun = begun_same (look_up node_eq c.self.inside.table) (look_up node_eq c.reserve.new.self) c.self.inside.begun.items (λ n. ap is_begun (c.reserve.ensures.entries.2 n)) c.self.invariant.begun;
+      begun_once = c.self.invariant.begun_once;
       counted = c.self.invariant.counted ∙ ap held_in (sym still);
       few = c.self.invariant.few;
     }

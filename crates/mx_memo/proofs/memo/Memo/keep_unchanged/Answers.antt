@@ -1,5 +1,8 @@
 use Rattle.std.proofs.Common.{length, ap, arith}
+use Rattle.std.specs.HashMap.{get as look_up}
+use Rattle.mx_value.specs.Equality.{node_eq}
 use Rattle.mx_memo.specs.Memos.{Memory}
+use Rattle.mx_memo.proofs.Begun.{begun_same}
 use Rattle.mx_memo.proofs.Keeping.{entries_length}
 use Rattle.mx_memo.proofs.memo.Memo.keep_unchanged.Goals as goal
 
@@ -10,6 +13,8 @@ pub invariant_of-self : goal.invariant_of-self
 invariant_of-self g c = record {
   whole = c.drop_changed.ensures.whole;
   found = c.drop_changed.ensures.found;
+  begun = begun_same (look_up node_eq c.self.inside.table) (look_up node_eq c.drop_changed.new.table) c.self.inside.begun.items c.drop_changed.ensures.begun c.self.invariant.begun;
+  begun_once = c.self.invariant.begun_once;
   counted = c.drop_changed.ensures.count;
   few = let less = c.drop_changed.ensures.less in let few = c.self.invariant.few in omega (arith, less, few);
 }

@@ -27,6 +27,8 @@ invariant_of-self c =
       found =
           subst (λ (xs : List (Option NodeId)). IsFound (look_up node_eq c.self.inside.table) c.settle.new.slots.items xs) (sym list)
           (alike_found c.self.inside.slots.items c.settle.new.slots.items settled.alike (look_up node_eq c.self.inside.table) (taken c.self.inside.order.items) (found_taken (look_up node_eq c.self.inside.table) c.self.inside.slots.items c.self.inside.order.items c.self.invariant.found));
+      begun = c.self.invariant.begun;
+      begun_once = c.self.invariant.begun_once;
       counted = c.self.invariant.counted ∙ sym (count_taken c.self.inside.order.items) ∙ ap held_in (sym list);
       few = c.self.invariant.few;
     }

@@ -6,7 +6,7 @@ use Rattle.mx_memo.specs.Stamps.{IsHeldSince}
 use Rattle.mx_memo.specs.Memos.{Memory}
 use Rattle.mx_memo.proofs.Places.{at_below}
 use Rattle.mx_memo.proofs.Reading.{held_node}
-use Rattle.mx_memo.proofs.Standing.{held_since}
+use Rattle.mx_memo.proofs.Stamping.{held_since}
 use Rattle.mx_memo.proofs.memo.Memo.stamp.Goals as goal
 
 pub prove-unreachable-requires : goal.prove-unreachable-requires
