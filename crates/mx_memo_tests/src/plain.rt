@@ -74,6 +74,22 @@ impl List {
         }
     }
 
+    /// Gives the held nodes the stamps from 1 without a gap.
+    pub fn renumber(&mut self) {
+        let mut last = 0usize;
+        for stamp in 1..=self.last {
+            for entry in self.held.iter_mut() {
+                if let Some(plain) = entry {
+                    if plain.stamp == stamp && plain.stamp > last {
+                        last = last.saturating_add(1);
+                        plain.stamp = last;
+                    }
+                }
+            }
+        }
+        self.last = last;
+    }
+
     /// Drops these, and all that reach one of them, and gives their number.
     pub fn drop_from(&mut self, gone: &mut Vec<bool>) -> u32 {
         for _ in 0..NODES {

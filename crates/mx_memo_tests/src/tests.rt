@@ -1,7 +1,10 @@
 //! Random scripts of holding, dropping, rolling back, clearing and editing beside a plain list.
+ghost use Rattle.mx_memo.specs.Kept.{IsHeld};
+
 use crate::plain::{List, NODES, Plain, marks, set};
 use crate::scripts::{OneKey, OneNode, asks_of, body, key, node};
-use mx_memo::{Every, Memo};
+use mx_graph::NodeId;
+use mx_memo::{Every, Memo, Standing};
 use mx_value::value::Value;
 use std::alloc::Global;
 use std::process::Abort;
@@ -32,7 +35,7 @@ impl Pair {
     fn hold(&mut self, rt: &impl Abort, alloc: Global, draws: &mut Draws) -> Result<(), Fail> {
         let n = draws.below(10);
         let new = node(alloc, n)?;
-        let None = self.memo.find(&new) else {
+        let None = self.memo.standing(&new) else {
             assert!(rt; self.list.is_held(n));
             return Ok(());
         };
@@ -129,15 +132,78 @@ impl Pair {
         Ok(())
     }
 
+    /// A run that begins is seen in one look until it ends.
+    fn begin(&mut self, rt: &impl Abort, alloc: Global, draws: &mut Draws) -> Result<(), Fail> {
+        let new = node(alloc, draws.below(10))?;
+        let None = self.memo.standing(&new) else {
+            return Ok(());
+        };
+        assert!(rt; self.memo.begin(&new).is_ok());
+        assert!(rt; matches!(self.memo.standing(&new), Some(Standing::Begun)));
+        assert!(rt; self.memo.find(&new).is_none());
+        let ended = self.memo.end_last().ok_or("none has begun")?;
+        assert!(rt; ended == new);
+        assert!(rt; self.memo.standing(&new).is_none());
+        assert!(rt; self.memo.end_last().is_none());
+        Ok(())
+    }
+
+    fn renumber(&mut self) {
+        self.memo.renumber();
+        self.list.renumber();
+    }
+
+    /// What the memo tells of the keys and asks of a held node.
+    fn compare_sources(
+        &self,
+        rt: &impl Abort,
+        alloc: Global,
+        id: NodeId,
+        plain: &Plain,
+    ) -> Result<(), Fail>
+        requires { IsHeld self.memo.now.held id.at }
+    {
+        let keys = self.memo.keys_of(alloc, id).ok().ok_or("no memory")?;
+        let asks = self.memo.asks_of(alloc, id).ok().ok_or("no memory")?;
+        assert_eq!(rt; keys.len(), plain.keys.len());
+        assert_eq!(rt; asks.len(), plain.asks.len());
+        for (place, k) in plain.keys.iter().enumerate() {
+            let looked = keys.get(place).ok_or("no key")?;
+            assert!(rt; *looked == key(alloc, *k)?);
+        }
+        for (place, m) in plain.asks.iter().enumerate() {
+            let asked = self.memo.find(&node(alloc, *m)?).ok_or("not held")?;
+            assert_eq!(rt; asks.get(place).copied(), Some(asked));
+        }
+        Ok(())
+    }
+
+    fn compare_one(
+        &self,
+        rt: &impl Abort,
+        alloc: Global,
+        n: usize,
+        plain: &Plain,
+    ) -> Result<(), Fail> {
+        let Some(id) = self.memo.find(&node(alloc, n)?) else {
+            return Err("not held".into());
+        };
+        let held = self.memo.body(id).ok_or("no body")?;
+        assert!(rt; held.reply.get().value == Value::Int(plain.value));
+        assert_eq!(rt; self.memo.stamp(id), Some(plain.stamp));
+        let next = self.memo.after(plain.stamp.saturating_sub(1));
+        assert_eq!(rt; next, Some(id));
+        self.compare_sources(rt, alloc, id, plain)
+    }
+
     fn compare(&self, rt: &impl Abort, alloc: Global) -> Result<(), Fail> {
         assert_eq!(rt; self.memo.count(), self.list.count());
         assert_eq!(rt; self.memo.last_stamp(), self.list.last);
+        assert!(rt; self.memo.after(self.list.last).is_none());
         for (n, entry) in self.list.held.iter().enumerate() {
-            let found = self.memo.find(&node(alloc, n)?);
-            assert_eq!(rt; found.is_some(), entry.is_some());
-            if let (Some(id), Some(plain)) = (found, entry) {
-                let held = self.memo.body(id).ok_or("no body")?;
-                assert!(rt; held.reply.get().value == Value::Int(plain.value));
+            match entry {
+                Some(plain) => self.compare_one(rt, alloc, n, plain)?,
+                None => assert!(rt; self.memo.find(&node(alloc, n)?).is_none()),
             }
         }
         Ok(())
@@ -154,7 +220,9 @@ fn what_is_held_is_that_of_a_plain_list(rt: HostRuntime) -> Result<(), Fail> {
             list: List::new(alloc)?,
         };
         for _ in 0..12 {
-            match draws.below(8) {
+            match draws.below(10) {
+                8 => pair.renumber(),
+                9 => pair.begin(&rt, alloc, &mut draws)?,
                 0 => pair.roll_back(alloc, &mut draws)?,
                 1 => pair.edit(&rt, alloc, &mut draws)?,
                 2 => pair.clear(&rt, alloc, &mut draws)?,
