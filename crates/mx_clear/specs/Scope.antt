@@ -8,7 +8,7 @@ use Rattle.mx_value.specs.declared.value.CellsAt.{CellsAt}
 use Rattle.mx_value.specs.declared.value.Segment.{Segment}
 use Rattle.mx_value.specs.declared.value.Segment.TheOpen.{Value-F}
 use Rattle.mx_value.specs.Equality.{node_eq, segment_eq, label_eq}
-use Rattle.mx_memo.specs.declared.slot.Body.{Body}
+use Rattle.mx_vertices.specs.declared.slot.Body.{Body}
 
 -- the node itself
 abbrev pub is_one : Node → Body → Bool

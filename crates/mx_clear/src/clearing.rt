@@ -1,6 +1,6 @@
 //! The clearings.
 ghost use Rattle.std.specs.Prelude.{◌≡◌, ◌+◌, [], length};
-ghost use Rattle.mx_memo.specs.Kept.{IsTouched, IsToGo, Sifts};
+ghost use Rattle.mx_vertices.specs.Kept.{IsTouched, IsToGo, Sifts};
 ghost use Rattle.mx_clear.specs.Scope.{is_one, is_of_cells, is_in_space, is_any};
 
 use crate::scope::{OfCells, OfSpace, One};

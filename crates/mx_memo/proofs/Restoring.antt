@@ -1,7 +1,7 @@
 -- A roll-back drops what was held later, and nothing else.
 use Rattle.std.proofs.Common.{◌≡◌, ◌∙◌, ℕ, ◌<◌, ◌≤◌, List, [], ◌∷◌, ◌++◌, refl, sym, ap, subst, arith, ◌⊎◌, inl, inr}
-use Rattle.mx_memo.specs.Places.{Has}
-use Rattle.mx_memo.specs.Kept.{Kept, asked, IsTouched, Here, ByAsk, Sifts, Done, Keeps, Drops}
+use Rattle.mx_vertices.specs.Places.{Has}
+use Rattle.mx_vertices.specs.Kept.{Kept, asked, IsTouched, Here, ByAsk, Sifts, Done, Keeps, Drops}
 use Rattle.mx_memo.specs.Restoring.{AskBefore, AreApart}
 
 has_front : (xs ys : List Kept) (r : Kept) → Has xs r → Has (xs ++ ys) r

@@ -3,11 +3,11 @@ use Rattle.std.specs.Prelude.{◌≡◌, ℕ, ◌≤◌, List, [], ◌++◌, ◌
 use Rattle.std.specs.HashMap.{get as look_up}
 use Rattle.mx_value.specs.Equality.{node_eq}
 use Rattle.mx_value.specs.declared.node.Node.{Node}
-use Rattle.mx_memo.specs.Found.{IsFound, AreBegun, AreDistinct}
+use Rattle.mx_vertices.specs.Found.{IsFound, AreBegun, AreDistinct}
 use Rattle.mx_graph.specs.declared.ids.NodeId.{NodeId}
 use Rattle.mx_memo.specs.declared.memo.Memo.TheInside.{Inside}
-use Rattle.mx_memo.specs.Places.{held_in, Has}
-use Rattle.mx_memo.specs.Kept.{Kept, IsHeld, entries, IsWhole}
+use Rattle.mx_vertices.specs.Places.{held_in, Has}
+use Rattle.mx_vertices.specs.Kept.{Kept, IsHeld, entries, IsWhole}
 
 -- the held nodes in order of holding, the last stamp that was given, and the nodes whose runs have begun, in that order
 pub record Memory : Type 0 where

@@ -1,7 +1,7 @@
 -- What a roll-back restores.
 use Rattle.std.specs.Prelude.{◌≡◌, ℕ, ◌<◌, ◌≤◌, List, [], ◌∷◌, ◌++◌}
-use Rattle.mx_memo.specs.Places.{Has}
-use Rattle.mx_memo.specs.Kept.{Kept, asked, IsTouched, Sifts}
+use Rattle.mx_vertices.specs.Places.{Has}
+use Rattle.mx_vertices.specs.Kept.{Kept, asked, IsTouched, Sifts}
 
 -- each asks none but nodes that stand before it
 abbrev pub AskBefore : List ℕ → List Kept → Type 0

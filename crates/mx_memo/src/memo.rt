@@ -1,30 +1,30 @@
 //! The memo.
 ghost use Rattle.std.specs.Prelude.{◌≡◌, option_to_list, ◌++◌, ◌∷◌, [], OnOk, ◌<◌, ◌≤◌, ◌+◌, ◌↔◌, Err, IfOk, IfSome, IfNone, MatchOption, OnErr, length};
 ghost use Rattle.mx_memo.specs.declared.refusal.HoldRefusal.TheVariants.{Full};
-ghost use Rattle.mx_memo.specs.Places.{Has};
-ghost use Rattle.mx_memo.specs.Kept.{IsHeld, IsTouched, HasChanged, IsToGo, Sifts};
-ghost use Rattle.mx_memo.specs.Held.{entry_with};
-ghost use Rattle.mx_memo.specs.Reading.{LookedUp, Asked};
-ghost use Rattle.mx_memo.specs.Stamps.{NoneAfter, IsNextAfter, IsHeldSince, renumbered};
-ghost use Rattle.mx_memo.specs.Found.{HasCome, IsHeldAs, IsHeldWith, IsNew};
+ghost use Rattle.mx_vertices.specs.Places.{Has};
+ghost use Rattle.mx_vertices.specs.Kept.{looked, asked, IsHeld, IsTouched, HasChanged, IsToGo, Sifts};
+ghost use Rattle.mx_vertices.specs.Held.{entry_with};
+ghost use Rattle.mx_vertices.specs.Reading.{LookedUp, Asked, AreTakers};
+ghost use Rattle.mx_vertices.specs.Stamps.{NoneAfter, IsNextAfter, IsHeldSince, renumbered};
+ghost use Rattle.mx_vertices.specs.Found.{HasCome, IsHeldAs, IsHeldWith, IsNew};
 ghost use Rattle.mx_memo.specs.Memos.{AreHeld, HoldsLast, nothing_held, most_held};
 
-use crate::drops::{drop_after, drop_changed, drop_one, drop_where};
-use crate::finding::{Table, begin_in, end_in, holds_node, node_laws};
-use crate::holding::{hold_with, vertices_of};
 use crate::refusal::HoldRefusal;
-use crate::settle::settle;
-use crate::slot::{Body, Slot};
-use crate::stamps::{first_from, place_at};
-use crate::standing::Standing;
-use crate::test_of_key::KeyTest;
-use crate::test_of_node::NodeTest;
-use crate::vertices::body_at;
-use crate::walks::{asks_at, keys_at};
 use mx_edit::key::Key;
 use mx_graph::{NoMemory, NodeId, ReadGraph};
 use mx_list::shared::Shared;
 use mx_value::node::Node;
+use mx_vertices::drops::{drop_after, drop_changed, drop_one, drop_where};
+use mx_vertices::finding::{Table, begin_in, end_in, holds_node, node_laws};
+use mx_vertices::holding::{hold_with, vertices_of};
+use mx_vertices::settle::settle;
+use mx_vertices::slot::{Body, Slot};
+use mx_vertices::stamps::{first_from, place_at};
+use mx_vertices::standing::Standing;
+use mx_vertices::test_of_key::KeyTest;
+use mx_vertices::test_of_node::NodeTest;
+use mx_vertices::vertices::{body_at, find_key};
+use mx_vertices::walks::{asks_at, keys_at, readers_at};
 use std::alloc::Global;
 use std::collections::HashMap;
 use std::marker::Model;
@@ -183,6 +183,26 @@ impl Memo {
         ensures { IfOk result (λ ids. Asked self.now.held id.at ids.items) }
     {
         asks_at(alloc, &self.graph, &self.slots, id)
+    }
+
+    /// The held nodes whose runs looked a key up.
+    pub fn readers_of(&self, alloc: Global, key: &Key) -> Result<Vec<NodeId>, NoMemory>
+        ensures { IfOk result (λ ids. AreTakers self.now.held (looked key.now) ids.items) }
+    {
+        self.graph.relation();
+        let Some(id) = find_key(&self.slots, &self.keys, key) else {
+            return Ok(Vec::new(alloc));
+        };
+        readers_at(alloc, &self.graph, id)
+    }
+
+    /// The held nodes whose runs asked a held node.
+    pub fn askers_of(&self, alloc: Global, id: NodeId) -> Result<Vec<NodeId>, NoMemory>
+        requires { IsHeld self.now.held id.at }
+        ensures { IfOk result (λ ids. AreTakers self.now.held (asked id.at) ids.items) }
+    {
+        self.graph.relation();
+        readers_at(alloc, &self.graph, id)
     }
 
     /// The held node of the least stamp above this one. None exactly where there is none.

@@ -1,5 +1,5 @@
 //! Random scripts of holding, dropping, rolling back, clearing and editing beside a plain list.
-ghost use Rattle.mx_memo.specs.Kept.{IsHeld};
+ghost use Rattle.mx_vertices.specs.Kept.{IsHeld};
 
 use crate::plain::{List, NODES, Plain, marks, set};
 use crate::scripts::{OneKey, OneNode, asks_of, body, key, node};
@@ -161,7 +161,7 @@ impl Pair {
         id: NodeId,
         plain: &Plain,
     ) -> Result<(), Fail>
-        requires { IsHeld self.memo.now.held id.at }
+        requires { IsHeld self.now.memo.held id.at }
     {
         let keys = self.memo.keys_of(alloc, id).ok().ok_or("no memory")?;
         let asks = self.memo.asks_of(alloc, id).ok().ok_or("no memory")?;

@@ -1,8 +1,8 @@
 use Rattle.std.proofs.Common.{◌≡◌, List, subst, inl, inr}
 use Rattle.mx_graph.specs.declared.ids.NodeId.{NodeId}
-use Rattle.mx_memo.specs.Places.{Has}
-use Rattle.mx_memo.specs.Kept.{IsHeld}
-use Rattle.mx_memo.proofs.Sources.{has_push}
+use Rattle.mx_vertices.specs.Places.{Has}
+use Rattle.mx_vertices.specs.Kept.{IsHeld}
+use Rattle.mx_vertices.proofs.Sources.{has_push}
 use Rattle.mx_memo_tests.proofs.scripts.ask_one.Goals as goal
 
 pub returns : goal.returns

@@ -1,6 +1,6 @@
 use Rattle.std.proofs.Common.{◌≡◌, [], List, ap, sym, subst}
 use Rattle.mx_graph.specs.declared.ids.NodeId.{NodeId}
-use Rattle.mx_memo.specs.Places.{Has}
+use Rattle.mx_vertices.specs.Places.{Has}
 use Rattle.mx_memo_tests.proofs.scripts.asks_of.Goals as goal
 
 pub loop-n-init : goal.loop-n-init

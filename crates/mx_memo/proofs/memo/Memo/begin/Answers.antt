@@ -1,10 +1,10 @@
 use Rattle.std.proofs.Common.{sym, subst}
 use Rattle.std.specs.HashMap.{get as look_up}
 use Rattle.mx_value.specs.Equality.{node_eq}
-use Rattle.mx_memo.specs.Places.{Has}
-use Rattle.mx_memo.specs.Found.{IsNew}
+use Rattle.mx_vertices.specs.Places.{Has}
+use Rattle.mx_vertices.specs.Found.{IsNew}
 use Rattle.mx_memo.specs.Memos.{Memory}
-use Rattle.mx_memo.proofs.Begun.{IsMarked, began, new_apart}
+use Rattle.mx_vertices.proofs.Begun.{IsMarked, began, new_apart}
 use Rattle.mx_memo.proofs.memo.Memo.begin.Goals as goal
 
 pub invariant_of-self : goal.invariant_of-self

@@ -1,11 +1,11 @@
 use Rattle.std.proofs.Common.{List, sym, subst}
-use Rattle.mx_memo.specs.declared.slot.Slot.{Slot}
-use Rattle.mx_memo.specs.Places.{slot_at}
-use Rattle.mx_memo.specs.Kept.{IsHeld, IsNode}
-use Rattle.mx_memo.specs.Found.{IsBodyAt, IsHeldWith}
+use Rattle.mx_vertices.specs.declared.slot.Slot.{Slot}
+use Rattle.mx_vertices.specs.Places.{slot_at}
+use Rattle.mx_vertices.specs.Kept.{IsHeld, IsNode}
+use Rattle.mx_vertices.specs.Found.{IsBodyAt, IsHeldWith}
 use Rattle.mx_memo.specs.Memos.{Memory}
-use Rattle.mx_memo.proofs.Reading.{held_node}
-use Rattle.mx_memo.proofs.Table.{held_with, map_match}
+use Rattle.mx_vertices.proofs.Reading.{held_node}
+use Rattle.mx_vertices.proofs.Table.{held_with, map_match}
 use Rattle.mx_memo.proofs.memo.Memo.body.Goals as goal
 
 pub returns : goal.returns

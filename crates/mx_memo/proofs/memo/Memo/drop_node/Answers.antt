@@ -1,11 +1,11 @@
 use Rattle.std.proofs.Common.{◌≡◌, length, ap, sym, subst, arith}
-use Rattle.mx_memo.specs.Kept.{IsHeld, IsTouched, Sifts, entries}
+use Rattle.mx_vertices.specs.Kept.{IsHeld, IsTouched, Sifts, entries}
 use Rattle.std.specs.HashMap.{get as look_up}
 use Rattle.mx_value.specs.Equality.{node_eq}
 use Rattle.mx_memo.specs.Memos.{Memory}
-use Rattle.mx_memo.proofs.Begun.{begun_same}
-use Rattle.mx_memo.proofs.Keeping.{entries_length}
-use Rattle.mx_memo.proofs.Reading.{held_node}
+use Rattle.mx_vertices.proofs.Begun.{begun_same}
+use Rattle.mx_vertices.proofs.Keeping.{entries_length}
+use Rattle.mx_vertices.proofs.Reading.{held_node}
 use Rattle.mx_memo.proofs.memo.Memo.drop_node.Goals as goal
 
 pub overflow_sub-result : goal.overflow_sub-result

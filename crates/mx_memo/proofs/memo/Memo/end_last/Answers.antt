@@ -1,6 +1,6 @@
 use Rattle.std.specs.HashMap.{get as look_up}
 use Rattle.mx_value.specs.Equality.{node_eq}
-use Rattle.mx_memo.proofs.Begun.{IsMarked, ended}
+use Rattle.mx_vertices.proofs.Begun.{IsMarked, ended}
 use Rattle.mx_memo.proofs.memo.Memo.end_last.Goals as goal
 
 pub invariant_of-self : goal.invariant_of-self

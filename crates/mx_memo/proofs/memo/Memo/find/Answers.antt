@@ -3,11 +3,11 @@ use Rattle.std.specs.Prelude.{option_copied}
 use Rattle.std.specs.HashMap.{get as look_up}
 use Rattle.mx_value.specs.declared.node.Node.{Node as Asked}
 use Rattle.mx_value.specs.Equality.{node_eq}
-use Rattle.mx_memo.specs.declared.slot.Slot.{Slot}
-use Rattle.mx_memo.specs.declared.standing.Standing.TheVariants.{Begun, Ended}
-use Rattle.mx_memo.specs.Found.{IsNew, IsNodeAt, IsHeldAs}
+use Rattle.mx_vertices.specs.declared.slot.Slot.{Slot}
+use Rattle.mx_vertices.specs.declared.standing.Standing.TheVariants.{Begun, Ended}
+use Rattle.mx_vertices.specs.Found.{IsNew, IsNodeAt, IsHeldAs}
 use Rattle.mx_memo.specs.Memos.{Memory}
-use Rattle.mx_memo.proofs.Table.{new_none, new_begun, new_other, held_as}
+use Rattle.mx_vertices.proofs.Table.{new_none, new_begun, new_other, held_as}
 use Rattle.mx_memo.proofs.memo.Memo.find.Goals as goal
 
 pub returns-in_default-clause-none : goal.returns-in_default-clause-none

@@ -2,19 +2,19 @@ use Rattle.std.proofs.Common.{◌≡◌, ◌∙◌, List, Option, Some, cond, le
 use Rattle.std.specs.HashMap.{get as look_up}
 use Rattle.mx_value.specs.declared.node.Node.{Node as Asked}
 use Rattle.mx_value.specs.Equality.{node_eq}
-use Rattle.mx_memo.specs.declared.slot.Held.{Held}
-use Rattle.mx_memo.specs.declared.standing.Standing.{Standing}
-use Rattle.mx_memo.specs.declared.standing.Standing.TheVariants.{Ended}
-use Rattle.mx_memo.specs.Found.{IsFound, IsNew, is_begun}
-use Rattle.mx_memo.proofs.Begun.{begun_same, begun_held}
-use Rattle.mx_memo.proofs.Table.{found_same, found_last, ok_on}
+use Rattle.mx_vertices.specs.declared.slot.Held.{Held}
+use Rattle.mx_vertices.specs.declared.standing.Standing.{Standing}
+use Rattle.mx_vertices.specs.declared.standing.Standing.TheVariants.{Ended}
+use Rattle.mx_vertices.specs.Found.{IsFound, IsNew, is_begun}
+use Rattle.mx_vertices.proofs.Begun.{begun_same, begun_held}
+use Rattle.mx_vertices.proofs.Table.{found_same, found_last, ok_on}
 use Rattle.mx_graph.specs.declared.ids.NodeId.{NodeId}
-use Rattle.mx_memo.specs.Places.{held_in, Has}
-use Rattle.mx_memo.specs.Kept.{IsHeld, IsWhole}
+use Rattle.mx_vertices.specs.Places.{held_in, Has}
+use Rattle.mx_vertices.specs.Kept.{IsHeld, IsWhole}
 use Rattle.mx_memo.specs.Memos.{Memory}
-use Rattle.mx_memo.proofs.Keeping.{entries_length}
-use Rattle.mx_memo.proofs.Reading.{held_node}
-use Rattle.mx_memo.proofs.Sources.{push_length}
+use Rattle.mx_vertices.proofs.Keeping.{entries_length}
+use Rattle.mx_vertices.proofs.Reading.{held_node}
+use Rattle.mx_vertices.proofs.Sources.{push_length}
 use Rattle.mx_memo.proofs.memo.Memo.hold.Goals as goal
 
 pub vertices_of-found-requires-clause-asks : goal.vertices_of-found-requires-clause-asks

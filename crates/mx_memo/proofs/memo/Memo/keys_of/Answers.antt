@@ -1,10 +1,10 @@
 use Rattle.std.proofs.Common.{◌≡◌, ◌∙◌, List, ap, sym, subst}
-use Rattle.mx_memo.specs.declared.slot.Slot.{Slot}
-use Rattle.mx_memo.specs.Places.{slot_at}
-use Rattle.mx_memo.specs.Kept.{IsHeld, kept, sources_at}
-use Rattle.mx_memo.specs.Reading.{LookedUp, keys_in}
+use Rattle.mx_vertices.specs.declared.slot.Slot.{Slot}
+use Rattle.mx_vertices.specs.Places.{slot_at}
+use Rattle.mx_vertices.specs.Kept.{IsHeld, kept, sources_at}
+use Rattle.mx_vertices.specs.Reading.{LookedUp, keys_in}
 use Rattle.mx_memo.specs.Memos.{Memory}
-use Rattle.mx_memo.proofs.Reading.{held_node, held_kept, held_live, node_not_free, ok_map}
+use Rattle.mx_vertices.proofs.Reading.{held_node, held_kept, held_live, node_not_free, ok_map}
 use Rattle.mx_memo.proofs.memo.Memo.keys_of.Goals as goal
 
 pub keys_at-requires : goal.keys_at-requires

@@ -1,13 +1,13 @@
 use Rattle.std.proofs.Common.{◌≡◌, ◌∙◌, List, Option, Some, None, ap, refl, sym, subst, arith, []}
 use Rattle.std.proofs.lemmas.List.{get_or_past}
 use Rattle.mx_graph.specs.declared.ids.NodeId.{NodeId}
-use Rattle.mx_memo.specs.Places.{at, held_in}
+use Rattle.mx_vertices.specs.Places.{at, held_in}
 use Rattle.std.specs.HashMap.{get as look_up}
 use Rattle.std.specs.Map.{lookup}
 use Rattle.mx_value.specs.Equality.{node_eq}
-use Rattle.mx_memo.specs.Found.{AreBegun, AreDistinct}
-use Rattle.mx_memo.proofs.Begun.{none_begun}
-use Rattle.mx_memo.proofs.Keeping.{whole_empty}
+use Rattle.mx_vertices.specs.Found.{AreBegun, AreDistinct}
+use Rattle.mx_vertices.proofs.Begun.{none_begun}
+use Rattle.mx_vertices.proofs.Keeping.{whole_empty}
 use Rattle.mx_memo.proofs.memo.Memo.new.Goals as goal
 
 pub invariant_of-result : goal.invariant_of-result

@@ -1,9 +1,9 @@
 use Rattle.std.proofs.Common.{◌<◌, subst, arith}
-use Rattle.mx_memo.specs.Kept.{IsTouched, Sifts, entries}
+use Rattle.mx_vertices.specs.Kept.{IsTouched, Sifts, entries}
 use Rattle.std.specs.HashMap.{get as look_up}
 use Rattle.mx_value.specs.Equality.{node_eq}
 use Rattle.mx_memo.specs.Memos.{Memory}
-use Rattle.mx_memo.proofs.Begun.{begun_same}
+use Rattle.mx_vertices.proofs.Begun.{begun_same}
 use Rattle.mx_memo.proofs.memo.Memo.roll_back_to.Goals as goal
 
 pub invariant_of-self : goal.invariant_of-self

@@ -1,6 +1,6 @@
 use Rattle.std.proofs.Common.{List, subst}
 use Rattle.mx_graph.specs.declared.ids.NodeId.{NodeId}
-use Rattle.mx_memo.specs.Places.{Has}
+use Rattle.mx_vertices.specs.Places.{Has}
 use Rattle.mx_memo_tests.proofs.tests.Pair.hold.Goals as goal
 
 pub hold-held-requires-clause-asks : goal.hold-held-requires-clause-asks
