@@ -196,6 +196,28 @@ impl Pair {
         self.compare_sources(rt, alloc, id, plain)
     }
 
+    /// A key's readers are the nodes that looked it up, and no other.
+    fn compare_readers(&self, rt: &impl Abort, alloc: Global, k: usize) -> Result<(), Fail> {
+        let looked = key(alloc, k)?;
+        let readers = self
+            .memo
+            .readers_of(alloc, &looked)
+            .ok()
+            .ok_or("no memory")?;
+        let mut count = 0usize;
+        for (n, entry) in self.list.held.iter().enumerate() {
+            if let Some(plain) = entry {
+                if plain.keys.contains(&k) {
+                    count = count.saturating_add(1);
+                    let id = self.memo.find(&node(alloc, n)?).ok_or("not held")?;
+                    assert!(rt; readers.contains(&id));
+                }
+            }
+        }
+        assert_eq!(rt; readers.len(), count);
+        Ok(())
+    }
+
     fn compare(&self, rt: &impl Abort, alloc: Global) -> Result<(), Fail> {
         assert_eq!(rt; self.memo.count(), self.list.count());
         assert_eq!(rt; self.memo.last_stamp(), self.list.last);
@@ -205,6 +227,9 @@ impl Pair {
                 Some(plain) => self.compare_one(rt, alloc, n, plain)?,
                 None => assert!(rt; self.memo.find(&node(alloc, n)?).is_none()),
             }
+        }
+        for k in 0..5 {
+            self.compare_readers(rt, alloc, k)?;
         }
         Ok(())
     }
