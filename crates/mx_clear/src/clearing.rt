@@ -14,6 +14,7 @@ pub fn clear_node(memo: &mut Memo, node: &Node) -> u32
     ensures drops { Sifts (IsTouched (IsToGo (is_one node.now)) memo.old.held) memo.old.held memo.new.held }
     ensures count { result + length memo.new.held ≡ length memo.old.held }
     ensures last { memo.new.last ≡ memo.old.last }
+    ensures begun { memo.new.begun ≡ memo.old.begun }
 {
     memo.drop_where(&One { node })
 }
@@ -23,6 +24,7 @@ pub fn clear_cells(memo: &mut Memo, at: &Addr, name: &Label) -> u32
     ensures drops { Sifts (IsTouched (IsToGo (is_of_cells at.now name.now)) memo.old.held) memo.old.held memo.new.held }
     ensures count { result + length memo.new.held ≡ length memo.old.held }
     ensures last { memo.new.last ≡ memo.old.last }
+    ensures begun { memo.new.begun ≡ memo.old.begun }
 {
     memo.drop_where(&OfCells { at, name })
 }
@@ -33,6 +35,7 @@ pub fn clear_space(memo: &mut Memo, at: &Addr) -> u32
     ensures drops { Sifts (IsTouched (IsToGo (is_in_space at.now)) memo.old.held) memo.old.held memo.new.held }
     ensures count { result + length memo.new.held ≡ length memo.old.held }
     ensures last { memo.new.last ≡ memo.old.last }
+    ensures begun { memo.new.begun ≡ memo.old.begun }
 {
     memo.drop_where(&OfSpace { at })
 }
@@ -42,6 +45,7 @@ pub fn clear_all(memo: &mut Memo) -> u32
     ensures drops { Sifts (IsTouched (IsToGo is_any) memo.old.held) memo.old.held memo.new.held }
     ensures count { result + length memo.new.held ≡ length memo.old.held }
     ensures last { memo.new.last ≡ memo.old.last }
+    ensures begun { memo.new.begun ≡ memo.old.begun }
 {
     memo.drop_where(&Every)
 }
