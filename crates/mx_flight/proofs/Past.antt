@@ -1,5 +1,5 @@
 -- Runs that go on past held nodes, one after the other.
-use Rattle.std.proofs.Common.{◌≡◌, List, [], ◌∷◌, ◌++◌, inl, refl, sym, subst}
+use Rattle.std.proofs.Common.{◌≡◌, List, [], ◌∷◌, ◌++◌, inl, refl, sym}
 use Rattle.std.proofs.lemmas.List.{append-nil}
 use Rattle.mx_value.specs.declared.node.Node.{Node}
 use Rattle.mx_meaning.specs.declared.event.Reply.{Reply}

@@ -1,5 +1,5 @@
 -- What a step does to the run on top.
-use Rattle.std.proofs.Common.{◌≡◌, ℕ, suc, ◌≤◌, ◌<◌, List, [], ◌∷◌, ◌++◌, length, reverse, ◌⊎◌, inl, inr, refl, sym, ◌∙◌, ap, subst, arith}
+use Rattle.std.proofs.Common.{◌≡◌, ℕ, suc, ◌≤◌, ◌<◌, List, [], ◌∷◌, ◌++◌, length, ◌⊎◌, inl, inr, refl, sym, ◌∙◌, ap, subst, arith}
 use Rattle.std.proofs.lemmas.List.{append-nil, append_assoc, length-map}
 use Rattle.mx_value.specs.declared.node.Node.{Node}
 use Rattle.mx_value.specs.declared.fault.FaultKind.{FaultKind}
@@ -13,7 +13,7 @@ use Rattle.mx_meaning.specs.Meaning.{body, Means}
 use Rattle.mx_meaning.specs.Chains.{DoesAsk, Reaches, Itself, HasValue, MeansNothing, IsRing}
 use Rattle.mx_meaning.specs.Held.{Entry, nodes_of, IsMemo}
 use Rattle.mx_meaning.specs.Answers.{IsShallow, DeepChain, AreLost, IsCounted, PastMost}
-use Rattle.mx_flight.specs.Flights.{Suspended, EndsUnasked, Opens, GoesOnAlone, GoesPast, Waits, frame_nodes, AreApart, IsTop, IsDone, IsSettled}
+use Rattle.mx_flight.specs.Flights.{Suspended, EndsUnasked, Opens, GoesPast, Waits, frame_nodes, AreApart, IsTop, IsDone, IsSettled}
 use Rattle.mx_meaning.proofs.Lists.{has_left, onto}
 use Rattle.mx_meaning.proofs.Runs.{asked_by_end}
 use Rattle.mx_meaning.proofs.Meanings.{IsFailure, failure_reached, finished, failure_no_value}

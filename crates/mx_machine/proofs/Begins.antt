@@ -4,7 +4,7 @@ use Rattle.mx_syntax.specs.declared.bind.BindRefusal.{BindRefusal}
 use Rattle.mx_syntax.specs.declared.bind.BindRefusal.TheVariants.{WrongCount as BadCount}
 use Rattle.mx_value.specs.declared.refusal.EvalRefusal.{EvalRefusal}
 use Rattle.mx_value.specs.declared.refusal.EvalRefusal.TheVariants as refusal
-use Rattle.std.proofs.Common.{Bool, true, false, ◌≡◌, ◌+◌, ◌-◌, ◌++◌, ℕ, zero, suc, List, [], ◌∷◌, length, map, Option, Some, None, if◌then◌else◌, refl, sym, ◌∙◌, ap, subst, arith, length-append}
+use Rattle.std.proofs.Common.{Bool, true, false, ◌≡◌, ◌+◌, ◌-◌, ◌++◌, ℕ, List, [], ◌∷◌, length, map, Option, Some, None, if◌then◌else◌, refl, sym, ◌∙◌, ap, subst, arith, length-append}
 use Rattle.std.proofs.lemmas.List.{length-map}
 use Rattle.mx_value.specs.declared.label.Label.{Label}
 use Rattle.mx_value.specs.declared.value.Value.{Value}
@@ -30,7 +30,7 @@ use Rattle.mx_code.specs.Told.{told}
 use Rattle.mx_code_law.specs.Done.{begun, unset as unset_name}
 use Rattle.mx_code_law.specs.Machine.{Does, Home, state}
 use Rattle.mx_code_law.proofs.Formulas.{formula_does}
-use Rattle.mx_flight.specs.Flights.{EndsUnasked, Opens}
+use Rattle.mx_flight.specs.Flights.{EndsUnasked}
 use Rattle.mx_step.specs.Flight.{Flight, all_of, first_locals, unset}
 use Rattle.mx_step.specs.Homes.{address_of, home_of}
 use Rattle.mx_machine.specs.declared.evaluator.Running.{Running}

@@ -11,7 +11,7 @@ use Rattle.mx_meaning.specs.declared.event.Event.{Event}
 use Rattle.mx_meaning.specs.declared.event.Event.TheVariants.{Asked}
 use Rattle.mx_meaning.specs.Runs.{Run, Ends, Gives, Faults, gives}
 use Rattle.mx_meaning.specs.Answers.{PastMost}
-use Rattle.mx_meaning.specs.Held.{Entry, IsMemo, Grown, nodes_of}
+use Rattle.mx_meaning.specs.Held.{Entry, IsMemo, Grown}
 use Rattle.mx_meaning.proofs.Held.{grown_on}
 use Rattle.mx_code.specs.Told.{told}
 use Rattle.mx_code_law.specs.Machine.{Does}

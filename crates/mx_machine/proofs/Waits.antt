@@ -1,5 +1,5 @@
 -- What it brings that the run on top waits for a node that it asks, and that this begins.
-use Rattle.std.proofs.Common.{◌≡◌, ℕ, suc, ◌+◌, ◌≤◌, ◌<◌, List, [], ◌∷◌, ◌++◌, Result, Ok, Err, length, map, reverse, take, drop, get_or, refl, sym, ◌∙◌, ap, subst, arith, length-append}
+use Rattle.std.proofs.Common.{◌≡◌, ℕ, ◌+◌, ◌≤◌, ◌<◌, List, [], ◌∷◌, ◌++◌, Result, Err, length, map, reverse, take, drop, get_or, refl, sym, ◌∙◌, ap, subst, arith, length-append}
 use Rattle.std.proofs.lemmas.List.{length-reverse, drop_more, take-append-drop}
 use Rattle.mx_value.specs.declared.node.Node.{Node}
 use Rattle.mx_value.specs.declared.refusal.EvalRefusal.{EvalRefusal}
@@ -10,18 +10,13 @@ use Rattle.mx_meaning.specs.Chains.{IsRing}
 use Rattle.mx_meaning.specs.Runs.{Run, Asks, NoSuch, WrongCount}
 use Rattle.mx_meaning.specs.Held.{Entry, IsMemo, nodes_of}
 use Rattle.mx_meaning.proofs.Lists.{map_reverse, onto, onto_reversed}
-use Rattle.mx_code.specs.Told.{told}
-use Rattle.mx_code_law.specs.Machine.{Does}
-use Rattle.mx_flight.specs.Flights.{AreApart, EndsUnasked, IsTop, Suspended, Waits, frame_nodes}
+use Rattle.mx_flight.specs.Flights.{AreApart, IsTop, Suspended, Waits, frame_nodes}
 use Rattle.mx_flight.proofs.Tops.{begun_top, deep_top, ring_top, unasked_top, waits_top}
 use Rattle.mx_step.specs.declared.stack.Place.{Place}
 use Rattle.mx_step.specs.Flight.{Below, Flight, all_of}
-use Rattle.mx_step.specs.Homes.{home_of}
 use Rattle.mx_machine.specs.declared.evaluator.Evaluator.{Evaluator}
 use Rattle.mx_machine.specs.declared.evaluator.Running.{Running}
-use Rattle.mx_machine.specs.declared.evaluator.Progress.{Progress}
-use Rattle.mx_machine.specs.declared.evaluator.Progress.TheVariants.{Going}
-use Rattle.mx_machine.specs.Frames.{AreCounted, Awaits, Evaluation, Flew, Flies, HasEnded, Over, Resumes, Stand, StandsFor, Waited, Waiter, part_at}
+use Rattle.mx_machine.specs.Frames.{AreCounted, Awaits, Evaluation, Flies, HasEnded, Over, Resumes, Stand, StandsFor, Waited, Waiter, part_at}
 use Rattle.mx_machine.specs.Begun.{Begins, HasBegun}
 use Rattle.mx_machine.proofs.Places.{has_at, has_reverse, has_reversed, map_drop, popped}
 use Rattle.mx_machine.proofs.Maps.{off_reversed}

@@ -1,5 +1,5 @@
 -- Calls, by the values that they take from the stack.
-use Rattle.std.proofs.Common.{◌≡◌, ◌∙◌, ◌+◌, ℕ, List, [], ◌∷◌, Some, sym, ap}
+use Rattle.std.proofs.Common.{◌≡◌, ◌∙◌, ◌+◌, ℕ, List, ◌∷◌, Some, sym, ap}
 use Rattle.mx_value.specs.declared.label.Label.{Label}
 use Rattle.mx_value.specs.declared.value.Value.{Value, out-Value}
 use Rattle.mx_meaning.specs.Expressions.{cells_in}

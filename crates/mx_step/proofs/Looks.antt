@@ -1,5 +1,5 @@
 -- Look-ups on the way from an instruction to what comes of it.
-use Rattle.std.proofs.Common.{◌≡◌, Bool, true, false, ℕ, List, [], ◌∷◌, ◌++◌, Option, Some, None, Result, Ok, Err, IfOk, refl, sym, ap, ◌∙◌, subst}
+use Rattle.std.proofs.Common.{◌≡◌, true, false, ℕ, List, [], ◌∷◌, ◌++◌, Option, Some, None, Result, Ok, Err, IfOk, refl, sym, ap, ◌∙◌, subst}
 use Rattle.std.specs.Prelude.{slice_get}
 use Rattle.std.specs.declared.alloc.AllocError.{AllocError}
 use Rattle.std.proofs.lemmas.List.{append-nil, append_assoc}
@@ -13,10 +13,9 @@ use Rattle.mx_meaning.specs.declared.key.Key.TheVariants as key
 use Rattle.mx_meaning.specs.declared.key.Key.{Key}
 use Rattle.mx_meaning.specs.declared.event.Event.{Event}
 use Rattle.mx_meaning.specs.declared.event.Event.TheVariants.{Looked}
-use Rattle.mx_meaning.specs.declared.event.Reply.{Reply}
 use Rattle.mx_meaning.specs.Model.{Text, KeyResult, key_result, formula_at, cells_here, formula_here}
 use Rattle.mx_meaning.specs.Expressions.{path_of}
-use Rattle.mx_meaning.specs.Runs.{Run, Looks}
+use Rattle.mx_meaning.specs.Runs.{Run}
 use Rattle.mx_meaning.specs.Chains.{asks_of}
 use Rattle.mx_meaning.specs.Meaning.{Leads}
 use Rattle.mx_meaning.proofs.Levels.{leads_append}

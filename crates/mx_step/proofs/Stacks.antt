@@ -1,10 +1,10 @@
 -- What the vectors of a stack say of the runs on it.
-use Rattle.std.proofs.Common.{◌≡◌, ◌∙◌, ◌≤◌, ◌<◌, ◌+◌, ◌-◌, ℕ, zero, suc, List, [], ◌∷◌, ◌++◌, Option, Some, None, take, drop, length, reverse, min, refl, sym, ap, subst, arith, append_assoc}
-use Rattle.std.specs.Prelude.{slice_get, slice_set}
-use Rattle.std.proofs.lemmas.List.{take-append-le, drop-append-le, drop-set-lt, drop-set-add, take-set-le, reverse-append, reverse-reverse, take-append-drop, length-drop, length-take, length-reverse, append-nil}
+use Rattle.std.proofs.Common.{◌≡◌, ◌∙◌, ◌≤◌, ◌+◌, ◌-◌, ℕ, zero, suc, List, [], ◌∷◌, ◌++◌, Option, Some, None, take, drop, length, reverse, min, refl, sym, ap, arith, append_assoc}
+use Rattle.std.specs.Prelude.{slice_set}
+use Rattle.std.proofs.lemmas.List.{take-append-le, drop-append-le, drop-set-add, take-set-le, reverse-append, reverse-reverse, take-append-drop, length-drop, length-take, length-reverse, append-nil}
 use Rattle.mx_value.specs.declared.value.Value.{Value}
-use Rattle.mx_code_law.specs.Machine.{State, state, Next, on_many}
-use Rattle.mx_step.specs.Flight.{Below, Flight, Takes, all_of, first_locals, on_top, part_of, unset, with_local, with_value}
+use Rattle.mx_code_law.specs.Machine.{state, Next, on_many}
+use Rattle.mx_step.specs.Flight.{Below, all_of, on_top, part_of, unset, with_local, with_value}
 
 abbrev all : List Value → List (Option Value) → Below
 all vs ls = record { values = vs; locals = ls }

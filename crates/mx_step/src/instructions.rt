@@ -1,9 +1,9 @@
 //! The instructions that need no look-up.
 ghost use Rattle.std.specs.Prelude.{◌≡◌, ◌+◌, ◌∷◌, ℕ, get_or, IfOk, OnOk};
 ghost use Rattle.mx_value.specs.declared.value.Value.TheVariants.{Nothing};
-ghost use Rattle.mx_meaning.specs.Operators.{added, compared, denied_truth, multiplied, truth, with_sign};
+ghost use Rattle.mx_meaning.specs.Operators.{truth};
 ghost use Rattle.mx_code.specs.declared.action.Action.TheVariants as act;
-ghost use Rattle.mx_code_law.specs.Machine.{Home, State, computed_next, flag_next, next_of, state, tested_next};
+ghost use Rattle.mx_code_law.specs.Machine.{Home, computed_next, next_of, state};
 ghost use Rattle.mx_step.specs.Flight.{at_past, on_top, with_value};
 ghost use Rattle.mx_step.specs.Came.{decision, read_as};
 

@@ -1,5 +1,5 @@
 //! Where a formula runs.
-ghost use Rattle.std.specs.Prelude.{◌≡◌, IfOk};
+ghost use Rattle.std.specs.Prelude.{◌≡◌};
 ghost use Rattle.mx_step.specs.Homes.{address_of};
 
 use mx_code::code::Code;

@@ -1,6 +1,5 @@
-use Rattle.std.proofs.Common.{◌≡◌, ◌∙◌, List, [], false, length, refl, sym, ap}
+use Rattle.std.proofs.Common.{◌≡◌, ◌∙◌, List, [], false, length, sym, ap}
 use Rattle.mx_value.specs.declared.value.Value.{Value}
-use Rattle.mx_syntax.specs.declared.stmt.Param.{Param}
 use Rattle.mx_syntax.specs.declared.stmt.Formula.{Formula}
 use Rattle.mx_syntax.specs.Binding.{bound, is_wrong_count}
 use Rattle.mx_code_law.specs.Machine.{state}

@@ -1,9 +1,7 @@
-use Rattle.std.proofs.Common.{◌≡◌, ◌∙◌, Err, Some, None, List, ◌∷◌, [], length, true, false, refl, sym, ap, subst, rules, arith}
+use Rattle.std.proofs.Common.{◌≡◌, ◌∙◌, Err, Some, None, ◌∷◌, [], false, refl, sym, ap, subst, rules, arith}
 use Rattle.std.proofs.lemmas.Grind.{common_steps}
 use Rattle.mx_value.specs.declared.node.Node.{Node}
 use Rattle.mx_value.specs.declared.node.Node.TheVariants.{Cell, Item}
-use Rattle.mx_syntax.specs.Binding.{is_wrong_count}
-use Rattle.mx_meaning.specs.declared.event.Event.{Event}
 use Rattle.mx_meaning.specs.declared.event.Event.TheVariants.{Looked}
 use Rattle.mx_meaning.specs.declared.key.Key.TheVariants as key
 use Rattle.mx_meaning.specs.Model.{formula_at}
@@ -12,7 +10,7 @@ use Rattle.mx_meaning.specs.Expressions.{path_of}
 use Rattle.mx_flight.specs.Flights.{EndsUnasked}
 use Rattle.mx_machine.specs.declared.evaluator.Running.{Running}
 use Rattle.mx_machine.specs.Begun.{HasBegun}
-use Rattle.mx_machine.proofs.Begins.{bad_count, begins, item_ends, no_formula, no_path, not_entered}
+use Rattle.mx_machine.proofs.Begins.{bad_count, begins, item_ends, no_formula, not_entered}
 use Rattle.mx_machine.proofs.begin.open.Goals as goal
 
 pub returns-in_default : goal.returns-in_default

@@ -1,8 +1,6 @@
-use Rattle.std.proofs.Common.{◌≡◌, ◌∙◌, List, Ok, Some, ap, sym, subst, refl}
+use Rattle.std.proofs.Common.{◌≡◌, ◌∙◌, List, ap, sym, subst}
 use Rattle.mx_meaning.specs.declared.event.Event.{Event}
-use Rattle.mx_meaning.specs.Runs.{Run}
 use Rattle.mx_code.specs.Told.{told}
-use Rattle.mx_code_law.specs.Machine.{Does}
 use Rattle.mx_step.specs.declared.reached.Stop.{Stop}
 use Rattle.mx_step.specs.declared.reached.Stop.TheVariants as stop
 use Rattle.mx_step.specs.Homes.{home_of}

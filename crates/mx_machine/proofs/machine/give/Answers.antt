@@ -1,4 +1,4 @@
-use Rattle.std.proofs.Common.{◌≡◌, ◌∙◌, ◌≤◌, ◌<◌, List, Err, [], ◌∷◌, ◌++◌, length, inl, refl, sym, ap, subst, rules, arith}
+use Rattle.std.proofs.Common.{◌≡◌, ◌∙◌, List, Err, [], ◌∷◌, ◌++◌, inl, refl, sym, ap, subst, rules, arith}
 use Rattle.std.proofs.lemmas.Grind.{common_steps}
 use Rattle.indexmap.specs.IndexMap.{insert_entry}
 use Rattle.mx_value.specs.declared.node.Node.{Node}
@@ -8,8 +8,8 @@ use Rattle.mx_meaning.specs.declared.event.Reply.{Reply}
 use Rattle.mx_meaning.specs.declared.kept.Kept.{Kept}
 use Rattle.mx_meaning.specs.Held.{Entry, nodes_of}
 use Rattle.mx_meaning.specs.Lists.{Has}
-use Rattle.mx_meaning.specs.Runs.{Ends, Gives, gives}
-use Rattle.mx_machine.specs.Frames.{HasEnded, IsHeld, Over}
+use Rattle.mx_meaning.specs.Runs.{Ends, Gives}
+use Rattle.mx_machine.specs.Frames.{HasEnded, Over}
 use Rattle.mx_machine.proofs.Flown.{flew_broken, flew_full, flew_held, over_broken}
 use Rattle.mx_machine.proofs.Maps.{pushed_entry}
 use Rattle.mx_machine.proofs.machine.give.Goals as goal

@@ -1,7 +1,6 @@
-use Rattle.std.proofs.Common.{◌≡◌, ◌∙◌, true, false, Err, [], ◌∷◌, ◌++◌, refl, sym, ap, rules, arith}
+use Rattle.std.proofs.Common.{◌≡◌, ◌∙◌, true, false, Err, refl, ap, rules, arith}
 use Rattle.std.proofs.lemmas.Grind.{common_steps}
 use Rattle.mx_value.specs.declared.refusal.EvalRefusal.TheVariants as refusal
-use Rattle.mx_meaning.specs.declared.event.Event.TheVariants.{Asked}
 use Rattle.mx_meaning.specs.declared.event.Reply.{Reply}
 use Rattle.mx_machine.specs.Frames.{Waiter}
 use Rattle.mx_machine.proofs.Flown.{emptied, flew_broken, flew_done, flew_on, held_broken}

@@ -1,4 +1,4 @@
-use Rattle.std.proofs.Common.{◌≡◌, ◌∙◌, ℕ, List, Err, refl, sym, ap, subst, rules, arith}
+use Rattle.std.proofs.Common.{◌≡◌, ◌∙◌, ℕ, Err, refl, sym, subst, rules, arith}
 use Rattle.std.proofs.lemmas.Grind.{common_steps}
 use Rattle.std.specs.Prelude.{Result}
 use Rattle.mx_value.specs.declared.node.Node.{Node}
@@ -16,7 +16,7 @@ use Rattle.mx_machine.specs.declared.evaluator.Evaluator.{Evaluator}
 use Rattle.mx_machine.specs.declared.evaluator.Progress.{Progress}
 use Rattle.mx_machine.specs.declared.evaluator.Running.{Running}
 use Rattle.mx_value.specs.declared.refusal.EvalRefusal.{EvalRefusal}
-use Rattle.mx_machine.specs.Frames.{Evaluation, Flew, Flies, HasEnded, IsNew, Over, PassesTo, Waited, evaluation}
+use Rattle.mx_machine.specs.Frames.{Evaluation, Flew, HasEnded, IsNew, Over, PassesTo, evaluation}
 use Rattle.mx_machine.proofs.Flown.{flew_broken, flew_fault, over_broken, over_past}
 use Rattle.mx_machine.proofs.Waits.{begun_flies, not_begun}
 use Rattle.mx_machine.proofs.machine.step.Goals as goal

@@ -1,4 +1,4 @@
-use Rattle.std.proofs.Common.{◌≡◌, ◌∙◌, Option, Some, None, ap, sym, subst}
+use Rattle.std.proofs.Common.{Option, Some, ap, sym, subst}
 use Rattle.std.proofs.lemmas.Result.{IfOk-weaker}
 use Rattle.mx_value.specs.declared.value.Value.{Value, out-Value}
 use Rattle.mx_value.specs.declared.value.CellsAt.{CellsAt}
@@ -7,7 +7,7 @@ use Rattle.mx_meaning.specs.Expressions.{cells_in}
 use Rattle.mx_code_law.specs.Machine.{Fault, Home, State, call_next}
 use Rattle.mx_step.specs.declared.reached.Reached.{Reached}
 use Rattle.mx_step.specs.Flight.{with_value}
-use Rattle.mx_step.specs.Came.{Comes, cells_at, read_as}
+use Rattle.mx_step.specs.Came.{Comes, read_as}
 use Rattle.mx_step.proofs.Looks.{comes_still}
 use Rattle.mx_step.proofs.calls.call_value.Goals as goal
 

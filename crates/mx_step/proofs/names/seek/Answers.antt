@@ -1,4 +1,4 @@
-use Rattle.std.proofs.Common.{◌≡◌, Some, None, sym}
+use Rattle.std.proofs.Common.{◌≡◌, None, sym}
 use Rattle.mx_meaning.specs.Model.{formula_at}
 use Rattle.mx_step.specs.Homes.{home_of}
 use Rattle.mx_step.proofs.Looks.{seeks_cells, seeks_nothing}

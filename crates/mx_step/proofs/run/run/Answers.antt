@@ -1,10 +1,10 @@
-use Rattle.std.proofs.Common.{◌≡◌, ◌∙◌, List, Some, ap, sym, subst}
+use Rattle.std.proofs.Common.{◌≡◌, ◌∙◌, List, Some, ap, subst}
 use Rattle.std.specs.Prelude.{slice_get}
 use Rattle.mx_value.specs.declared.fault.FaultKind.TheVariants.{NoneReturned}
 use Rattle.mx_code.specs.declared.action.Instr.{Instr}
 use Rattle.mx_code.specs.Expressions.{at}
 use Rattle.mx_code.specs.Told.{told, told_op}
-use Rattle.mx_code_law.specs.Machine.{Home, On}
+use Rattle.mx_code_law.specs.Machine.{Home}
 use Rattle.mx_step.specs.declared.reached.Reached.{Reached}
 use Rattle.mx_step.specs.declared.reached.Stop.TheVariants as stop
 use Rattle.mx_step.specs.Homes.{home_of}
