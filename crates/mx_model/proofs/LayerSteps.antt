@@ -38,7 +38,7 @@ stopped f xs i d orders why h e a =
     subst P (split_at xs i d h) (blocked f (take i xs) (drop (i + 1) xs) (get_or xs i d) orders why e a)
 
 -- one child more, where the space has one
-pub child_more : (f : SpaceId → Option SpaceId) (xs : List SpaceId) (i : ℕ) (d : SpaceId) (child : Option SpaceId) → i < length xs → child ≡ f (get_or xs i d) → filter_map f (take (i + 1) xs) ≡ filter_map f (take i xs) ++ cons_option child []
+pub child_more : {X : Type 0} (f : X → Option SpaceId) (xs : List X) (i : ℕ) (d : X) (child : Option SpaceId) → i < length xs → child ≡ f (get_or xs i d) → filter_map f (take (i + 1) xs) ≡ filter_map f (take i xs) ++ cons_option child []
 child_more f xs i d child h e =
     ap (filter_map f) (take_more xs i d h) ∙ filter_map-append f (take i xs) (get_or xs i d ∷ []) ∙ ap (λ o. filter_map f (take i xs) ++ cons_option o []) (sym e)
 

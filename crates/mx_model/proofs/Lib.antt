@@ -1,8 +1,13 @@
 mod Changes
+pub mod Defined
 pub mod Filtered
+pub mod KindLemmas
 pub mod LayerSteps
 pub mod LookupLemmas
 pub mod MemberLemmas
+pub mod NameLemmas
+pub mod NewSpaces
 pub mod Places
 mod SmallModels
 pub mod SoundLemmas
+pub mod SpaceLemmas

@@ -8,14 +8,13 @@ use Rattle.mx_value.specs.Name.{same_name}
 use Rattle.mx_c3.specs.declared.space.SpaceId.{SpaceId}
 use Rattle.mx_c3.specs.InOrder.{AllBelow}
 use Rattle.mx_c3.proofs.ListLemmas.{drop_more}
-use Rattle.mx_syntax.specs.declared.stmt.Formula.{Formula}
 use Rattle.mx_edit.specs.declared.reference.RefValue.{RefValue}
-use Rattle.mx_model.specs.declared.lookup.Kind.{Kind}
-use Rattle.mx_model.specs.declared.lookup.Kind.TheVariants as kind
+use Rattle.mx_model.specs.declared.kind.Kind.{Kind}
+use Rattle.mx_model.specs.declared.kind.Kind.TheVariants as kind
 use Rattle.mx_model.specs.declared.layers.Layered.{Layered}
 use Rattle.mx_model.specs.declared.layers.Layered.TheVariants.{Layers, NotStatic}
 use Rattle.mx_model.specs.Records.{Name, Path, CellsRecord, SpaceRecord, ModelRecord}
-use Rattle.mx_model.specs.Layers.{id_of, space_of, child_of, layers}
+use Rattle.mx_model.specs.Layers.{id_of, space_of, layers}
 use Rattle.mx_model.specs.Binding.{Member, Cells, Reference, Child, or_child, or_other, own_member, first_with}
 use Rattle.mx_model.specs.Lookup.{kind_of, member_in, kind_in, IsBoundAt, IsBinding, bound_as}
 use Rattle.mx_model.specs.Readers.{cells_of, formula_in, allows_in, or_false, reference_in, path_in}

@@ -1,11 +1,14 @@
 -- The words on members are those that `IndexMap` speaks of, and the ids of spaces are the places of their paths.
-use Rattle.std.proofs.Common.{◌≡◌, ◌∙◌, ℕ, if◌then◌else◌, List, [], ◌∷◌, Option, map, length, ◌<◌, ◌^◌, refl, sym, subst, ap}
+use Rattle.std.proofs.Common.{◌≡◌, ◌∙◌, ℕ, if◌then◌else◌, List, [], ◌∷◌, Option, map, inl, inr, refl, subst, ap, lit<}
 use Rattle.std.specs.Prelude.{position, option_map}
 use Rattle.indexmap.specs.IndexMap.{shift_remove_entry}
 use Rattle.mx_value.specs.Name.{same_name, same_path}
 use Rattle.mx_c3.specs.declared.space.SpaceId.{SpaceId}
-use Rattle.mx_model.specs.Records.{Path, SpaceRecord, ModelRecord}
-use Rattle.mx_model.specs.Layers.{base_lists}
+use Rattle.mx_model.specs.Records.{Path, SpaceRecord, beginning}
+use Rattle.mx_model.specs.Parents.{HasParent}
+use Rattle.mx_c3.specs.Lists.{Has}
+use Rattle.mx_model.specs.Layers.{paths_of}
+use Rattle.mx_model.specs.Paths.{split_last}
 use Rattle.mx_model.specs.Indexed.{IsIndexed}
 use Rattle.mx_model.specs.Change.{without}
 
@@ -19,13 +22,15 @@ made n = record { 0 = n }
 pub id_found : (spaces : List SpaceRecord) (keys : List Path) (path : Path) (place : Option ℕ) → place ≡ position (same_path path) keys → keys ≡ map (λ (s : SpaceRecord). s.path) spaces → option_map made place ≡ option_map made (position (same_path path) (map (λ (s : SpaceRecord). s.path) spaces))
 id_found spaces keys path place is same = ap (option_map made) (is ∙ ap (position (same_path path)) same)
 
--- the bases of each of these spaces by its place
-abbrev lists_of : List SpaceRecord → List (List SpaceId)
-lists_of spaces = base_lists (record { spaces = spaces; globals = []; inputs = []; tables = [] })
+main_parent : (path : Path) → Has (paths_of beginning) path → HasParent beginning (split_last path)
+main_parent path h =
+    let P : Path → Type 0 = λ p. HasParent beginning (split_last p) in
+    elim h [ inl e ↦ subst P e (inl refl) | inr f ↦ absurd f ]
 
-pub same_index : (keys keys' : List Path) (lists lists' : List (List SpaceId)) (text text' : ModelRecord) → keys' ≡ keys → lists' ≡ lists → text'.spaces ≡ text.spaces → IsIndexed keys lists text → IsIndexed keys' lists' text'
-same_index keys keys' lists lists' text text' k l s x = record {
-  paths = k ∙ x.paths ∙ sym (ap (map (λ (s : SpaceRecord). s.path)) s);
-  bases = l ∙ x.bases ∙ sym (ap lists_of s);
-  few = subst (λ (spaces : List SpaceRecord). length spaces < 2 ^ 32) (sym s) x.few;
+-- what stands beside a new text
+pub begin_index : IsIndexed (paths_of beginning) ([] ∷ []) ([] ∷ []) beginning
+begin_index = record {
+  paths = refl;
+  bases = refl;
+  placed = record { once = (λ h. h, tt); kinds = (λ name. refl, tt); parents = main_parent; few = lit< tt };
 }

@@ -22,7 +22,8 @@ use Rattle.mx_model.specs.Rings.{IsDefined}
 use Rattle.mx_edit.specs.declared.refusal.EditRefusal.TheVariants as refusal
 use Rattle.mx_edit.specs.declared.refusal.Limit.TheVariants as limit
 use Rattle.mx_model.specs.Walk.{MeetsNothing, layers_trouble}
-use Rattle.mx_model.specs.Valid.{Valid, HasParent, names_of}
+use Rattle.mx_model.specs.Parents.{HasParent}
+use Rattle.mx_model.specs.Valid.{Valid, names_of}
 use Rattle.mx_model.specs.Sound.{IsSound, AreSpaces, HasSpaces, ValidIsSound, ChildrenAreDistinct, LayersAreSpaces, ValidHasOrders}
 use Rattle.mx_model.proofs.Filtered.{IsTold, distinct_map, distinct_left, distinct_filter, has_filter, one_place}
 use Rattle.mx_model.proofs.Places.{bases_sound, defined_space, id_within, one_path}

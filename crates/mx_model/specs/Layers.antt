@@ -14,15 +14,21 @@ use Rattle.mx_model.specs.Records.{Name, Path, SpaceRecord, ModelRecord}
 abbrev pub paths_of : ModelRecord → List Path
 paths_of text = map (λ (s : SpaceRecord). s.path) text.spaces
 
+abbrev pub id_in : List Path → Path → Option SpaceId
+id_in paths path = option_map (λ n. record { 0 = n }) (position (same_path path) paths)
+
 abbrev pub id_of : ModelRecord → Path → Option SpaceId
-id_of text path = option_map (λ n. record { 0 = n }) (position (same_path path) (paths_of text))
+id_of text path = id_in (paths_of text) path
 
 abbrev pub space_of : ModelRecord → SpaceId → Option SpaceRecord
 space_of text s = slice_get text.spaces s.0
 
 -- the bases of each space, by its place
+abbrev pub lists_in : List Path → List SpaceRecord → List (List SpaceId)
+lists_in paths spaces = map (λ (s : SpaceRecord). filter_map (id_in paths) s.bases) spaces
+
 abbrev pub base_lists : ModelRecord → List (List SpaceId)
-base_lists text = map (λ (s : SpaceRecord). filter_map (id_of text) s.bases) text.spaces
+base_lists text = lists_in (paths_of text) text.spaces
 
 -- the defined child of a space
 abbrev pub child_of : ModelRecord → Name → SpaceId → Option SpaceId

@@ -5,10 +5,12 @@ pub mod Counts
 pub mod Displays
 pub mod Indexed
 pub mod Inputs
+pub mod Kept
 pub mod Keys
 pub mod Laws
 pub mod Layers
 pub mod Lookup
+pub mod Parents
 pub mod Paths
 pub mod Readers
 pub mod Records

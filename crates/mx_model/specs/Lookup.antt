@@ -3,8 +3,8 @@ use Rattle.std.specs.Prelude.{◌≡◌, ◌<◌, length, Option, Some, None, op
 use Rattle.mx_c3.specs.declared.space.SpaceId.{SpaceId}
 use Rattle.mx_model.specs.declared.lookup.Binding.{Binding}
 use Rattle.mx_model.specs.declared.lookup.Binding.TheVariants as bound
-use Rattle.mx_model.specs.declared.lookup.Kind.{Kind}
-use Rattle.mx_model.specs.declared.lookup.Kind.TheVariants as kind
+use Rattle.mx_model.specs.declared.kind.Kind.{Kind}
+use Rattle.mx_model.specs.declared.kind.Kind.TheVariants as kind
 use Rattle.mx_model.specs.Records.{Name, ModelRecord}
 use Rattle.mx_model.specs.Layers.{space_of}
 use Rattle.mx_model.specs.Binding.{Member, Cells, Reference, Child, own_member}

@@ -5,7 +5,7 @@ use Rattle.mx_value.specs.Name.{same_path}
 use Rattle.mx_model.specs.Records.{Name, Path, SpaceRecord, ModelRecord}
 use Rattle.mx_model.specs.Layers.{id_of, space_of}
 
-abbrev prepended : Name → Option (Path × Name) → Option (Path × Name)
+abbrev pub prepended : Name → Option (Path × Name) → Option (Path × Name)
 prepended first None = Some ([], first)
 prepended first (Some (parent, last)) = Some (first ∷ parent, last)
 

@@ -1,5 +1,5 @@
 -- Valid model texts.
-use Rattle.std.specs.Prelude.{◌≡◌, ◌≤◌, ◌⊎◌, ◌++◌, List, [], Option, Some, None, IsTrue, map, false}
+use Rattle.std.specs.Prelude.{◌≡◌, ◌≤◌, ◌++◌, List, [], IsTrue, map, false, None}
 use Rattle.mx_value.specs.Normal.{normal_of}
 use Rattle.mx_value.specs.Size.{size_of}
 use Rattle.mx_value.specs.declared.value.Value.{Value}
@@ -10,6 +10,7 @@ use Rattle.mx_edit.specs.declared.reference.RefValue.TheVariants as ref
 use Rattle.mx_c3.specs.Lists.{Has, Distinct}
 use Rattle.mx_model.specs.Records.{Name, Path, SpaceRecord, ModelRecord}
 use Rattle.mx_model.specs.Paths.{split_last, child_names}
+use Rattle.mx_model.specs.Parents.{HasParent}
 use Rattle.mx_model.specs.Rings.{IsDefined, HasNoRing}
 use Rattle.mx_model.specs.Walk.{MeetsNothing}
 use Rattle.mx_model.specs.Counts.{over}
@@ -18,11 +19,6 @@ use Rattle.mx_model.specs.Refused.{is_unfit, is_nothing, is_target}
 
 abbrev pub names_of : {X : Type 0} → List (Name × X) → List Name
 names_of members = map (λ m. m.0) members
-
--- a space stands at the top or below a defined one
-abbrev pub HasParent : ModelRecord → Option (Path × Name) → Type 0
-HasParent text None = ⊥
-HasParent text (Some (parent, name)) = (parent ≡ []) ⊎ IsDefined text parent
 
 -- the names of the members of one space are distinct, and so are those of the spaces at the top and of the model's references
 pub record NamesAreDistinct (text : ModelRecord) : Type 0 where

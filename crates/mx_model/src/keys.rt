@@ -3,7 +3,7 @@ ghost use Rattle.std.specs.Prelude.{◌≡◌, ◌<◌, length, Some, IfOk, if�
 ghost use Rattle.std.specs.Map.{lookup as held};
 ghost use Rattle.mx_value.specs.Name.{same_name};
 ghost use Rattle.mx_edit.specs.declared.key.KeyResult.TheVariants as found;
-ghost use Rattle.mx_model.specs.declared.lookup.Kind.TheVariants as kind;
+ghost use Rattle.mx_model.specs.declared.kind.Kind.TheVariants as kind;
 ghost use Rattle.mx_model.specs.Layers.{is_static};
 ghost use Rattle.mx_c3.specs.InOrder.{AllBelow};
 ghost use Rattle.mx_model.specs.Records.{SpaceRecord};
@@ -83,24 +83,18 @@ fn name_at(
     ensures { IfOk result (λ found. found ≡ bound_to (binding text.now path.now name.now)) }
 {
     match text.layers(alloc, path)? {
-        Some(layers) => return name_in(alloc, text, &layers, name),
+        Some(layers) => return name_in(text, &layers, name),
         None => return Ok(KeyResult::Missing),
     }
 }
 
 /// What layers bind a name to.
-fn name_in(
-    alloc: Global,
-    text: &ModelText,
-    layers: &Order,
-    name: &Label,
-) -> Result<KeyResult, AllocError>
+fn name_in(text: &ModelText, layers: &Order, name: &Label) -> Result<KeyResult, AllocError>
     requires { AllBelow (length text.now.spaces) layers.now }
     ensures { let member = first_with text.now (own_member text.now name.now) layers.now in
         IfOk result (λ found. found ≡ bound_to member) }
 {
-    let found = lookup(alloc, text, layers, name)?;
-    match found {
+    match lookup(text, layers, name) {
         Binding::CellsHere { owner: _ } => return Ok(KeyResult::CellsHere),
         Binding::Child => return Ok(KeyResult::Child),
         Binding::Ref { owner } => return reference_of(text, owner, name),
@@ -133,24 +127,18 @@ fn formula_at(
     ensures { IfOk result (λ found. found ≡ formula_of (binding text.now path.now name.now)) }
 {
     match text.layers(alloc, path)? {
-        Some(layers) => return formula_in(alloc, text, &layers, name),
+        Some(layers) => return formula_in(text, &layers, name),
         None => return Ok(KeyResult::Missing),
     }
 }
 
 /// The cells that layers bind to a name.
-fn formula_in(
-    alloc: Global,
-    text: &ModelText,
-    layers: &Order,
-    name: &Label,
-) -> Result<KeyResult, AllocError>
+fn formula_in(text: &ModelText, layers: &Order, name: &Label) -> Result<KeyResult, AllocError>
     requires { AllBelow (length text.now.spaces) layers.now }
     ensures { let member = first_with text.now (own_member text.now name.now) layers.now in
         IfOk result (λ found. found ≡ formula_of member) }
 {
-    let found = lookup(alloc, text, layers, name)?;
-    match found {
+    match lookup(text, layers, name) {
         Binding::CellsHere { owner } => return cells_of(text, owner, name),
         Binding::Child => return Ok(KeyResult::Missing),
         Binding::Ref { owner: _ } => return Ok(KeyResult::Missing),
@@ -193,7 +181,7 @@ fn params_in(text: &ModelText, layers: &Order) -> Result<KeyResult, AllocError>
         IfOk result (λ found. found ≡ params_of params) }
 {
     match first_params(text, layers) {
-        Some(params) => Ok(KeyResult::Params(copy_params(params)?)),
+        Some(params) => Ok(KeyResult::Params(copy_params(params.params())?)),
         None => Ok(KeyResult::Missing),
     }
 }

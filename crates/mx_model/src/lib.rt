@@ -2,9 +2,11 @@
 #![tactic(auto)]
 
 pub mod keys;
+pub mod kind;
 pub mod laws;
 pub mod layers;
-mod lookup;
+pub mod lookup;
 mod members;
+mod parts;
 mod space;
 pub mod text;

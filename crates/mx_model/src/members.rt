@@ -1,5 +1,5 @@
 //! Members by name, in order of first definition.
-ghost use Rattle.std.specs.Prelude.{◌≡◌, [], length, OnOk, OnErr, option_copied};
+ghost use Rattle.std.specs.Prelude.{◌≡◌, [], length, IfOk, None, OnOk, OnErr, option_copied};
 ghost use Rattle.std.specs.Map.{lookup};
 ghost use Rattle.mx_value.specs.Name.{same_name};
 ghost use Rattle.mx_model.specs.Change.{define, without};
@@ -9,6 +9,13 @@ use indexmap::IndexMap;
 use mx_value::label::Label;
 use std::alloc::{AllocError, Global};
 use std::marker::Model;
+
+/// What is copied at once: a copy shares what it is made of.
+pub trait Share: Drop {
+    /// An equal value.
+    fn share(&self) -> Result<Self, AllocError>
+        ensures { IfOk result (λ c. c ≡ self.now) };
+}
 
 /// Members by name. One that is defined again keeps its place, and a removal keeps the order of the others.
 #[derive(Drop)]
@@ -33,6 +40,22 @@ impl<X> Members<X> {
         }
     }
 
+    /// The same members.
+    pub fn copy(&self, alloc: Global) -> Result<Members<X>, AllocError>
+    where
+        X: Share,
+        ensures { IfOk result (λ m. m ≡ self.now) }
+    {
+        let mut map = IndexMap::with_capacity(alloc, self.map.len())?;
+        for place in 0..self.map.len() {
+            let Some((name, member)) = self.map.get_index(place) else {
+                unreachable!()
+            };
+            map.insert(name.copy()?, member.share()?)?;
+        }
+        Ok(Members { map })
+    }
+
     /// Defines a member, or puts another one in its place.
     pub fn define(&mut self, name: Label, member: X) -> Result<(), AllocError>
     where
@@ -54,7 +77,8 @@ impl<X> Members<X> {
     pub fn remove(&mut self, name: &Label)
     where
         X: Drop,
-        ensures { self.new ≡ without same_name self.old name.now }
+        ensures rest { self.new ≡ without same_name self.old name.now }
+        ensures gone { lookup (same_name name.now) self.new ≡ None }
     {
         self.map.shift_remove(name);
     }

@@ -1,23 +1,24 @@
 //! A defined space of a text.
-ghost use Rattle.std.specs.Prelude.{◌≡◌, option_copied, option_map};
+ghost use Rattle.std.specs.Prelude.{◌≡◌, IfOk, option_copied};
 ghost use Rattle.mx_model.specs.Records.{empty_space};
 ghost use Rattle.std.specs.Map.{lookup};
 ghost use Rattle.mx_value.specs.Name.{same_name};
-ghost use Rattle.mx_model.specs.Readers.{cells_of, name_at};
+ghost use Rattle.mx_model.specs.Readers.{cells_of, name_at, or_false};
 
 use crate::members::Members;
+use mx_code::compiled::{Compiled, CompiledParams};
 use mx_edit::reference::RefValue;
 use mx_list::list::List;
-use mx_syntax::stmt::{Formula, Params};
+use mx_list::shared::Shared;
 use mx_value::label::Label;
 use mx_value::node::Path;
-use std::alloc::Global;
+use std::alloc::{AllocError, Global};
 use std::marker::Model;
 
 /// Cells: their formula, and whether it may give None.
 #[derive(Drop)]
 pub struct Cells {
-    pub formula: Formula,
+    pub formula: Compiled,
     pub allow_none: bool,
 }
 
@@ -40,9 +41,9 @@ impl Model for Cells {
 pub struct Space {
     pub path: Path,
     pub bases: List<Path>,
-    pub params: Option<Params>,
-    pub cells: Members<Cells>,
-    pub references: Members<RefValue>,
+    pub params: Option<CompiledParams>,
+    pub cells: Shared<Members<Cells>>,
+    pub references: Shared<Members<RefValue>>,
 }
 
 impl Model for Space {
@@ -62,16 +63,16 @@ impl Model for Space {
 
 impl Space {
     /// A space without members.
-    pub fn new(alloc: Global, path: Path, bases: List<Path>) -> Space
-        ensures { result ≡ record (empty_space path) { bases = bases } }
+    pub fn new(alloc: Global, path: Path, bases: List<Path>) -> Result<Space, AllocError>
+        ensures { IfOk result (λ s. s ≡ record (empty_space path) { bases = bases }) }
     {
-        Space {
+        Ok(Space {
             path,
             bases,
             params: None,
-            cells: Members::new(alloc),
-            references: Members::new(alloc),
-        }
+            cells: Shared::new(alloc, Members::new(alloc))?,
+            references: Shared::new(alloc, Members::new(alloc))?,
+        })
     }
 
     pub fn path(&self) -> &Path
@@ -84,17 +85,27 @@ impl Space {
     pub fn cells(&self, name: &Label) -> Option<&Cells>
         ensures { option_copied result ≡ cells_of self.now name.now }
     {
-        self.cells.get(name)
+        self.cells.get().get(name)
+    }
+
+    /// Whether the cells of a name may give None. False where there are none.
+    pub fn allows_none(&self, name: &Label) -> bool
+        ensures { result ≡ or_false (cells_of self.now name.now) }
+    {
+        match self.cells(name) {
+            Some(cells) => cells.allow_none,
+            None => false,
+        }
     }
 
     /// The reference of a name.
     pub fn reference(&self, name: &Label) -> Option<&RefValue>
         ensures { option_copied result ≡ lookup (same_name name.now) self.now.references }
     {
-        self.references.get(name)
+        self.references.get().get(name)
     }
 
-    pub fn params(&self) -> Option<&Params>
+    pub fn params(&self) -> Option<&CompiledParams>
         ensures { option_copied result ≡ self.now.params }
     {
         self.params.as_ref()
@@ -104,13 +115,13 @@ impl Space {
     pub fn cells_at(&self, place: u32) -> Option<&Label>
         ensures { option_copied result ≡ name_at self.now.cells place }
     {
-        self.cells.name_at(place as usize)
+        self.cells.get().name_at(place as usize)
     }
 
     /// The name of the reference at a place, from 0.
     pub fn reference_at(&self, place: u32) -> Option<&Label>
         ensures { option_copied result ≡ name_at self.now.references place }
     {
-        self.references.name_at(place as usize)
+        self.references.get().name_at(place as usize)
     }
 }

@@ -1,17 +1,25 @@
 //! The model text.
-ghost use Rattle.std.specs.Prelude.{◌≡◌, ◌<◌, ◌∷◌, [], codes, Some, length, slice_get, option_copied, option_map, IfOk};
+ghost use Rattle.std.specs.Prelude.{◌≡◌, ◌<◌, ◌∷◌, [], codes, Some, length, slice_get, option_copied, option_map, IfOk, ◌⊎◌, None};
 ghost use Rattle.std.specs.Map.{lookup};
 ghost use Rattle.mx_value.specs.Name.{same_name};
-ghost use Rattle.mx_model.specs.Records.{beginning, empty_space};
+ghost use Rattle.mx_model.specs.Records.{beginning, empty_space, Path as SpacePath, SpaceRecord};
 ghost use Rattle.mx_model.specs.Layers.{id_of, space_of, base_lists};
 ghost use Rattle.mx_model.specs.Keys.{input_of};
+ghost use Rattle.mx_model.specs.Lookup.{kind_in, kind_of};
+ghost use Rattle.mx_model.specs.Binding.{own_member};
+ghost use Rattle.mx_model.specs.Change.{define, without, at_space};
+ghost use Rattle.mx_model.specs.Kept.{KeepsOthers, StaysInPlace};
+ghost use Rattle.mx_model.specs.Indexed.{Tells};
 ghost use Rattle.mx_model.specs.Readers.{path_in, formula_in, allows_in, reference_in, params_in, name_at, cells_at, reference_at};
 
+use crate::kind::Kind;
+use crate::layers::path_below;
 use crate::members::Members;
 use crate::space::Space;
 use indexmap::{IndexMap, IndexSet};
 use mx_c3::lists::{BaseLists, Order};
 use mx_c3::space::SpaceId;
+use mx_code::compiled::{Compiled, CompiledParams};
 use mx_edit::reference::RefValue;
 use mx_edit::table::Table;
 use mx_list::list::List;
@@ -29,6 +37,8 @@ pub struct ModelText {
     /// The paths of the spaces, in order of creation, by hash.
     paths: Shared<IndexSet<Path>>,
     spaces: Vec<Shared<Space>>,
+    /// What each space has itself of each name, by its place.
+    kinds: Vec<Shared<Members<Kind>>>,
     /// The bases of each space by its place.
     lists: Shared<BaseLists>,
     globals: Shared<Members<RefValue>>,
@@ -52,7 +62,7 @@ impl Model for ModelText {
 
     ghost view = { λ t. record { spaces = t.spaces.items; globals = t.globals; inputs = t.inputs.entries; tables = t.tables } };
 
-    ghost invariant = { λ t. IsIndexed t.paths.keys t.lists (record { spaces = t.spaces.items; globals = t.globals; inputs = t.inputs.entries; tables = t.tables }) };
+    ghost invariant = { λ t. IsIndexed t.paths.keys t.lists t.kinds.items (record { spaces = t.spaces.items; globals = t.globals; inputs = t.inputs.entries; tables = t.tables }) };
 }
 
 impl ModelText {
@@ -63,10 +73,12 @@ impl ModelText {
         let path = main_path(alloc)?;
         let paths = one_path(alloc, path.copy()?)?;
         let spaces = one_space(alloc, path)?;
+        let kinds = one_table(alloc)?;
         let lists = one_list(alloc)?;
         Ok(ModelText {
             paths: Shared::new(alloc, paths)?,
             spaces,
+            kinds,
             lists: Shared::new(alloc, lists)?,
             globals: Shared::new(alloc, Members::new(alloc))?,
             inputs: Shared::new(alloc, IndexMap::new(alloc))?,
@@ -92,7 +104,7 @@ impl ModelText {
     }
 
     /// A defined space.
-    fn space(&self, s: SpaceId) -> &Space
+    pub(crate) fn space(&self, s: SpaceId) -> &Space
         requires { s.0 < length self.now.spaces }
         ensures { space_of self.now s ≡ Some result.now }
     {
@@ -128,6 +140,17 @@ impl ModelText {
         ensures { option_copied result ≡ formula_in self.now s name.now }
     {
         match self.space(s).cells(name) {
+            Some(cells) => Some(cells.formula.formula()),
+            None => None,
+        }
+    }
+
+    /// The same with its code.
+    pub fn compiled(&self, s: SpaceId, name: &Label) -> Option<&Compiled>
+        requires { s.0 < length self.now.spaces }
+        ensures { option_copied result ≡ formula_in self.now s name.now }
+    {
+        match self.space(s).cells(name) {
             Some(cells) => Some(&cells.formula),
             None => None,
         }
@@ -138,10 +161,7 @@ impl ModelText {
         requires { s.0 < length self.now.spaces }
         ensures { result ≡ allows_in self.now s name.now }
     {
-        match self.space(s).cells(name) {
-            Some(cells) => cells.allow_none,
-            None => false,
-        }
+        self.space(s).allows_none(name)
     }
 
     /// The own parameters of a space.
@@ -149,7 +169,26 @@ impl ModelText {
         requires { s.0 < length self.now.spaces }
         ensures { option_copied result ≡ params_in self.now s }
     {
+        match self.space(s).params() {
+            Some(params) => Some(params.params()),
+            None => None,
+        }
+    }
+
+    /// The same with the code of the formula of the items.
+    pub fn compiled_params(&self, s: SpaceId) -> Option<&CompiledParams>
+        requires { s.0 < length self.now.spaces }
+        ensures { option_copied result ≡ params_in self.now s }
+    {
         self.space(s).params()
+    }
+
+    /// What a space has itself under a name.
+    pub fn kind(&self, s: SpaceId, name: &Label) -> Option<Kind>
+        requires { s.0 < length self.now.spaces }
+        ensures { result ≡ kind_in self.now s name.now }
+    {
+        self.kinds[s.0 as usize].get().get(name).copied()
     }
 
     /// An own reference of a space.
@@ -228,29 +267,135 @@ impl ModelText {
         Some(node)
     }
 
-    /// An equal text, which shares all that it holds.
-    pub fn copy(&self, alloc: Global) -> Result<ModelText, AllocError>
-        ensures { IfOk result (λ t. t ≡ self.now) }
+    /// What a space in this text has itself under a name.
+    fn own_kind(
+        &self,
+        alloc: Global,
+        space: &Space,
+        name: &Label,
+    ) -> Result<Option<Kind>, AllocError>
+        ensures { IfOk result (λ kind. kind ≡ option_map kind_of (own_member self.now name.now space.now)) }
     {
-        let spaces = copy_spaces(alloc, self.spaces.as_slice())?;
+        match space.cells(name) {
+            Some(_) => return Ok(Some(Kind::Cells)),
+            None => {}
+        }
+        match space.reference(name) {
+            Some(_) => return Ok(Some(Kind::Reference)),
+            None => {}
+        }
+        let path = path_below(alloc, space.path().as_slice(), name)?;
+        match self.id_of(&path) {
+            Some(_) => return Ok(Some(Kind::Child)),
+            None => return Ok(None),
+        }
+    }
+
+    /// The kinds of a space that differs from the one at a place under one name alone.
+    pub(crate) fn kinds_of(
+        &self,
+        alloc: Global,
+        s: SpaceId,
+        space: &Space,
+        name: &Label,
+    ) -> Result<Shared<Members<Kind>>, AllocError>
+        requires within { s.0 < length self.now.spaces }
+        requires others { (old : SpaceRecord) → space_of self.now s ≡ Some old → KeepsOthers name.now old space.now }
+        ensures { IfOk result (λ kinds. Tells self.now space.now kinds) }
+    {
+        let kinds = &self.kinds[s.0 as usize];
+        match self.own_kind(alloc, space, name)? {
+            Some(kind) => return define_kind(alloc, kinds, name, kind),
+            None => return remove_kind(alloc, kinds, name),
+        }
+    }
+
+    /// The text with another space of the same path and bases in the place of one.
+    pub(crate) fn put(
+        &self,
+        alloc: Global,
+        s: SpaceId,
+        space: Space,
+        kinds: Shared<Members<Kind>>,
+    ) -> Result<ModelText, AllocError>
+        requires within { s.0 < length self.now.spaces }
+        requires stays { (old : SpaceRecord) → space_of self.now s ≡ Some old → StaysInPlace old space }
+        requires tells { Tells self.now space kinds }
+        ensures { (path : SpacePath) (change : SpaceRecord → SpaceRecord) → id_of self.now path ≡ Some s →
+            ((old : SpaceRecord) → space_of self.now s ≡ Some old → space ≡ change old) →
+            IfOk result (λ t. t ≡ at_space self.now path change) }
+    {
+        let mut spaces = copy_all(alloc, self.spaces.as_slice())?;
+        spaces[s.0 as usize] = Shared::new(alloc, space)?;
+        let mut tables = copy_all(alloc, self.kinds.as_slice())?;
+        tables[s.0 as usize] = kinds;
         Ok(ModelText {
             paths: self.paths.copy()?,
             spaces,
+            kinds: tables,
             lists: self.lists.copy()?,
             globals: self.globals.copy()?,
             inputs: self.inputs.copy()?,
             tables: self.tables.copy()?,
         })
     }
+
+    /// An equal text, which shares all that it holds.
+    pub fn copy(&self, alloc: Global) -> Result<ModelText, AllocError>
+        ensures { IfOk result (λ t. t ≡ self.now) }
+    {
+        let spaces = copy_all(alloc, self.spaces.as_slice())?;
+        let kinds = copy_all(alloc, self.kinds.as_slice())?;
+        let inputs = self.inputs.copy()?;
+        Ok(ModelText {
+            paths: self.paths.copy()?,
+            spaces,
+            kinds,
+            lists: self.lists.copy()?,
+            globals: self.globals.copy()?,
+            inputs,
+            tables: self.tables.copy()?,
+        })
+    }
 }
 
-/// The same spaces, shared.
-fn copy_spaces(alloc: Global, spaces: &[Shared<Space>]) -> Result<Vec<Shared<Space>>, AllocError>
-    ensures { IfOk result (λ copies. copies.items ≡ spaces.now) }
+/// Kinds in which a name has this kind.
+fn define_kind(
+    alloc: Global,
+    kinds: &Shared<Members<Kind>>,
+    name: &Label,
+    kind: Kind,
+) -> Result<Shared<Members<Kind>>, AllocError>
+    ensures { IfOk result (λ defined. (lookup (same_name name.now) kinds.now ≡ Some kind × (defined ≡ kinds.now)) ⊎ (defined ≡ define same_name kinds.now name.now kind)) }
+{
+    if kinds.get().get(name) == Some(&kind) {
+        return kinds.copy();
+    }
+    let mut defined = kinds.get().copy(alloc)?;
+    defined.define(name.copy()?, kind)?;
+    return Shared::new(alloc, defined);
+}
+
+/// Kinds without a name.
+fn remove_kind(
+    alloc: Global,
+    kinds: &Shared<Members<Kind>>,
+    name: &Label,
+) -> Result<Shared<Members<Kind>>, AllocError>
+    ensures { IfOk result (λ rest. (rest ≡ without same_name kinds.now name.now) × (lookup (same_name name.now) rest ≡ None)) }
+{
+    let mut rest = kinds.get().copy(alloc)?;
+    rest.remove(name);
+    Shared::new(alloc, rest)
+}
+
+/// The same items, shared.
+fn copy_all<T: Drop>(alloc: Global, items: &[Shared<T>]) -> Result<Vec<Shared<T>>, AllocError>
+    ensures { IfOk result (λ copies. copies.items ≡ items.now) }
 {
     let mut copies = Vec::new(alloc);
-    for space in spaces {
-        copies.push(space.copy()?)?;
+    for item in items {
+        copies.push(item.copy()?)?;
     }
     Ok(copies)
 }
@@ -281,8 +426,18 @@ fn one_space(alloc: Global, path: Path) -> Result<Vec<Shared<Space>>, AllocError
     ensures { IfOk result (λ spaces. spaces.items ≡ empty_space path ∷ []) }
 {
     let mut spaces = Vec::new(alloc);
-    spaces.push(Shared::new(alloc, Space::new(alloc, path, List::empty(alloc)?))?)?;
+    let space = Space::new(alloc, path, List::empty(alloc)?)?;
+    spaces.push(Shared::new(alloc, space)?)?;
     Ok(spaces)
+}
+
+/// The kinds of one space without members.
+fn one_table(alloc: Global) -> Result<Vec<Shared<Members<Kind>>>, AllocError>
+    ensures { IfOk result (λ kinds. kinds.items ≡ [] ∷ []) }
+{
+    let mut kinds = Vec::new(alloc);
+    kinds.push(Shared::new(alloc, Members::new(alloc))?)?;
+    Ok(kinds)
 }
 
 /// One space without bases.

@@ -12,28 +12,28 @@ returns-in-Ref c =
     let text = c.args.text.now in
     let name = c.args.name.now in
     let P : Binding → Type 0 = λ b. IsBinding text name b (first_with text (own_member text name) c.args.layers.now) in
-    sym (no_cells text name _ (first_with text (own_member text name) c.args.layers.now) (subst P c.in-Ref.is c.in_ok-found.ensures))
+    sym (no_cells text name _ (first_with text (own_member text name) c.args.layers.now) (subst P c.in-Ref.is c.lookup.ensures))
 
 pub returns-in-Child : goal.returns-in-Child
 returns-in-Child c =
     let text = c.args.text.now in
     let name = c.args.name.now in
     let P : Binding → Type 0 = λ b. IsBinding text name b (first_with text (own_member text name) c.args.layers.now) in
-    sym (ap formula_of (subst P c.in-Child.is c.in_ok-found.ensures))
+    sym (ap formula_of (subst P c.in-Child.is c.lookup.ensures))
 
 pub returns-in-Missing : goal.returns-in-Missing
 returns-in-Missing c =
     let text = c.args.text.now in
     let name = c.args.name.now in
     let P : Binding → Type 0 = λ b. IsBinding text name b (first_with text (own_member text name) c.args.layers.now) in
-    sym (ap formula_of (subst P c.in-Missing.is c.in_ok-found.ensures))
+    sym (ap formula_of (subst P c.in-Missing.is c.lookup.ensures))
 
 pub cells_of-requires-clause-within : goal.cells_of-requires-clause-within
 cells_of-requires-clause-within c =
     let text = c.args.text.now in
     let name = c.args.name.now in
     let P : Binding → Type 0 = λ b. IsBinding text name b (first_with text (own_member text name) c.args.layers.now) in
-    let at = subst P c.in-CellsHere.is c.in_ok-found.ensures in
+    let at = subst P c.in-CellsHere.is c.lookup.ensures in
     at.within
 
 pub cells_of-requires-clause-of_kind : goal.cells_of-requires-clause-of_kind
@@ -41,7 +41,7 @@ cells_of-requires-clause-of_kind c =
     let text = c.args.text.now in
     let name = c.args.name.now in
     let P : Binding → Type 0 = λ b. IsBinding text name b (first_with text (own_member text name) c.args.layers.now) in
-    let at = subst P c.in-CellsHere.is c.in_ok-found.ensures in
+    let at = subst P c.in-CellsHere.is c.lookup.ensures in
     at.of_kind
 
 pub returns-in-CellsHere : goal.returns-in-CellsHere
@@ -49,6 +49,6 @@ returns-in-CellsHere c =
     let text = c.args.text.now in
     let name = c.args.name.now in
     let P : Binding → Type 0 = λ b. IsBinding text name b (first_with text (own_member text name) c.args.layers.now) in
-    let at = subst P c.in-CellsHere.is c.in_ok-found.ensures in
+    let at = subst P c.in-CellsHere.is c.lookup.ensures in
     let Q : Option Member → Type 0 = λ member. IfOk c.cells_of.result (λ (told : KeyResult). told ≡ formula_of member) in
     subst Q (sym at.is) c.cells_of.ensures

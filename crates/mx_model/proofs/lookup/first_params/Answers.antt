@@ -9,8 +9,8 @@ use Rattle.mx_model.proofs.lookup.first_params.Goals as goal
 abbrev first : SpaceId
 first = record { 0 = 0 }
 
-pub params-requires : goal.params-requires
-params-requires c =
+pub compiled_params-requires : goal.compiled_params-requires
+compiled_params-requires c =
     let items = c.as_slice-s-items.result.now in
     let s = get_or items c.loop-s.s-index first in
     let P : List SpaceId → Type 0 = λ xs. Has xs s in

@@ -11,8 +11,8 @@ use Rattle.mx_model.proofs.lookup.lookup.Goals as goal
 abbrev first : SpaceId
 first = record { 0 = 0 }
 
-pub kind_at-requires : goal.kind_at-requires
-kind_at-requires c =
+pub kind-requires : goal.kind-requires
+kind-requires c =
     let items = c.as_slice-s-items.result.now in
     let s = get_or items c.loop-s.s-index first in
     let P : List SpaceId → Type 0 = λ xs. Has xs s in
@@ -26,11 +26,11 @@ returns-in-Some c =
     let s = get_or items c.loop-s.s-index first in
     let P : List SpaceId → Type 0 = λ xs. Has xs s in
     let within = c.requires s (subst P c.as_slice-s-items.ensures (has_at items c.loop-s.s-index first c.loop-s-test.true)) in
-    let taken = some_taken text name items c.loop-s.s-index first c.in-Some.kind c.loop-s-test.true within (sym c.in-Some.is ∙ c.in_ok-kind.ensures) in
+    let taken = some_taken text name items c.loop-s.s-index first c.in-Some.kind c.loop-s-test.true within c.in-Some.ensures in
     let Q : Option Member → Type 0 = λ member. IsBinding text name (bound_as c.in-Some.kind s) member in
     let R : Binding → Type 0 = λ b. IsBinding text name b (first_with text (own_member text name) c.args.layers.now) in
     subst R (sym c.bound_as.ensures) (subst Q (sym c.loop-s.invariant) taken)
 
 pub loop-s-preserved : goal.loop-s-preserved
 loop-s-preserved c =
-    c.loop-s.invariant ∙ none_passed c.args.text.now c.args.name.now c.as_slice-s-items.result.now c.loop-s.s-index first c.loop-s-test.true (sym c.in-None.is ∙ c.in_ok-kind.ensures)
+    c.loop-s.invariant ∙ none_passed c.args.text.now c.args.name.now c.as_slice-s-items.result.now c.loop-s.s-index first c.loop-s-test.true c.in-None.ensures

@@ -1,0 +1,83 @@
+-- Which paths are defined in a text and in another one, and how a path ends.
+use Rattle.std.proofs.Common.{◌≡◌, Bool, true, false, List, [], ◌∷◌, ◌++◌, Option, Some, None, inl, inr, refl, sym, ◌∙◌, ap}
+use Rattle.std.specs.Prelude.{IsTrue, is_some, if◌then◌else◌}
+use Rattle.std.specs.Map.{lookup}
+use Rattle.std.proofs.lemmas.Option.{same_Some}
+use Rattle.mx_value.specs.Name.{same_name}
+use Rattle.mx_c3.specs.declared.space.SpaceId.{SpaceId}
+use Rattle.mx_c3.specs.Lists.{Has, Distinct}
+use Rattle.mx_c3.proofs.ListLemmas.{has_push_cases}
+use Rattle.mx_model.specs.Records.{Name, Path, SpaceRecord, ModelRecord}
+use Rattle.mx_model.specs.Layers.{paths_of, id_of}
+use Rattle.mx_model.specs.Paths.{prepended, split_last, is_defined}
+use Rattle.mx_model.specs.Binding.{Child, or_child, or_other, own_member}
+use Rattle.mx_model.specs.Rings.{IsDefined}
+use Rattle.mx_model.proofs.Filtered.{place_has}
+use Rattle.mx_model.proofs.Places.{id_at, path_defined}
+
+-- ---- how a path ends
+
+pub split_push : (path : Path) (name : Name) → split_last (path ++ name ∷ []) ≡ Some (path, name)
+split_push [] name = refl
+split_push (first ∷ path) name = ap (prepended first) (split_push path name)
+
+split_by : (first : Name) (rest : Path) (split : Option (Path × Name)) (parent : Path) (last : Name) → split_last rest ≡ split → ((p : Path) (n : Name) → split_last rest ≡ Some (p, n) → rest ≡ p ++ n ∷ []) → (split_last rest ≡ None → rest ≡ []) → prepended first split ≡ Some (parent, last) → first ∷ rest ≡ parent ++ last ∷ []
+split_by first rest None parent last is some none e =
+    let same : (z : Path × Name) → Path = λ z. z.0 ++ z.1 ∷ [] in
+    ap (λ (r : Path). first ∷ r) (none is) ∙ ap same (same_Some ([], first) (parent, last) e)
+split_by first rest (Some (p, n)) parent last is some none e =
+    let same : (z : Path × Name) → Path = λ z. z.0 ++ z.1 ∷ [] in
+    ap (λ (r : Path). first ∷ r) (some p n is) ∙ ap same (same_Some (first ∷ p, n) (parent, last) e)
+
+pub some_not : (z : Path × Name) → Some z ≡ None → ⊥
+some_not z e = let t : true ≡ false = ap is_some e in cc
+
+none_by : (first : Name) (split : Option (Path × Name)) → prepended first split ≡ None → ⊥
+none_by first None e = some_not ([], first) e
+none_by first (Some (p, n)) e = some_not (first ∷ p, n) e
+
+split_none : (path : Path) → split_last path ≡ None → path ≡ []
+split_none [] e = refl
+split_none (first ∷ rest) e = absurd (none_by first (split_last rest) e)
+
+pub split_is : (path parent : Path) (last : Name) → split_last path ≡ Some (parent, last) → path ≡ parent ++ last ∷ []
+split_is [] parent last e = absurd (let f : None ≡ Some (parent, last) = e in cc)
+split_is (first ∷ rest) parent last e = split_by first rest (split_last rest) parent last refl (λ p n i. split_is rest p n i) (split_none rest) e
+
+-- paths with the same end are the same up to it
+pub same_ends : (p q : Path) (m n : Name) → p ++ m ∷ [] ≡ q ++ n ∷ [] → (p ≡ q) × (m ≡ n)
+same_ends p q m n e =
+    let s = same_Some (p, m) (q, n) (sym (split_push p m) ∙ ap split_last e ∙ split_push q n) in
+    (ap (λ (z : Path × Name). z.0) s, ap (λ (z : Path × Name). z.1) s)
+
+-- ---- defined paths
+
+has_by : (text : ModelRecord) (path : Path) (found : Option SpaceId) → id_of text path ≡ found → IsTrue (is_some found) → Has (paths_of text) path
+has_by text path None e t = absurd (let f : false ≡ true = t in cc)
+has_by text path (Some s) e t = place_has (paths_of text) s.0 path (id_at text path s e)
+
+pub defined_has : (text : ModelRecord) (path : Path) → IsDefined text path → Has (paths_of text) path
+defined_has text path d = has_by text path (id_of text path) refl d
+
+same_truth : (b c : Bool) → (IsTrue b → IsTrue c) → (IsTrue c → IsTrue b) → b ≡ c
+same_truth true c f g = sym (f refl)
+same_truth false true f g = g refl
+same_truth false false f g = refl
+
+pub same_defined : (text text' : ModelRecord) (path : Path) → (Has (paths_of text) path → Has (paths_of text') path) → (Has (paths_of text') path → Has (paths_of text) path) → is_defined text' path ≡ is_defined text path
+same_defined text text' path f g =
+    same_truth (is_defined text' path) (is_defined text path) (λ d. path_defined text path (g (defined_has text' path d))) (λ d. path_defined text' path (f (defined_has text path d)))
+
+-- a space has the same of a name where its child is defined in both texts or in none
+pub own_defined : (text text' : ModelRecord) (name : Name) (s : SpaceRecord) → is_defined text' (s.path ++ name ∷ []) ≡ is_defined text (s.path ++ name ∷ []) → own_member text' name s ≡ own_member text name s
+own_defined text text' name s e =
+    ap (λ (b : Bool). or_other (or_child (if b then Some Child else None) s.path (lookup (same_name name) s.references)) (lookup (same_name name) s.cells)) e
+
+-- ---- one path more
+
+pub distinct_push : {X : Type 0} (xs : List X) (x : X) → Distinct xs → (Has xs x → ⊥) → Distinct (xs ++ x ∷ [])
+distinct_push [] x d n = (λ h. h, tt)
+distinct_push {X} (y ∷ xs) x d n = (
+  λ h. elim (has_push_cases xs x y h) [ inl a ↦ d.0 a | inr e ↦ n (inl (sym e)) ],
+  distinct_push xs x d.1 (λ h. n (inr h)),
+)

@@ -1,0 +1,201 @@
+//! Spaces with one part changed. They share all others with the spaces that they are made of.
+ghost use Rattle.std.specs.Prelude.{◌≡◌, IfOk, IsTrue, is_some};
+ghost use Rattle.std.specs.Map.{lookup};
+ghost use Rattle.mx_value.specs.Name.{same_name};
+ghost use Rattle.mx_model.specs.Change.{define, without, define_cells, set_allow};
+
+use crate::kind::Kind;
+use crate::members::{Members, Share};
+use crate::space::{Cells, Space};
+use mx_code::compiled::{Compiled, CompiledParams};
+use mx_edit::copies::{copy_formula, copy_params};
+use mx_edit::reference::RefValue;
+use mx_edit::table::Table;
+use mx_list::list::List;
+use mx_list::shared::Shared;
+use mx_syntax::stmt::{Formula, Params};
+use mx_value::label::Label;
+use mx_value::node::Path;
+use std::alloc::{AllocError, Global};
+
+impl Share for Kind {
+    fn share(&self) -> Result<Kind, AllocError> {
+        Ok(*self)
+    }
+}
+
+impl Share for Cells {
+    fn share(&self) -> Result<Cells, AllocError> {
+        Ok(Cells {
+            formula: self.formula.copy()?,
+            allow_none: self.allow_none,
+        })
+    }
+}
+
+impl Share for RefValue {
+    fn share(&self) -> Result<RefValue, AllocError> {
+        self.copy()
+    }
+}
+
+impl Share for Table {
+    fn share(&self) -> Result<Table, AllocError> {
+        self.copy()
+    }
+}
+
+/// The same parameters, where there are any.
+fn share_params(params: &Option<CompiledParams>) -> Result<Option<CompiledParams>, AllocError>
+    ensures { IfOk result (λ copied. copied ≡ params.now) }
+{
+    match params {
+        Some(params) => Ok(Some(params.copy()?)),
+        None => Ok(None),
+    }
+}
+
+impl Space {
+    /// The space with these cells in place of its own.
+    fn with_all_cells(&self, alloc: Global, cells: Members<Cells>) -> Result<Space, AllocError>
+        ensures { IfOk result (λ s. s ≡ record self.now { cells = cells }) }
+    {
+        Ok(Space {
+            path: self.path.copy()?,
+            bases: self.bases.copy()?,
+            params: share_params(&self.params)?,
+            cells: Shared::new(alloc, cells)?,
+            references: self.references.copy()?,
+        })
+    }
+
+    /// The space with these references in place of its own.
+    fn with_all_references(
+        &self,
+        alloc: Global,
+        references: Members<RefValue>,
+    ) -> Result<Space, AllocError>
+        ensures { IfOk result (λ s. s ≡ record self.now { references = references }) }
+    {
+        Ok(Space {
+            path: self.path.copy()?,
+            bases: self.bases.copy()?,
+            params: share_params(&self.params)?,
+            cells: self.cells.copy()?,
+            references: Shared::new(alloc, references)?,
+        })
+    }
+
+    /// The space with cells of a name. Cells that are there keep their place and setting.
+    pub fn with_cells(
+        &self,
+        alloc: Global,
+        name: &Label,
+        formula: &Formula,
+    ) -> Result<Space, AllocError>
+        ensures { IfOk result (λ s. s ≡ record self.now { cells = define_cells self.now.cells name.now formula.now }) }
+    {
+        let allow_none = self.allows_none(name);
+        let formula = Compiled::new(alloc, copy_formula(formula)?)?;
+        let mut cells = self.cells.get().copy(alloc)?;
+        let made = Cells {
+            formula,
+            allow_none,
+        };
+        cells.define(name.copy()?, made)?;
+        self.with_all_cells(alloc, cells)
+    }
+
+    /// The space without the cells of a name.
+    pub fn without_cells(&self, alloc: Global, name: &Label) -> Result<Space, AllocError>
+        ensures { IfOk result (λ s. s ≡ record self.now { cells = without same_name self.now.cells name.now }) }
+    {
+        let mut cells = self.cells.get().copy(alloc)?;
+        cells.remove(name);
+        self.with_all_cells(alloc, cells)
+    }
+
+    /// The space with another setting of its cells of a name.
+    pub fn with_setting(
+        &self,
+        alloc: Global,
+        name: &Label,
+        allow_none: bool,
+    ) -> Result<Space, AllocError>
+        requires { IsTrue (is_some (lookup (same_name name.now) self.now.cells)) }
+        ensures { IfOk result (λ s. s ≡ record self.now { cells = set_allow self.now.cells name.now allow_none }) }
+    {
+        let Some(old) = self.cells(name) else {
+            unreachable!()
+        };
+        let made = Cells {
+            formula: old.formula.copy()?,
+            allow_none,
+        };
+        let mut cells = self.cells.get().copy(alloc)?;
+        cells.define(name.copy()?, made)?;
+        self.with_all_cells(alloc, cells)
+    }
+
+    /// The space with a reference of a name. One that is there keeps its place.
+    pub fn with_reference(
+        &self,
+        alloc: Global,
+        name: &Label,
+        value: &RefValue,
+    ) -> Result<Space, AllocError>
+        ensures { IfOk result (λ s. s ≡ record self.now { references = define same_name self.now.references name.now value.now }) }
+    {
+        let mut references = self.references.get().copy(alloc)?;
+        references.define(name.copy()?, value.copy()?)?;
+        self.with_all_references(alloc, references)
+    }
+
+    /// The space without the reference of a name.
+    pub fn without_reference(&self, alloc: Global, name: &Label) -> Result<Space, AllocError>
+        ensures { IfOk result (λ s. s ≡ record self.now { references = without same_name self.now.references name.now }) }
+    {
+        let mut references = self.references.get().copy(alloc)?;
+        references.remove(name);
+        self.with_all_references(alloc, references)
+    }
+
+    /// The space with these parameters, or none.
+    pub fn with_params(&self, alloc: Global, params: &Option<Params>) -> Result<Space, AllocError>
+        ensures { IfOk result (λ s. s ≡ record self.now { params = params.now }) }
+    {
+        Ok(Space {
+            path: self.path.copy()?,
+            bases: self.bases.copy()?,
+            params: compile_params(alloc, params)?,
+            cells: self.cells.copy()?,
+            references: self.references.copy()?,
+        })
+    }
+
+    /// The space with these bases.
+    pub fn with_bases(&self, bases: &List<Path>) -> Result<Space, AllocError>
+        ensures { IfOk result (λ s. s ≡ record self.now { bases = bases.now }) }
+    {
+        Ok(Space {
+            path: self.path.copy()?,
+            bases: bases.copy()?,
+            params: share_params(&self.params)?,
+            cells: self.cells.copy()?,
+            references: self.references.copy()?,
+        })
+    }
+}
+
+/// Parameters with their code, where there are any.
+fn compile_params(
+    alloc: Global,
+    params: &Option<Params>,
+) -> Result<Option<CompiledParams>, AllocError>
+    ensures { IfOk result (λ compiled. compiled ≡ params.now) }
+{
+    match params {
+        Some(params) => Ok(Some(CompiledParams::new(alloc, copy_params(params)?)?)),
+        None => Ok(None),
+    }
+}
