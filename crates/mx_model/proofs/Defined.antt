@@ -1,9 +1,13 @@
 -- Which paths are defined in a text and in another one, and how a path ends.
-use Rattle.std.proofs.Common.{◌≡◌, Bool, true, false, List, [], ◌∷◌, ◌++◌, Option, Some, None, inl, inr, refl, sym, ◌∙◌, ap}
+use Rattle.std.proofs.Common.{◌≡◌, ℕ, zero, suc, ◌+◌, ◌-◌, ◌<◌, ◌≤◌, Bool, true, false, ◌||◌, List, [], ◌∷◌, ◌++◌, length, take, get_or, slice_get, Option, Some, None, refl, sym, ◌∙◌, ap, subst, arith, inl, map, inr}
 use Rattle.std.specs.Prelude.{IsTrue, is_some, if◌then◌else◌}
+use Rattle.std.specs.List.{list_any}
 use Rattle.std.specs.Map.{lookup}
+use Rattle.std.proofs.lemmas.List.{take_all, take_more}
 use Rattle.std.proofs.lemmas.Option.{same_Some}
-use Rattle.mx_value.specs.Name.{same_name}
+use Rattle.mx_value.specs.Name.{same_name, same_path}
+use Rattle.mx_value.proofs.NodeSames.{path_decides}
+use Rattle.indexmap.specs.IndexSet.{insert_key}
 use Rattle.mx_c3.specs.declared.space.SpaceId.{SpaceId}
 use Rattle.mx_c3.specs.Lists.{Has, Distinct}
 use Rattle.mx_c3.proofs.ListLemmas.{has_push_cases}
@@ -50,6 +54,25 @@ same_ends p q m n e =
     let s = same_Some (p, m) (q, n) (sym (split_push p m) ∙ ap split_last e ∙ split_push q n) in
     (ap (λ (z : Path × Name). z.0) s, ap (λ (z : Path × Name). z.1) s)
 
+last_split : (xs : Path) (last : Name) → 1 ≤ length xs → last ≡ get_or xs (length xs - 1) last → xs ≡ take (length xs - 1) xs ++ last ∷ []
+last_split xs last some is =
+    let n = length xs - 1 in
+    let all : length xs ≤ n + 1 = omega arith in
+    let within : n < length xs = omega arith in
+    sym (take_all (n + 1) xs all) ∙ take_more xs n last within ∙ ap (λ (z : Name). take n xs ++ z ∷ []) (sym is)
+
+-- a path ends with this name below that parent
+pub ends_so : (path parent s ps : Path) (last : Name) (r : Bool) → s ≡ path → ps ≡ parent → 1 ≤ length s → last ≡ get_or s (length s - 1) last → r ≡ same_path (take (length s - 1) s) ps → r ≡ true → path ≡ parent ++ last ∷ []
+ends_so path parent s ps last r e f some is tested t =
+    let same = (path_decides (take (length s - 1) s) ps).0 (sym tested ∙ t) ∙ f in
+    sym e ∙ last_split s last some is ∙ ap (λ (p : Path). p ++ last ∷ []) same
+
+pub ends_other : (path parent s ps : Path) (last : Name) (r : Bool) → s ≡ path → ps ≡ parent → 1 ≤ length s → last ≡ get_or s (length s - 1) last → r ≡ same_path (take (length s - 1) s) ps → r ≡ false → (name : Name) → path ≡ parent ++ name ∷ [] → ⊥
+ends_other path parent s ps last r e f some is tested n name at =
+    let ends = same_ends (take (length s - 1) s) parent last name (sym (last_split s last some is) ∙ e ∙ at) in
+    let yes = (path_decides (take (length s - 1) s) ps).1 (ends.0 ∙ sym f) in
+    let g : true ≡ false = sym yes ∙ sym tested ∙ n in absurd (cc)
+
 -- ---- defined paths
 
 has_by : (text : ModelRecord) (path : Path) (found : Option SpaceId) → id_of text path ≡ found → IsTrue (is_some found) → Has (paths_of text) path
@@ -81,3 +104,28 @@ distinct_push {X} (y ∷ xs) x d n = (
   λ h. elim (has_push_cases xs x y h) [ inl a ↦ d.0 a | inr e ↦ n (inl (sym e)) ],
   distinct_push xs x d.1 (λ h. n (inr h)),
 )
+
+-- ---- paths, one after the other
+
+fresh_by : (k x : Path) (xs : List Path) (b : Bool) → same_path k x ≡ b → (Has xs x → ⊥) → Has xs k → same_path k x ≡ false
+fresh_by k x xs true e n h = absurd (let P : Path → Type 0 = λ p. Has xs p in n (subst P ((path_decides k x).0 e) h))
+fresh_by k x xs false e n h = e
+
+-- a path is not among those before it
+any_fresh : (ks : List Path) (i : ℕ) (k : Path) → Distinct ks → slice_get ks i ≡ Some k → list_any (same_path k) (take i ks) ≡ false
+any_fresh [] i k d at = absurd (let f : None ≡ Some k = at in cc)
+any_fresh (x ∷ xs) zero k d at = refl
+any_fresh (x ∷ xs) (suc i) k d at =
+    let no = fresh_by k x xs (same_path k x) refl d.0 (place_has xs i k at) in
+    ap (λ (b : Bool). b || list_any (same_path k) (take i xs)) no ∙ any_fresh xs i k d.1 at
+
+take_one : (ks : List Path) (i : ℕ) (k : Path) → slice_get ks i ≡ Some k → take i ks ++ k ∷ [] ≡ take (suc i) ks
+take_one [] i k at = absurd (let f : None ≡ Some k = at in cc)
+take_one (x ∷ xs) zero k at = ap (λ (z : Path). z ∷ []) (sym (same_Some x k at))
+take_one (x ∷ xs) (suc i) k at = ap (λ (r : List Path). x ∷ r) (take_one xs i k at)
+
+pub path_more : (ks keys : List Path) (i : ℕ) (k k' : Path) (after : List Path) → Distinct ks → keys ≡ take i ks → slice_get ks i ≡ Some k → k' ≡ k → after ≡ insert_key same_path keys k' → after ≡ take (i + 1) ks
+path_more ks keys i k k' after d e at same is =
+    let next : suc i ≡ i + 1 = omega arith in
+    is ∙ ap (insert_key same_path keys) same ∙ ap (λ (z : List Path). insert_key same_path z k) e ∙
+    ap (λ (b : Bool). if b then take i ks else take i ks ++ k ∷ []) (any_fresh ks i k d at) ∙ take_one ks i k at ∙ ap (λ n. take n ks) next

@@ -16,7 +16,7 @@ use Rattle.mx_model.specs.Lookup.{kind_of}
 use Rattle.mx_model.specs.Kept.{KeepsOthers}
 use Rattle.mx_model.specs.Change.{define, without}
 use Rattle.mx_model.proofs.NameLemmas.{same_is, define_own, define_other, without_other}
-use Rattle.mx_model.specs.Indexed.{Kinds, Tells, TellAll}
+use Rattle.mx_model.specs.Indexed.{Kinds, Tells, TellsAt, TellAll}
 
 -- there are as many tables as spaces
 pub tables_many : (text : ModelRecord) (spaces : List SpaceRecord) (tables : List Kinds) → TellAll text spaces tables → length tables ≡ length spaces
@@ -70,7 +70,7 @@ tells_at text spaces tables n s kinds t at e name =
 
 -- ---- kinds by their parts
 
-ok_more : {X E : Type 0} (P Q : X → Type 0) (r : Result X E) → ((x : X) → P x → Q x) → IfOk r P → IfOk r Q
+pub ok_more : {X E : Type 0} (P Q : X → Type 0) (r : Result X E) → ((x : X) → P x → Q x) → IfOk r P → IfOk r Q
 ok_more P Q (Ok x) f p = f x p
 ok_more P Q (Err e) f p = p
 
@@ -100,3 +100,7 @@ own_by text name s path found c r p f =
     child_of : (found : Option SpaceId) → option_map (λ (k : SpaceId). kind.Child) found ≡ option_map kind_of (if is_some found then Some Child else None)
     child_of None = refl
     child_of (Some s) = refl
+
+pub told_all : (text : ModelRecord) (kinds : Kinds) (at : SpaceId) (r : Result Kinds AllocError) → TellsAt text at kinds → IfOk r (λ copied. copied ≡ kinds) → IfOk r (TellsAt text at)
+told_all text kinds at r tells ok =
+    ok_more (λ copied. copied ≡ kinds) (TellsAt text at) r (λ copied same. let P : Kinds → Type 0 = λ t. TellsAt text at t in subst P (sym same) tells) ok

@@ -1,6 +1,8 @@
 mod Changes
 pub mod Defined
+pub mod EditLemmas
 pub mod Filtered
+pub mod GoneSpaces
 pub mod KindLemmas
 pub mod LayerSteps
 pub mod LookupLemmas

@@ -1,16 +1,17 @@
 -- A new space behind the others: what stands beside them.
 use Rattle.std.proofs.Common.{◌≡◌, ℕ, zero, suc, ◌+◌, ◌<◌, ◌^◌, Bool, true, false, List, [], ◌∷◌, ◌++◌, map, length, set, Option, Some, None, slice_get, ◌⊎◌, inl, inr, refl, sym, ◌∙◌, ap, subst, arith}
-use Rattle.std.specs.Prelude.{IsTrue, option_map, if◌then◌else◌}
+use Rattle.std.specs.Prelude.{IsTrue, is_some, option_map, option_and_then, if◌then◌else◌}
 use Rattle.std.specs.Map.{lookup}
-use Rattle.std.proofs.lemmas.Option.{same_Some}
+use Rattle.std.proofs.lemmas.Option.{same_Some, slice_get-map}
 use Rattle.std.proofs.lemmas.List.{map-append, length-append}
 use Rattle.mx_value.specs.Name.{same_name}
 use Rattle.mx_c3.specs.Lists.{Has, Distinct}
 use Rattle.mx_c3.proofs.ListLemmas.{has_left, has_right, has_push_cases}
 use Rattle.mx_model.specs.declared.kind.Kind.TheVariants as kind
 use Rattle.mx_model.specs.Records.{Name, Path, CellsRecord, SpaceRecord, ModelRecord, empty_space}
-use Rattle.mx_model.specs.Layers.{paths_of}
-use Rattle.mx_model.specs.Paths.{split_last, is_defined}
+use Rattle.mx_c3.specs.declared.space.SpaceId.{SpaceId}
+use Rattle.mx_model.specs.Layers.{paths_of, id_of, space_of}
+use Rattle.mx_model.specs.Paths.{split_last, is_defined, space_at}
 use Rattle.mx_edit.specs.declared.reference.RefValue.{RefValue}
 use Rattle.mx_model.specs.Binding.{Member, Cells, Reference, Child, own_child, or_child, or_other, own_member}
 use Rattle.mx_model.specs.Change.{define}
@@ -20,7 +21,8 @@ use Rattle.mx_model.specs.Rings.{IsDefined}
 use Rattle.mx_model.specs.Indexed.{Kinds, Tells, TellAll, ArePlaced}
 use Rattle.mx_model.proofs.Defined.{some_not, split_push, same_ends, defined_has, same_defined, own_defined, distinct_push}
 use Rattle.mx_model.proofs.NameLemmas.{same_is, is_same, define_own, define_other}
-use Rattle.mx_model.proofs.Places.{path_defined}
+use Rattle.mx_model.proofs.KindLemmas.{tells_at}
+use Rattle.mx_model.proofs.Places.{path_defined, id_at}
 
 abbrev path_in : SpaceRecord → Path
 path_in s = s.path
@@ -142,7 +144,7 @@ child_tells text name old kinds tells none n = parent_by text name old kinds tel
 
 -- ---- all together
 
-tells_push : (text : ModelRecord) (spaces : List SpaceRecord) (tables : List Kinds) (s : SpaceRecord) (kinds : Kinds) → TellAll text spaces tables → Tells text s kinds → TellAll text (spaces ++ s ∷ []) (tables ++ kinds ∷ [])
+pub tells_push : (text : ModelRecord) (spaces : List SpaceRecord) (tables : List Kinds) (s : SpaceRecord) (kinds : Kinds) → TellAll text spaces tables → Tells text s kinds → TellAll text (spaces ++ s ∷ []) (tables ++ kinds ∷ [])
 tells_push text [] [] s kinds t own = (own, tt)
 tells_push text [] (k ∷ ks) s kinds t own = absurd t
 tells_push text (z ∷ zs) [] s kinds t own = absurd t
@@ -174,3 +176,50 @@ grown_placed text tables tables' parent name x held free few t =
 -- no space has the empty path
 pub top_tells : (text : ModelRecord) (tables : List Kinds) (name : Name) → ArePlaced tables text → TellAll (grown text ([] ++ name ∷ [])) text.spaces tables
 top_tells text tables name x = others_tell text [] name text.spaces tables (λ h. x.parents [] h) x.kinds
+
+-- ---- the parent by its place
+
+pub record SpaceOf (text : ModelRecord) (s : SpaceId) (path : Path) : Type 0 where
+  pub old : SpaceRecord
+  pub is : space_of text s ≡ Some old
+  pub at : old.path ≡ path
+
+space_of_by : (text : ModelRecord) (s : SpaceId) (path : Path) (o : Option SpaceRecord) → space_of text s ≡ o → option_map path_in o ≡ Some path → SpaceOf text s path
+space_of_by text s path None e m = absurd (let f : None ≡ Some path = m in cc)
+space_of_by text s path (Some old) e m = record { old = old; is = e; at = same_Some old.path path m }
+
+-- the space of the place of a path
+pub space_of_id : (text : ModelRecord) (path : Path) (s : SpaceId) → id_of text path ≡ Some s → SpaceOf text s path
+space_of_id text path s e = space_of_by text s path (space_of text s) refl (sym (slice_get-map path_in text.spaces s.0) ∙ id_at text path s e)
+
+child_table : (text : ModelRecord) (name : Name) (old : SpaceRecord) (table table' : Kinds) → Tells text old table → own_member text name old ≡ None → ((lookup (same_name name) table ≡ Some kind.Child) × (table' ≡ table)) ⊎ (table' ≡ define same_name table name kind.Child) → Tells (grown text (old.path ++ name ∷ [])) old table'
+child_table text name old table table' tells none (inl h) =
+    let f : Some kind.Child ≡ None = sym h.0 ∙ tells name ∙ ap (option_map kind_of) none in absurd (cc)
+child_table text name old table table' tells none (inr e) =
+    let P : Kinds → Type 0 = λ t. Tells (grown text (old.path ++ name ∷ [])) old t in subst P (sym e) (child_tells text name old table tells none)
+
+-- the tables with the child in that of its parent
+pub with_child : (text : ModelRecord) (tables : List Kinds) (parent : Path) (name : Name) (s : SpaceId) (table table' : Kinds) → ArePlaced tables text → id_of text parent ≡ Some s → slice_get tables s.0 ≡ Some table → ((r : SpaceRecord) → space_at text parent ≡ Some r → own_member text name r ≡ None) → ((lookup (same_name name) table ≡ Some kind.Child) × (table' ≡ table)) ⊎ (table' ≡ define same_name table name kind.Child) → TellAll (grown text (parent ++ name ∷ [])) text.spaces (set tables s.0 table')
+with_child text tables parent name s table table' x id at own child =
+    let f = space_of_id text parent s id in
+    let none = own f.old (ap (option_and_then (space_of text)) id ∙ f.is) in
+    let tells = tells_at text text.spaces tables s.0 f.old table x.kinds f.is at in
+    let P : Path → Type 0 = λ p. TellAll (grown text (p ++ name ∷ [])) text.spaces (set tables s.0 table') in
+    subst P f.at (parent_tells text name text.spaces tables s.0 f.old table' x.once f.is (child_table text name f.old table table' tells none child) x.kinds)
+
+none_id : (o : Option SpaceId) → o ≡ None → IsTrue (is_some o) → ⊥
+none_id None e t = let f : false ≡ true = t in absurd (cc)
+none_id (Some s) e t = let f : Some s ≡ None = e in absurd (cc)
+
+-- a space at the top has no parent
+pub without_parent : (text : ModelRecord) (tables : List Kinds) (parent : Path) (name : Name) → ArePlaced tables text → id_of text parent ≡ None → (parent ≡ []) ⊎ IsDefined text parent → TellAll (grown text (parent ++ name ∷ [])) text.spaces tables
+without_parent text tables parent name x none (inl e) =
+    let P : Path → Type 0 = λ p. TellAll (grown text (p ++ name ∷ [])) text.spaces tables in subst P (sym e) (top_tells text tables name x)
+without_parent text tables parent name x none (inr d) = absurd (none_id (id_of text parent) none d)
+
+-- all together, as code puts it together
+pub grown_built : (text text' : ModelRecord) (tables tables' tables'' : List Kinds) (parent : Path) (name : Name) → ArePlaced tables text → (parent ≡ []) ⊎ IsDefined text parent → (IsDefined text (parent ++ name ∷ []) → ⊥) → length text.spaces + 1 < 2 ^ 32 → TellAll (grown text (parent ++ name ∷ [])) text.spaces tables' → tables'' ≡ tables' ++ [] ∷ [] → text' ≡ grown text (parent ++ name ∷ []) → ArePlaced tables'' text'
+grown_built text text' tables tables' tables'' parent name x held free few t e is =
+    let P : ModelRecord → Type 0 = λ z. ArePlaced tables'' z in
+    let Q : List Kinds → Type 0 = λ ts. ArePlaced ts (grown text (parent ++ name ∷ [])) in
+    subst P (sym is) (subst Q (sym e) (grown_placed text tables tables' parent name x held free few t))

@@ -1,10 +1,10 @@
 -- One space in the place of another of the same path.
-use Rattle.std.proofs.Common.{◌≡◌, ℕ, zero, suc, ◌<◌, ◌^◌, Bool, true, false, List, [], ◌∷◌, ◌++◌, map, length, set, get_or, Option, Some, None, slice_get, inl, inr, refl, sym, ◌∙◌, ap, subst}
+use Rattle.std.proofs.Common.{◌≡◌, ℕ, zero, suc, ◌<◌, ◌^◌, Bool, true, false, List, [], ◌∷◌, ◌++◌, map, length, set, get_or, Option, Some, None, slice_get, inl, inr, refl, sym, ◌∙◌, ap, subst, arith}
 use Rattle.std.specs.Prelude.{IsTrue, is_some, position, option_map, if◌then◌else◌}
 use Rattle.std.specs.List.{filter_map}
 use Rattle.std.specs.Map.{lookup}
-use Rattle.std.proofs.lemmas.Option.{same_Some, slice_get-map, slice_get-get_or}
-use Rattle.std.proofs.lemmas.List.{length-set}
+use Rattle.std.proofs.lemmas.Option.{same_Some, slice_get-map, slice_get-get_or, slice_get_within}
+use Rattle.std.proofs.lemmas.List.{length-set, set-get_or}
 use Rattle.mx_value.specs.Name.{same_name, same_path}
 use Rattle.mx_value.proofs.NodeSames.{path_decides}
 use Rattle.mx_c3.specs.declared.space.SpaceId.{SpaceId}
@@ -23,6 +23,7 @@ use Rattle.mx_model.specs.Parents.{HasParent}
 use Rattle.mx_model.specs.Paths.{split_last}
 use Rattle.mx_model.specs.Indexed.{Kinds, Tells, TellAll, ArePlaced, IsIndexed}
 use Rattle.mx_model.proofs.Filtered.{place_has, has_map}
+use Rattle.mx_model.proofs.KindLemmas.{tables_many, tells_at}
 use Rattle.mx_model.proofs.Places.{id_at}
 
 abbrev made : ℕ → SpaceId
@@ -145,7 +146,7 @@ at_path text path f s old d is at =
 abbrev lists_of : List SpaceRecord → List (List SpaceId)
 lists_of spaces = base_lists (record { spaces = spaces; globals = []; inputs = []; tables = [] })
 
-placed_same : (tables tables' : List Kinds) (text text' : ModelRecord) → tables' ≡ tables → text'.spaces ≡ text.spaces → ArePlaced tables text → ArePlaced tables' text'
+pub placed_same : (tables tables' : List Kinds) (text text' : ModelRecord) → tables' ≡ tables → text'.spaces ≡ text.spaces → ArePlaced tables text → ArePlaced tables' text'
 placed_same tables tables' text text' t s x =
     let paths : paths_of text' ≡ paths_of text = ap (map (λ (s : SpaceRecord). s.path)) s in
     let P : List Path → Type 0 = λ ps. Distinct ps in
@@ -188,3 +189,31 @@ put_changed text text' path change s new new' spaces d id within made same_space
     let at : slice_get text.spaces s.0 ≡ Some old = slice_get-get_or text.spaces s.0 new within in
     let put = is ∙ ap (λ (z : List SpaceRecord). set z s.0 new') same_spaces ∙ ap (set text.spaces s.0) (same ∙ made old at) in
     same_text text' (with_put text s.0 (change old)) put g i t ∙ sym (at_path text path change s old d id at)
+
+-- ---- other bases
+
+-- a space with other bases can stand in the place of one
+pub bases_placed : (text text' : ModelRecord) (tables tables' : List Kinds) (spaces : List SpaceRecord) (s : SpaceId) (first new : SpaceRecord) (bases : List Path) → ArePlaced tables text → tables' ≡ tables → spaces ≡ text.spaces → space_of text s ≡ Some first → new ≡ record first { bases = bases } → text' ≡ record text { spaces = set spaces s.0 new } → ArePlaced tables' text'
+bases_placed text text' tables tables' spaces s first new bases x t same at is e =
+    let many = tables_many text text.spaces tables x.kinds in
+    let within = slice_get_within text.spaces s.0 first at in
+    let below : s.0 < length tables = omega arith in
+    let table = get_or tables s.0 [] in
+    let tells = tells_at text text.spaces tables s.0 first table x.kinds at (slice_get-get_or tables s.0 [] below) in
+    let put = put_placed tables text s.0 first (record first { bases = bases }) table x at refl tells in
+    let P : List Kinds → Type 0 = λ ts. ArePlaced ts (with_put text s.0 (record first { bases = bases })) in
+    let Q : ModelRecord → Type 0 = λ z. ArePlaced tables' z in
+    let built = e ∙ ap (λ (z : List SpaceRecord). record text { spaces = set z s.0 new }) same ∙ ap (with_put text s.0) is in
+    subst Q (sym built) (subst P (set-get_or tables s.0 [] ∙ sym t) put)
+
+pub bases_changed : (text : ModelRecord) (path : Path) (spaces : List SpaceRecord) (s : SpaceId) (first new : SpaceRecord) (bases : List Path) → Distinct (paths_of text) → id_of text path ≡ Some s → spaces ≡ text.spaces → space_of text s ≡ Some first → new ≡ record first { bases = bases } → record text { spaces = set spaces s.0 new } ≡ at_space text path (λ (z : SpaceRecord). record z { bases = bases })
+bases_changed text path spaces s first new bases d id same at is =
+    ap (λ (z : List SpaceRecord). record text { spaces = set z s.0 new }) same ∙ ap (with_put text s.0) is ∙ sym (at_path text path (λ (z : SpaceRecord). record z { bases = bases }) s first d id at)
+
+-- the paths of a text are known by its index
+pub index_of : (keys : List Path) (lists : List (List SpaceId)) (text : ModelRecord) (tables : List Kinds) → ArePlaced tables text → keys ≡ paths_of text → lists ≡ lists_in keys text.spaces → IsIndexed keys lists tables text
+index_of keys lists text tables x k l = record {
+  paths = k;
+  bases = l ∙ ap (λ (ps : List Path). lists_in ps text.spaces) k;
+  placed = x;
+}

@@ -1,13 +1,13 @@
 -- What a text keeps beside its record, so that spaces, their bases and the kinds of their members are found by hash and by
 -- place.
-use Rattle.std.specs.Prelude.{◌≡◌, ◌<◌, ◌^◌, List, [], ◌∷◌, length, option_map}
+use Rattle.std.specs.Prelude.{◌≡◌, ◌<◌, ◌^◌, List, [], ◌∷◌, length, Some, option_map}
 use Rattle.std.specs.Map.{lookup}
 use Rattle.mx_value.specs.Name.{same_name}
 use Rattle.mx_c3.specs.Lists.{Has, Distinct}
 use Rattle.mx_c3.specs.declared.space.SpaceId.{SpaceId}
 use Rattle.mx_model.specs.declared.kind.Kind.{Kind}
 use Rattle.mx_model.specs.Records.{Name, Path, SpaceRecord, ModelRecord}
-use Rattle.mx_model.specs.Layers.{paths_of, base_lists}
+use Rattle.mx_model.specs.Layers.{paths_of, space_of, base_lists}
 use Rattle.mx_model.specs.Paths.{split_last}
 use Rattle.mx_model.specs.Parents.{HasParent}
 use Rattle.mx_model.specs.Binding.{own_member}
@@ -20,6 +20,10 @@ Kinds = List (Name × Kind)
 -- a table tells what a space has itself of each name
 abbrev pub Tells : ModelRecord → SpaceRecord → Kinds → Type 0
 Tells text s kinds = (name : Name) → lookup (same_name name) kinds ≡ option_map kind_of (own_member text name s)
+
+-- it tells what the space at a place has
+abbrev pub TellsAt : ModelRecord → SpaceId → Kinds → Type 0
+TellsAt text at kinds = (s : SpaceRecord) → space_of text at ≡ Some s → Tells text s kinds
 
 -- each of the tables tells its space
 abbrev pub TellAll : ModelRecord → List SpaceRecord → List Kinds → Type 0

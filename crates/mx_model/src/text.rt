@@ -9,7 +9,7 @@ ghost use Rattle.mx_model.specs.Lookup.{kind_in, kind_of};
 ghost use Rattle.mx_model.specs.Binding.{own_member};
 ghost use Rattle.mx_model.specs.Change.{define, without, at_space};
 ghost use Rattle.mx_model.specs.Kept.{KeepsOthers, StaysInPlace};
-ghost use Rattle.mx_model.specs.Indexed.{Tells};
+ghost use Rattle.mx_model.specs.Indexed.{Tells, TellsAt};
 ghost use Rattle.mx_model.specs.Readers.{path_in, formula_in, allows_in, reference_in, params_in, name_at, cells_at, reference_at};
 
 use crate::kind::Kind;
@@ -35,15 +35,15 @@ use std::marker::Model;
 #[derive(Drop)]
 pub struct ModelText {
     /// The paths of the spaces, in order of creation, by hash.
-    paths: Shared<IndexSet<Path>>,
-    spaces: Vec<Shared<Space>>,
+    pub(crate) paths: Shared<IndexSet<Path>>,
+    pub(crate) spaces: Vec<Shared<Space>>,
     /// What each space has itself of each name, by its place.
-    kinds: Vec<Shared<Members<Kind>>>,
+    pub(crate) kinds: Vec<Shared<Members<Kind>>>,
     /// The bases of each space by its place.
-    lists: Shared<BaseLists>,
-    globals: Shared<Members<RefValue>>,
-    inputs: Shared<IndexMap<Node, Shared<Value>>>,
-    tables: Shared<Members<Table>>,
+    pub(crate) lists: Shared<BaseLists>,
+    pub(crate) globals: Shared<Members<RefValue>>,
+    pub(crate) inputs: Shared<IndexMap<Node, Shared<Value>>>,
+    pub(crate) tables: Shared<Members<Table>>,
 }
 
 impl Model for ModelText {
@@ -291,6 +291,14 @@ impl ModelText {
         }
     }
 
+    /// What a space has itself of each name.
+    pub(crate) fn kinds_at(&self, s: SpaceId) -> Result<Shared<Members<Kind>>, AllocError>
+        requires { s.0 < length self.now.spaces }
+        ensures { IfOk result (λ kinds. TellsAt self.now s kinds) }
+    {
+        self.kinds[s.0 as usize].copy()
+    }
+
     /// The kinds of a space that differs from the one at a place under one name alone.
     pub(crate) fn kinds_of(
         &self,
@@ -360,7 +368,7 @@ impl ModelText {
 }
 
 /// Kinds in which a name has this kind.
-fn define_kind(
+pub(crate) fn define_kind(
     alloc: Global,
     kinds: &Shared<Members<Kind>>,
     name: &Label,
@@ -377,7 +385,7 @@ fn define_kind(
 }
 
 /// Kinds without a name.
-fn remove_kind(
+pub(crate) fn remove_kind(
     alloc: Global,
     kinds: &Shared<Members<Kind>>,
     name: &Label,
@@ -390,7 +398,10 @@ fn remove_kind(
 }
 
 /// The same items, shared.
-fn copy_all<T: Drop>(alloc: Global, items: &[Shared<T>]) -> Result<Vec<Shared<T>>, AllocError>
+pub(crate) fn copy_all<T: Drop>(
+    alloc: Global,
+    items: &[Shared<T>],
+) -> Result<Vec<Shared<T>>, AllocError>
     ensures { IfOk result (λ copies. copies.items ≡ items.now) }
 {
     let mut copies = Vec::new(alloc);
