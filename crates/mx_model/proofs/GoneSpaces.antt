@@ -1,5 +1,5 @@
 -- Spaces that go with all below them: what stands beside the others.
-use Rattle.std.proofs.Common.{◌≡◌, ℕ, zero, suc, ◌+◌, ◌<◌, ◌≤◌, ◌^◌, Bool, true, false, not, ◌&&◌, List, [], ◌∷◌, ◌++◌, map, length, filter, take, slice_get, Option, Some, None, Result, IfOk, ◌⊎◌, inl, inr, refl, sym, ◌∙◌, ap, subst, arith}
+use Rattle.std.proofs.Common.{◌≡◌, ℕ, ◌+◌, ◌≤◌, Bool, true, false, not, ◌&&◌, List, [], ◌∷◌, ◌++◌, map, length, filter, take, slice_get, Option, Some, None, Result, IfOk, inl, inr, refl, sym, ◌∙◌, ap, subst, arith}
 use Rattle.std.specs.Prelude.{IsTrue, option_map, if◌then◌else◌}
 use Rattle.std.specs.Map.{lookup}
 use Rattle.std.proofs.lemmas.List.{append-nil, take_more, take_all}
@@ -8,17 +8,14 @@ use Rattle.std.specs.Cmp.Lexicographic.{pointwise}
 use Rattle.mx_value.specs.Name.{same_name}
 use Rattle.mx_c3.specs.Lists.{Has, Distinct}
 use Rattle.mx_edit.specs.declared.reference.RefValue.{RefValue}
-use Rattle.mx_model.specs.declared.kind.Kind.{Kind}
 use Rattle.mx_model.specs.declared.kind.Kind.TheVariants as kind
 use Rattle.mx_model.specs.Records.{Name, Path, CellsRecord, SpaceRecord, ModelRecord}
-use Rattle.mx_model.specs.Layers.{paths_of}
 use Rattle.mx_model.specs.Paths.{split_last, is_defined}
-use Rattle.mx_model.specs.Binding.{Member, Cells, Reference, Child, own_child, or_child, or_other, own_member}
+use Rattle.mx_model.specs.Binding.{Member, Child, or_child, or_other, own_member}
 use Rattle.mx_model.specs.Change.{is_within}
 use Rattle.mx_model.specs.Kept.{LosesChild, IsLeft, NoParent, Parent}
 use Rattle.mx_model.specs.Lookup.{kind_of}
 use Rattle.mx_model.specs.Parents.{HasParent}
-use Rattle.mx_model.specs.Rings.{IsDefined}
 use Rattle.mx_model.specs.Indexed.{Kinds, Tells, TellAll, ArePlaced}
 use Rattle.mx_model.proofs.Defined.{split_is, same_ends, defined_has, same_defined, own_defined}
 use Rattle.mx_model.proofs.NameLemmas.{same_is, is_same, without_other}

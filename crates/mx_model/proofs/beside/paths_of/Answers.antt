@@ -1,4 +1,4 @@
-use Rattle.std.proofs.Common.{◌≡◌, ◌∙◌, ap, refl, map, length, Some, slice_get}
+use Rattle.std.proofs.Common.{◌∙◌, ap, refl, map, length}
 use Rattle.std.proofs.lemmas.Option.{slice_get_read, slice_get-map}
 use Rattle.std.specs.Prelude.{option_map}
 use Rattle.mx_model.specs.Records.{Path, SpaceRecord}

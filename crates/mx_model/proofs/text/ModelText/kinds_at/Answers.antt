@@ -1,4 +1,4 @@
-use Rattle.std.proofs.Common.{◌≡◌, ap, sym, subst, length, arith}
+use Rattle.std.proofs.Common.{◌≡◌, sym, subst, length, arith}
 use Rattle.std.proofs.lemmas.Option.{slice_get_read}
 use Rattle.mx_model.specs.Records.{ModelRecord}
 use Rattle.mx_model.specs.Indexed.{TellAll}

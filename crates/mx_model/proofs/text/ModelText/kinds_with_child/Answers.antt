@@ -1,4 +1,4 @@
-use Rattle.std.proofs.Common.{◌≡◌, ◌∙◌, ◌<◌, List, [], ◌∷◌, ◌++◌, ap, sym, subst, length, set, arith}
+use Rattle.std.proofs.Common.{◌≡◌, ◌∙◌, ◌<◌, List, ap, sym, subst, length, set, arith}
 use Rattle.std.proofs.lemmas.Option.{slice_get_read}
 use Rattle.mx_edit.specs.declared.edit.Edit.TheVariants as edit
 use Rattle.mx_model.specs.Records.{ModelRecord}

@@ -1,4 +1,4 @@
-use Rattle.std.proofs.Common.{◌≡◌, ◌∙◌, ◌+◌, ◌<◌, ◌^◌, List, [], ◌∷◌, ◌++◌, ap, sym, subst, length, arith}
+use Rattle.std.proofs.Common.{◌≡◌, ◌∙◌, ◌+◌, ◌<◌, ◌^◌, List, [], ◌∷◌, ◌++◌, ap, subst, length, arith}
 use Rattle.mx_model.specs.Records.{Path, SpaceRecord, ModelRecord, empty_space}
 use Rattle.mx_model.specs.Indexed.{Kinds, ArePlaced}
 use Rattle.mx_model.proofs.NewSpaces.{grown_built}

@@ -1,10 +1,5 @@
-use Rattle.std.proofs.Common.{sym, ◌∙◌, ap}
-use Rattle.std.specs.Prelude.{option_and_then}
-use Rattle.std.specs.Map.{lookup}
-use Rattle.mx_value.specs.Name.{same_name}
-use Rattle.mx_c3.specs.declared.space.SpaceId.{SpaceId}
+use Rattle.std.proofs.Common.{sym}
 use Rattle.mx_model.specs.Records.{SpaceRecord}
-use Rattle.mx_model.specs.Layers.{space_of}
 use Rattle.mx_model.specs.Change.{set_allow}
 use Rattle.mx_model.proofs.EditLemmas.{keeps_at, made_at, allowed_keeps, some_cells}
 use Rattle.mx_model.proofs.text.ModelText.with_setting.Goals as goal
