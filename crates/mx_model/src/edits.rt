@@ -28,8 +28,10 @@ impl ModelText {
         name: &Label,
     ) -> Result<ModelText, AllocError>
         requires within { s.0 < length self.now.spaces }
-        requires others { (old : SpaceRecord) → space_of self.now s ≡ Some old → KeepsOthers name.now old space }
-        ensures { (path : SpacePath) (change : SpaceRecord → SpaceRecord) → id_of self.now path ≡ Some s →
+        requires others { (old : SpaceRecord) →
+            space_of self.now s ≡ Some old → KeepsOthers name.now old space }
+        ensures { (path : SpacePath) (change : SpaceRecord → SpaceRecord) →
+            id_of self.now path ≡ Some s →
             ((old : SpaceRecord) → space_of self.now s ≡ Some old → space ≡ change old) →
             IfOk result (λ t. t ≡ at_space self.now path change) }
     {
@@ -46,7 +48,8 @@ impl ModelText {
         formula: &Formula,
     ) -> Result<ModelText, AllocError>
         requires { IsTrue (is_defined self.now path.now) }
-        ensures { IfOk result (λ t. t ≡ change self.now (edit.SetCells path.now name.now formula.now)) }
+        ensures { let e = edit.SetCells path.now name.now formula.now in
+            IfOk result (λ t. t ≡ change self.now e) }
     {
         let Some(s) = self.id_of(path) else {
             unreachable!()
@@ -80,8 +83,10 @@ impl ModelText {
         name: &Label,
         allow_none: bool,
     ) -> Result<ModelText, AllocError>
-        requires { IsTrue (is_some (option_and_then (λ (s : SpaceRecord). lookup (same_name name.now) s.cells) (space_at self.now path.now))) }
-        ensures { IfOk result (λ t. t ≡ change self.now (edit.SetAllowNone path.now name.now allow_none)) }
+        requires { let cells = λ (s : SpaceRecord). lookup (same_name name.now) s.cells in
+            IsTrue (is_some (option_and_then cells (space_at self.now path.now))) }
+        ensures { let e = edit.SetAllowNone path.now name.now allow_none in
+            IfOk result (λ t. t ≡ change self.now e) }
     {
         let Some(s) = self.id_of(path) else {
             unreachable!()
@@ -99,7 +104,8 @@ impl ModelText {
         value: &RefValue,
     ) -> Result<ModelText, AllocError>
         requires { IsTrue (is_defined self.now path.now) }
-        ensures { let change = λ (s : SpaceRecord). record s { references = define same_name s.references name.now value.now } in
+        ensures { let change = λ (s : SpaceRecord).
+            record s { references = define same_name s.references name.now value.now } in
             IfOk result (λ t. t ≡ at_space self.now path.now change) }
     {
         let Some(s) = self.id_of(path) else {
@@ -117,7 +123,8 @@ impl ModelText {
         name: &Label,
     ) -> Result<ModelText, AllocError>
         requires { IsTrue (is_defined self.now path.now) }
-        ensures { let change = λ (s : SpaceRecord). record s { references = without same_name s.references name.now } in
+        ensures { let change = λ (s : SpaceRecord).
+            record s { references = without same_name s.references name.now } in
             IfOk result (λ t. t ≡ at_space self.now path.now change) }
     {
         let Some(s) = self.id_of(path) else {

@@ -93,7 +93,8 @@ impl Space {
         name: &Label,
         formula: &Formula,
     ) -> Result<Space, AllocError>
-        ensures { IfOk result (λ s. s ≡ record self.now { cells = define_cells self.now.cells name.now formula.now }) }
+        ensures { let cells = define_cells self.now.cells name.now formula.now in
+            IfOk result (λ s. s ≡ record self.now { cells = cells }) }
     {
         let allow_none = self.allows_none(name);
         let formula = Compiled::new(alloc, copy_formula(formula)?)?;
@@ -108,7 +109,8 @@ impl Space {
 
     /// The space without the cells of a name.
     pub fn without_cells(&self, alloc: Global, name: &Label) -> Result<Space, AllocError>
-        ensures { IfOk result (λ s. s ≡ record self.now { cells = without same_name self.now.cells name.now }) }
+        ensures { let cells = without same_name self.now.cells name.now in
+            IfOk result (λ s. s ≡ record self.now { cells = cells }) }
     {
         let mut cells = self.cells.get().copy(alloc)?;
         cells.remove(name);
@@ -123,7 +125,8 @@ impl Space {
         allow_none: bool,
     ) -> Result<Space, AllocError>
         requires { IsTrue (is_some (lookup (same_name name.now) self.now.cells)) }
-        ensures { IfOk result (λ s. s ≡ record self.now { cells = set_allow self.now.cells name.now allow_none }) }
+        ensures { let cells = set_allow self.now.cells name.now allow_none in
+            IfOk result (λ s. s ≡ record self.now { cells = cells }) }
     {
         let Some(old) = self.cells(name) else {
             unreachable!()
@@ -144,7 +147,8 @@ impl Space {
         name: &Label,
         value: &RefValue,
     ) -> Result<Space, AllocError>
-        ensures { IfOk result (λ s. s ≡ record self.now { references = define same_name self.now.references name.now value.now }) }
+        ensures { let references = define same_name self.now.references name.now value.now in
+            IfOk result (λ s. s ≡ record self.now { references = references }) }
     {
         let mut references = self.references.get().copy(alloc)?;
         references.define(name.copy()?, value.copy()?)?;
@@ -153,7 +157,8 @@ impl Space {
 
     /// The space without the reference of a name.
     pub fn without_reference(&self, alloc: Global, name: &Label) -> Result<Space, AllocError>
-        ensures { IfOk result (λ s. s ≡ record self.now { references = without same_name self.now.references name.now }) }
+        ensures { let references = without same_name self.now.references name.now in
+            IfOk result (λ s. s ≡ record self.now { references = references }) }
     {
         let mut references = self.references.get().copy(alloc)?;
         references.remove(name);

@@ -73,8 +73,10 @@ impl ModelText {
         name: &Label,
     ) -> Result<Vec<Shared<Members<Kind>>>, AllocError>
         requires held { (parent.now ≡ []) ⊎ IsDefined self.now parent.now }
-        requires own { (s : SpaceRecord) → space_at self.now parent.now ≡ Some s → own_member self.now name.now s ≡ None }
-        ensures { IfOk result (λ kinds. TellAll (change self.now (edit.NewSpace parent.now name.now)) self.now.spaces kinds.items) }
+        requires own { (s : SpaceRecord) →
+            space_at self.now parent.now ≡ Some s → own_member self.now name.now s ≡ None }
+        ensures { let changed = change self.now (edit.NewSpace parent.now name.now) in
+            IfOk result (λ kinds. TellAll changed self.now.spaces kinds.items) }
     {
         match self.id_of(parent) {
             Some(s) => {
@@ -97,7 +99,8 @@ impl ModelText {
     ) -> Result<ModelText, AllocError>
         requires held { (parent.now ≡ []) ⊎ IsDefined self.now parent.now }
         requires free { IsDefined self.now (parent.now ++ name.now ∷ []) → ⊥ }
-        requires own { (s : SpaceRecord) → space_at self.now parent.now ≡ Some s → own_member self.now name.now s ≡ None }
+        requires own { (s : SpaceRecord) →
+            space_at self.now parent.now ≡ Some s → own_member self.now name.now s ≡ None }
         ensures { IfOk result (λ t. t ≡ change self.now (edit.NewSpace parent.now name.now)) }
     {
         if self.spaces.len() >= u32::MAX as usize {
@@ -139,7 +142,8 @@ fn is_within(path: &Path, other: &Path) -> bool
 
 /// The last name of a path just below another one.
 fn child_name<'a>(path: &'a Path, parent: &Path) -> Option<&'a Label>
-    ensures { MatchOption result ((name : Name) → path.now ≡ parent.now ++ name ∷ [] → ⊥) (λ name. path.now ≡ parent.now ++ name.now ∷ []) }
+    ensures { MatchOption result ((name : Name) → path.now ≡ parent.now ++ name ∷ [] → ⊥)
+        (λ name. path.now ≡ parent.now ++ name.now ∷ []) }
 {
     match path.as_slice() {
         [names @ .., last] => {

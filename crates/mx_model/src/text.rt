@@ -274,7 +274,8 @@ impl ModelText {
         space: &Space,
         name: &Label,
     ) -> Result<Option<Kind>, AllocError>
-        ensures { IfOk result (λ kind. kind ≡ option_map kind_of (own_member self.now name.now space.now)) }
+        ensures { let own = own_member self.now name.now space.now in
+            IfOk result (λ kind. kind ≡ option_map kind_of own) }
     {
         match space.cells(name) {
             Some(_) => return Ok(Some(Kind::Cells)),
@@ -308,7 +309,8 @@ impl ModelText {
         name: &Label,
     ) -> Result<Shared<Members<Kind>>, AllocError>
         requires within { s.0 < length self.now.spaces }
-        requires others { (old : SpaceRecord) → space_of self.now s ≡ Some old → KeepsOthers name.now old space.now }
+        requires others { (old : SpaceRecord) →
+            space_of self.now s ≡ Some old → KeepsOthers name.now old space.now }
         ensures { IfOk result (λ kinds. Tells self.now space.now kinds) }
     {
         let kinds = &self.kinds[s.0 as usize];
@@ -327,9 +329,11 @@ impl ModelText {
         kinds: Shared<Members<Kind>>,
     ) -> Result<ModelText, AllocError>
         requires within { s.0 < length self.now.spaces }
-        requires stays { (old : SpaceRecord) → space_of self.now s ≡ Some old → StaysInPlace old space }
+        requires stays { (old : SpaceRecord) →
+            space_of self.now s ≡ Some old → StaysInPlace old space }
         requires tells { Tells self.now space kinds }
-        ensures { (path : SpacePath) (change : SpaceRecord → SpaceRecord) → id_of self.now path ≡ Some s →
+        ensures { (path : SpacePath) (change : SpaceRecord → SpaceRecord) →
+            id_of self.now path ≡ Some s →
             ((old : SpaceRecord) → space_of self.now s ≡ Some old → space ≡ change old) →
             IfOk result (λ t. t ≡ at_space self.now path change) }
     {
@@ -374,7 +378,9 @@ pub(crate) fn define_kind(
     name: &Label,
     kind: Kind,
 ) -> Result<Shared<Members<Kind>>, AllocError>
-    ensures { IfOk result (λ defined. (lookup (same_name name.now) kinds.now ≡ Some kind × (defined ≡ kinds.now)) ⊎ (defined ≡ define same_name kinds.now name.now kind)) }
+    ensures { IfOk result (λ defined.
+        (lookup (same_name name.now) kinds.now ≡ Some kind × (defined ≡ kinds.now)) ⊎
+        (defined ≡ define same_name kinds.now name.now kind)) }
 {
     if kinds.get().get(name) == Some(&kind) {
         return kinds.copy();
@@ -390,7 +396,8 @@ pub(crate) fn remove_kind(
     kinds: &Shared<Members<Kind>>,
     name: &Label,
 ) -> Result<Shared<Members<Kind>>, AllocError>
-    ensures { IfOk result (λ rest. (rest ≡ without same_name kinds.now name.now) × (lookup (same_name name.now) rest ≡ None)) }
+    ensures { IfOk result (λ rest.
+        (rest ≡ without same_name kinds.now name.now) × (lookup (same_name name.now) rest ≡ None)) }
 {
     let mut rest = kinds.get().copy(alloc)?;
     rest.remove(name);
