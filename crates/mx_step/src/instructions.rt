@@ -17,7 +17,6 @@ use mx_whole_ops::arithmetic;
 use std::alloc::{AllocError, Global};
 
 /// The two topmost values, the lower one first.
-#[inline(always)]
 fn pop_two(stack: &mut Stack) -> Result<(Value, Value), AllocError>
     ensures { IfOk result (λ p. stack.old ≡ on_top (with_value p.1 (with_value p.0 stack.new.top)) stack.new) }
 {
@@ -27,7 +26,6 @@ fn pop_two(stack: &mut Stack) -> Result<(Value, Value), AllocError>
 }
 
 /// The topmost value. Code that does a formula never takes one that is not there.
-#[inline(always)]
 pub fn pop_one(stack: &mut Stack) -> Result<Value, AllocError>
     ensures { IfOk result (λ v. stack.old ≡ on_top (with_value v stack.new.top) stack.new) }
 {
@@ -38,7 +36,6 @@ pub fn pop_one(stack: &mut Stack) -> Result<Value, AllocError>
 }
 
 /// The run goes on with one more value.
-#[inline(always)]
 pub fn leave(stack: &mut Stack, value: Value) -> Result<Reached, AllocError>
     ensures { IfOk result (λ r. (r ≡ Reached.Goes) × (stack.new ≡ on_top (state (stack.old.top.pc + 1) (value ∷ stack.old.top.stack) stack.old.top.locals) stack.old)) }
 {
@@ -48,7 +45,6 @@ pub fn leave(stack: &mut Stack, value: Value) -> Result<Reached, AllocError>
 }
 
 /// The run goes on with the value that was computed, or ends in the fault that came of it.
-#[inline(always)]
 fn leave_computed(
     stack: &mut Stack,
     computed: Result<Value, FaultKind>,
@@ -63,7 +59,6 @@ fn leave_computed(
 }
 
 /// Leaves a value of the code's pool.
-#[inline(always)]
 pub fn constant(
     alloc: Global,
     stack: &mut Stack,
@@ -78,7 +73,6 @@ pub fn constant(
 }
 
 /// A value of the code's pool. Each place that the code names has one.
-#[inline(always)]
 fn pooled(alloc: Global, code: &Code, place: usize) -> Result<Value, AllocError>
     ensures { IfOk result (λ v. v ≡ get_or code.now.constants place Nothing) }
 {
@@ -88,7 +82,6 @@ fn pooled(alloc: Global, code: &Code, place: usize) -> Result<Value, AllocError>
     }
 }
 
-#[inline(always)]
 pub fn local(alloc: Global, stack: &mut Stack, place: usize) -> Result<Reached, AllocError>
     ensures came { IfOk result (λ r. (w : Home) (line : ℕ) → next_of w (act.Local place) line stack.old.top ≡ read_as w line r stack.new.top) }
     ensures below { OnOk result (stack.new.below ≡ stack.old.below) }
@@ -101,7 +94,6 @@ pub fn local(alloc: Global, stack: &mut Stack, place: usize) -> Result<Reached, 
     leave(stack, value)
 }
 
-#[inline(always)]
 pub fn sum(stack: &mut Stack, op: SumOp) -> Result<Reached, AllocError>
     ensures came { IfOk result (λ r. (w : Home) (line : ℕ) → next_of w (act.Sum op) line stack.old.top ≡ read_as w line r stack.new.top) }
     ensures below { OnOk result (stack.new.below ≡ stack.old.below) }
@@ -110,7 +102,6 @@ pub fn sum(stack: &mut Stack, op: SumOp) -> Result<Reached, AllocError>
     leave_computed(stack, arithmetic::add(op, &left, &right))
 }
 
-#[inline(always)]
 pub fn product(stack: &mut Stack, op: ProductOp) -> Result<Reached, AllocError>
     ensures came { IfOk result (λ r. (w : Home) (line : ℕ) → next_of w (act.Product op) line stack.old.top ≡ read_as w line r stack.new.top) }
     ensures below { OnOk result (stack.new.below ≡ stack.old.below) }
@@ -136,7 +127,6 @@ pub fn negate(stack: &mut Stack, count: u32) -> Result<Reached, AllocError>
 }
 
 /// The last comparison of a chain.
-#[inline(always)]
 pub fn compare_last(stack: &mut Stack, op: CmpOp) -> Result<Reached, AllocError>
     ensures came { IfOk result (λ r. (w : Home) (line : ℕ) → next_of w (act.Compare op) line stack.old.top ≡ read_as w line r stack.new.top) }
     ensures below { OnOk result (stack.new.below ≡ stack.old.below) }
@@ -149,7 +139,6 @@ pub fn compare_last(stack: &mut Stack, op: CmpOp) -> Result<Reached, AllocError>
 }
 
 /// A comparison with others behind it, which it passes where it does not hold.
-#[inline(always)]
 pub fn compare_on(stack: &mut Stack, op: CmpOp, count: usize) -> Result<Reached, AllocError>
     ensures came { IfOk result (λ r. (w : Home) (line : ℕ) → next_of w (act.Chain op count) line stack.old.top ≡ read_as w line r stack.new.top) }
     ensures below { OnOk result (stack.new.below ≡ stack.old.below) }
@@ -162,7 +151,6 @@ pub fn compare_on(stack: &mut Stack, op: CmpOp, count: usize) -> Result<Reached,
     }
 }
 
-#[inline(always)]
 pub fn jump(stack: &mut Stack, count: usize) -> Result<Reached, AllocError>
     ensures came { IfOk result (λ r. (w : Home) (line : ℕ) → next_of w (act.Jump count) line stack.old.top ≡ read_as w line r stack.new.top) }
     ensures below { OnOk result (stack.new.below ≡ stack.old.below) }
@@ -171,7 +159,6 @@ pub fn jump(stack: &mut Stack, count: usize) -> Result<Reached, AllocError>
 }
 
 /// The run passes so many instructions.
-#[inline(always)]
 fn pass(stack: &mut Stack, count: usize) -> Result<Reached, AllocError>
     ensures { IfOk result (λ r. (r ≡ Reached.Goes) × (stack.new ≡ on_top (at_past count stack.old.top) stack.old)) }
 {
@@ -180,7 +167,6 @@ fn pass(stack: &mut Stack, count: usize) -> Result<Reached, AllocError>
 }
 
 /// The run passes so many instructions with one more value.
-#[inline(always)]
 fn jump_with(stack: &mut Stack, count: usize, value: Value) -> Result<Reached, AllocError>
     ensures { IfOk result (λ r. (r ≡ Reached.Goes) × (stack.new ≡ on_top (at_past count (with_value value stack.old.top)) stack.old)) }
 {
@@ -189,7 +175,6 @@ fn jump_with(stack: &mut Stack, count: usize, value: Value) -> Result<Reached, A
     Ok(Reached::Goes)
 }
 
-#[inline(always)]
 pub fn jump_unless(stack: &mut Stack, count: usize) -> Result<Reached, AllocError>
     ensures came { IfOk result (λ r. (w : Home) (line : ℕ) → next_of w (act.JumpUnless count) line stack.old.top ≡ read_as w line r stack.new.top) }
     ensures below { OnOk result (stack.new.below ≡ stack.old.below) }
@@ -203,7 +188,6 @@ pub fn jump_unless(stack: &mut Stack, count: usize) -> Result<Reached, AllocErro
 }
 
 /// Keeps the value where its truth is `keeps`, and passes so many instructions, or else drops it.
-#[inline(always)]
 pub fn decide(stack: &mut Stack, keeps: bool, count: usize) -> Result<Reached, AllocError>
     ensures came { IfOk result (λ r. (w : Home) (line : ℕ) → next_of w (decision keeps count) line stack.old.top ≡ read_as w line r stack.new.top) }
     ensures below { OnOk result (stack.new.below ≡ stack.old.below) }
@@ -222,7 +206,6 @@ pub fn decide(stack: &mut Stack, keeps: bool, count: usize) -> Result<Reached, A
 }
 
 /// The run goes on behind its instruction.
-#[inline(always)]
 pub fn step_on(stack: &mut Stack) -> Result<Reached, AllocError>
     ensures { IfOk result (λ r. (r ≡ Reached.Goes) × (stack.new ≡ on_top (state (stack.old.top.pc + 1) stack.old.top.stack stack.old.top.locals) stack.old)) }
 {
@@ -247,7 +230,6 @@ pub fn store(stack: &mut Stack, place: usize) -> Result<Reached, AllocError>
     step_on(stack)
 }
 
-#[inline(always)]
 pub fn give(stack: &mut Stack, allow: bool) -> Result<Reached, AllocError>
     ensures came { IfOk result (λ r. (w : Home) (line : ℕ) → w.allow ≡ allow → next_of w act.Return line stack.old.top ≡ read_as w line r stack.new.top) }
     ensures below { OnOk result (stack.new.below ≡ stack.old.below) }

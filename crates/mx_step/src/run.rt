@@ -19,7 +19,6 @@ use mx_value::fault::FaultKind;
 use std::alloc::{AllocError, Global};
 
 /// The instruction at a place of the code, with its line.
-#[inline(always)]
 fn instruction(code: &Code, place: usize) -> Option<(Op, u32)>
     ensures { MatchOption result (slice_get (told code.now) place ≡ None) (λ i. slice_get (told code.now) place ≡ Some (at i.1 (told_op code.now.constants code.now.names i.0))) }
 {

@@ -68,7 +68,6 @@ impl Stack {
     }
 
     /// The place of the run on top in its code.
-    #[inline(always)]
     pub fn pc(&self) -> usize
         ensures { result ≡ self.now.top.pc }
     {
@@ -76,7 +75,6 @@ impl Stack {
     }
 
     /// Takes the topmost value of the run on top.
-    #[inline(always)]
     pub fn pop(&mut self) -> Option<Value>
         ensures { MatchOption result (self.old.top.stack ≡ []) (λ v. self.old ≡ on_top (with_value v self.new.top) self.new) }
     {
@@ -87,7 +85,6 @@ impl Stack {
     }
 
     /// Puts a value on the run on top.
-    #[inline(always)]
     pub fn push(&mut self, value: Value) -> Result<(), AllocError>
         ensures { OnOk result (self.new ≡ on_top (with_value value self.old.top) self.old) }
     {
@@ -96,7 +93,6 @@ impl Stack {
     }
 
     /// The run on top goes on behind its instruction, and passes so many further ones.
-    #[inline(always)]
     pub fn pass(&mut self, count: usize) -> Result<(), AllocError>
         ensures { OnOk result (self.new ≡ on_top (at_past count self.old.top) self.old) }
     {
@@ -111,7 +107,6 @@ impl Stack {
     }
 
     /// The run on top goes on behind its instruction.
-    #[inline(always)]
     pub fn advance(&mut self) -> Result<(), AllocError>
         ensures { OnOk result (self.new ≡ on_top (at_next self.old.top) self.old) }
     {
@@ -123,7 +118,6 @@ impl Stack {
     }
 
     /// A local of the run on top, which may not be set.
-    #[inline(always)]
     pub fn local(&self, place: usize) -> Option<&Option<Value>>
         ensures { option_copied result ≡ slice_get self.now.top.locals place }
     {
@@ -134,7 +128,6 @@ impl Stack {
     }
 
     /// Sets a local of the run on top, where it has one at this place.
-    #[inline(always)]
     pub fn set_local(&mut self, place: usize, value: Value)
         ensures { self.new ≡ on_top (with_local place value self.old.top) self.old }
     {

@@ -21,7 +21,6 @@ use mx_meaning::event::Event;
 use std::alloc::{AllocError, Global};
 
 /// What comes of an instruction of the scope's code.
-#[inline(always)]
 pub fn step(
     alloc: Global,
     text: &ModelText,

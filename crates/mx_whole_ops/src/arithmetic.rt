@@ -12,7 +12,6 @@ use mx_value::rounding::{div_floor, mod_floor};
 use mx_value::value::Value;
 
 /// The whole number that a value counts as.
-#[inline(always)]
 fn number(value: &Value) -> Option<i64>
     ensures { result ≡ whole_of value.now }
 {
@@ -31,7 +30,6 @@ fn number(value: &Value) -> Option<i64>
 }
 
 /// The sum or the difference, where it has 64 bits.
-#[inline(always)]
 fn sum_number(op: SumOp, a: i64, b: i64) -> Option<i64>
     ensures { Fitting (sum_of op a b) result }
 {
@@ -64,7 +62,6 @@ fn rest_number(a: i64, b: i64) -> i64
     mod_floor(i128::from(a), i128::from(b)) as i64
 }
 
-#[inline(always)]
 pub fn add(op: SumOp, total: &Value, value: &Value) -> Result<Value, FaultKind>
     ensures { result ≡ added op total.now value.now }
 {
@@ -127,7 +124,6 @@ fn remainder(a: i64, b: i64) -> Result<Value, FaultKind>
     Ok(Value::Int(rest_number(a, b)))
 }
 
-#[inline(always)]
 pub fn compare(op: CmpOp, left: &Value, right: &Value) -> Result<bool, FaultKind>
     ensures { result ≡ compared op left.now right.now }
 {
@@ -140,7 +136,6 @@ pub fn compare(op: CmpOp, left: &Value, right: &Value) -> Result<bool, FaultKind
     compare_numbers(op, a, b)
 }
 
-#[inline(always)]
 fn compare_numbers(op: CmpOp, a: i64, b: i64) -> Result<bool, FaultKind>
     ensures { result ≡ order_of op a b }
 {
@@ -157,7 +152,6 @@ fn compare_numbers(op: CmpOp, a: i64, b: i64) -> Result<bool, FaultKind>
 }
 
 /// Whether a value counts as true.
-#[inline(always)]
 pub fn truth(value: &Value) -> Result<bool, FaultKind>
     ensures { result ≡ truth value.now }
 {
