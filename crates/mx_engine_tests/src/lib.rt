@@ -1,8 +1,6 @@
-//! Tests of the engine and of the machine under it, above the crates that they test.
+//! Tests of the engine, above the crate that they test.
 #![tactic(auto)]
 
-#[cfg(test)]
-mod chains;
 #[cfg(test)]
 mod tests;
 #[cfg(test)]

@@ -2,9 +2,7 @@
 use mx_list::items::Items;
 use mx_list::list::List;
 use mx_list::shared::Shared;
-use mx_syntax::expr::{
-    Args, Arm, CmpOp, Comparison, Expr, ProductOp, ProductPart, SumOp, SumPart, Trailer,
-};
+use mx_syntax::expr::{Expr, ProductOp, ProductPart, SumOp, SumPart};
 use mx_syntax::stmt::{Formula, Param, Stmt};
 use mx_value::label::Label;
 use mx_value::node::{Node, Path};
@@ -46,37 +44,6 @@ pub fn product(alloc: Global, first: Expr, op: ProductOp, of: Expr) -> Result<Ex
     Ok(Expr::Product {
         first: Shared::new(alloc, first)?,
         rest: List::from_vec(alloc, parts)?,
-    })
-}
-
-/// `value if left < right else last`.
-pub fn if_less(
-    alloc: Global,
-    left: Expr,
-    right: Expr,
-    value: Expr,
-    last: Expr,
-) -> Result<Expr, AllocError> {
-    let parts = vec![in alloc; Comparison::Op(CmpOp::Lt, right)]?;
-    let test = Expr::Compare {
-        first: Shared::new(alloc, left)?,
-        rest: List::from_vec(alloc, parts)?,
-    };
-    let arms = vec![in alloc; Arm { value, test }]?;
-    Ok(Expr::Cond {
-        arms: List::from_vec(alloc, arms)?,
-        last: Shared::new(alloc, last)?,
-    })
-}
-
-/// `cells(argument)`.
-pub fn call(alloc: Global, cells: &str, argument: Expr) -> Result<Expr, AllocError> {
-    let arguments = vec![in alloc; argument]?;
-    let args = Args::List(List::from_vec(alloc, arguments)?);
-    let trailers = vec![in alloc; Trailer::Call(args)]?;
-    Ok(Expr::Post {
-        of: Shared::new(alloc, name(alloc, cells)?)?,
-        trailers: List::from_vec(alloc, trailers)?,
     })
 }
 
