@@ -362,9 +362,12 @@ def quoted(s):
     return '"' + s.replace("\\", "\\\\").replace('"', '\\"') + '"'
 
 
+SOURCES = {"fractions": "FR", "decimal": "DE", "int": "IT", "python": "PY"}
+
+
 def line(row):
-    op, *rest = row
-    parts = [f"Op::{op}", *(quoted(s) for s in rest)]
+    op, *texts, source = row
+    parts = [f"Op::{op}", *(quoted(s) for s in texts), SOURCES[source]]
     inside = ", ".join(parts)
     if len(inside) <= WIDTH:
         return f"    ({inside}),"
@@ -372,7 +375,10 @@ def line(row):
 
 
 def module(arrays):
-    out = ["//! Written by tools/operator_vectors.py.", "use crate::rows::Row;", "use mx_ops::op::Op;", ""]
+    sources = sorted({SOURCES[source] for _, _, rows in arrays for _, _, source in rows})
+    named = ", ".join([*sources, "Row"])
+    out = ["//! Written by tools/operator_vectors.py.",
+           f"use crate::rows::{{{named}}};" , "use mx_ops::op::Op;", ""]
     for name, title, rows in arrays:
         seen = []
         for op, operands, source in rows:

@@ -14,7 +14,7 @@ fn run_word(alloc: Global) -> Result<Vec<String>, AllocError> {
 }
 
 /// A script is answered so, with status 0.
-pub fn answers(
+pub(crate) fn answers(
     rt: &impl Abort,
     alloc: Global,
     script: &[u8],

@@ -256,7 +256,11 @@ const CHAINED: [(&[u8], &[u8]); 5] = [
     ),
 ];
 
-pub fn answer_all(rt: &impl Abort, alloc: Global, rows: &[(&[u8], &[u8])]) -> Result<(), Fail> {
+pub(crate) fn answer_all(
+    rt: &impl Abort,
+    alloc: Global,
+    rows: &[(&[u8], &[u8])],
+) -> Result<(), Fail> {
     for (script, output) in rows {
         answers(rt, alloc, script, output)?;
     }

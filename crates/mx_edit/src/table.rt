@@ -35,8 +35,8 @@ pub enum TableRefusal {
     #[error("too many columns or rows")]
     TooBig,
     /// A row, counted from 1, has another number of fields than there are columns, or a key that an earlier row has.
-    /// Row 0 is the names of the columns: there are fewer than two, one has no bytes or more than 64, or one stands
-    /// twice.
+    /// For the head, which counts as 0: there are fewer than two names of columns, one has no bytes or more than 64,
+    /// or one stands twice.
     #[error("row {0} does not fit the table")]
     BadRow(u32),
     /// The field of a row, counted from 1, and a column, counted from 0, is no number.

@@ -137,7 +137,7 @@ const NODES: [(&str, &str); 30] = [
     ("f(9223372036854775808)", "unexpected 2"),
 ];
 
-pub fn write(out: &mut Vec<u8>, bytes: &[u8]) -> Result<(), Fail> {
+pub(crate) fn write(out: &mut Vec<u8>, bytes: &[u8]) -> Result<(), Fail> {
     for byte in bytes {
         out.push(*byte)?;
     }
@@ -224,7 +224,11 @@ fn write_node(alloc: Global, out: &mut Vec<u8>, node: &Node) -> Result<(), Fail>
     }
 }
 
-pub fn write_refusal(alloc: Global, out: &mut Vec<u8>, refusal: ParseRefusal) -> Result<(), Fail> {
+pub(crate) fn write_refusal(
+    alloc: Global,
+    out: &mut Vec<u8>,
+    refusal: ParseRefusal,
+) -> Result<(), Fail> {
     match refusal {
         ParseRefusal::Lex(LexRefusal::TooLong) => write(out, b"too long"),
         ParseRefusal::Lex(LexRefusal::BadByte(at)) => {

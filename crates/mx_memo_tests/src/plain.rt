@@ -20,7 +20,7 @@ pub struct List {
     pub last: usize,
 }
 
-pub fn marks(alloc: Global) -> Result<Vec<bool>, AllocError> {
+pub(crate) fn marks(alloc: Global) -> Result<Vec<bool>, AllocError> {
     let mut list = Vec::new(alloc);
     for _ in 0..NODES {
         list.push(false)?;
@@ -28,21 +28,21 @@ pub fn marks(alloc: Global) -> Result<Vec<bool>, AllocError> {
     Ok(list)
 }
 
-pub fn is_set(list: &[bool], at: usize) -> bool {
+pub(crate) fn is_set(list: &[bool], at: usize) -> bool {
     match list.get(at) {
         Some(held) => *held,
         None => false,
     }
 }
 
-pub fn set(list: &mut Vec<bool>, at: usize) {
+pub(crate) fn set(list: &mut Vec<bool>, at: usize) {
     if let Some(held) = list.get_mut(at) {
         *held = true;
     }
 }
 
 impl List {
-    pub fn new(alloc: Global) -> Result<List, AllocError> {
+    pub(crate) fn new(alloc: Global) -> Result<List, AllocError> {
         let mut held = Vec::new(alloc);
         for _ in 0..NODES {
             held.push(None)?;
@@ -50,14 +50,14 @@ impl List {
         Ok(List { held, last: 0 })
     }
 
-    pub fn is_held(&self, n: usize) -> bool {
+    pub(crate) fn is_held(&self, n: usize) -> bool {
         match self.held.get(n) {
             Some(Some(_)) => true,
             _ => false,
         }
     }
 
-    pub fn count(&self) -> u32 {
+    pub(crate) fn count(&self) -> u32 {
         let mut count = 0u32;
         for entry in &self.held {
             if entry.is_some() {
@@ -67,7 +67,7 @@ impl List {
         count
     }
 
-    pub fn hold(&mut self, n: usize, entry: Plain) {
+    pub(crate) fn hold(&mut self, n: usize, entry: Plain) {
         self.last = entry.stamp;
         if let Some(place) = self.held.get_mut(n) {
             *place = Some(entry);
@@ -75,7 +75,7 @@ impl List {
     }
 
     /// Gives the held nodes the stamps from 1 without a gap.
-    pub fn renumber(&mut self) {
+    pub(crate) fn renumber(&mut self) {
         let mut last = 0usize;
         for stamp in 1..=self.last {
             for entry in self.held.iter_mut() {
@@ -91,7 +91,7 @@ impl List {
     }
 
     /// Drops these, and all that reach one of them, and gives their number.
-    pub fn drop_from(&mut self, gone: &mut Vec<bool>) -> u32 {
+    pub(crate) fn drop_from(&mut self, gone: &mut Vec<bool>) -> u32 {
         for _ in 0..NODES {
             for (n, entry) in self.held.iter().enumerate() {
                 if let Some(plain) = entry {

@@ -18,7 +18,7 @@ use std::alloc::Global;
 use std::test::Fail;
 
 /// The cells `S.c(n)`.
-pub fn node(alloc: Global, n: usize) -> Result<Shared<Node>, Fail> {
+pub(crate) fn node(alloc: Global, n: usize) -> Result<Shared<Node>, Fail> {
     let mut arguments = Items::new(alloc);
     arguments.push(Value::Int(i64::try_from(n)?))?;
     let mut segments = Vec::new(alloc);
@@ -32,14 +32,14 @@ pub fn node(alloc: Global, n: usize) -> Result<Shared<Node>, Fail> {
 }
 
 /// A reference of the model.
-pub fn key(alloc: Global, n: usize) -> Result<Key, Fail> {
+pub(crate) fn key(alloc: Global, n: usize) -> Result<Key, Fail> {
     let names: [&[u8]; 5] = [b"a", b"b", b"c", b"d", b"e"];
     let name = names.get(n % 5).ok_or("no name")?;
     Ok(Key::Global(Label::new(alloc, *name)?))
 }
 
 /// A body with a value.
-pub fn body(alloc: Global, node: Shared<Node>, value: i64) -> Result<Body, Fail>
+pub(crate) fn body(alloc: Global, node: Shared<Node>, value: i64) -> Result<Body, Fail>
     ensures { IfOk result (λ body. body.node ≡ node) }
 {
     let reply = Shared::new(
@@ -102,7 +102,7 @@ fn ask_one(alloc: Global, memo: &Memo, n: usize, asks: &mut Vec<NodeId>) -> Resu
 }
 
 /// The ids of those of the nodes that are held.
-pub fn asks_of(alloc: Global, memo: &Memo, wanted: &[usize]) -> Result<Vec<NodeId>, Fail>
+pub(crate) fn asks_of(alloc: Global, memo: &Memo, wanted: &[usize]) -> Result<Vec<NodeId>, Fail>
     ensures { IfOk result (λ ids. AreHeld memo.now.held ids.items) }
 {
     let mut asks = Vec::new(alloc);

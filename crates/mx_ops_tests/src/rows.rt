@@ -13,6 +13,15 @@ use std::alloc::Global;
 use std::process::Abort;
 use std::test::Fail;
 
+/// Python's `fractions`.
+pub const FR: &str = "fractions";
+/// Python's `decimal`.
+pub const DE: &str = "decimal";
+/// Python's `int`.
+pub const IT: &str = "int";
+/// Python's comparisons, subscripts, `in` and builtins.
+pub const PY: &str = "python";
+
 /// An operator, its operands as a tuple, what it gives, and what of Python computed that.
 pub type Row = (Op, &'static str, &'static str, &'static str);
 
