@@ -7,3 +7,4 @@ pub mod Session
 pub mod At
 pub mod Stop
 pub mod Top
+pub mod Laws
