@@ -1,10 +1,2 @@
 pub mod WordLemmas
-pub mod RunLemmas
-pub mod TakeLemmas
-pub mod ScriptLemmas
-pub mod AtLemmas
-pub mod EndLemmas
-pub mod EndsLemmas
-pub mod WithinLemmas
-pub mod Known
-pub mod Alike
+pub mod SureLemmas

@@ -2,7 +2,7 @@
 //!
 //! They tell no content: what the terminal, a pipe or a file gives and takes is outside of every proof. Only the counts
 //! of their faults are told.
-ghost use Rattle.std.specs.Prelude.{◌≡◌, None};
+ghost use Rattle.std.specs.Prelude.{◌≡◌, false, None};
 
 use mx_outside::{Failed, Sink, Source, WriteFailure};
 use std::io::{Read, Write};
@@ -11,26 +11,37 @@ use std::io::{Read, Write};
 #[derive(Drop)]
 pub struct HostSource<R: Read + Drop> {
     inner: R,
+    ended: bool,
     faults: u64,
 }
 
 impl<R: Read + Drop> HostSource<R> {
-    /// A source over this reader, with no fault counted.
+    /// A source over this reader, with no end told and no fault counted.
     pub fn new(inner: R) -> HostSource<R>
-        ensures { result.faults ≡ 0 }
+        ensures ended { result.ended ≡ false }
+        ensures faults { result.faults ≡ 0 }
     {
-        HostSource { inner, faults: 0 }
+        HostSource {
+            inner,
+            ended: false,
+            faults: 0,
+        }
     }
 }
 
 impl<R: Read + Drop> Source for HostSource<R> {
     ghost left = { λ _. None };
 
+    ghost ended = { λ s. s.ended };
+
     ghost faults = { λ s. s.faults };
 
     fn read(&mut self, into: &mut [u8]) -> Result<usize, Failed> {
         match self.inner.read(into) {
-            Ok(count) => Ok(count),
+            Ok(count) => {
+                self.ended = self.ended || count == 0 && !into.is_empty();
+                Ok(count)
+            }
             Err(_) => {
                 self.faults = self.faults.saturating_add(1);
                 Err(Failed)

@@ -1,29 +1,17 @@
 //! The program `mx`: reads a script of edits and evaluations, and answers each command.
 #![tactic(auto)]
 
-mod answer;
 #[cfg(test)]
 mod guide;
 mod host;
-mod laws;
-mod line;
-mod refusal;
-mod script;
-mod session;
-mod status;
-mod stop;
 mod sure;
-mod take;
 #[cfg(test)]
 mod tests;
-mod text;
 mod top;
-mod words;
 #[cfg(test)]
 mod worked;
 
 use host::{HostSink, HostSource};
-pub use laws::{complete_commands_stay, lines_give_the_script};
 use std::alloc::AllocError;
 use std::process::ExitCode;
 use std::{env, io};

@@ -1,7 +1,7 @@
 //! What the top call promises where nothing outside fails.
 ghost use Rattle.std.specs.Prelude.{◌≡◌, ◌∷◌, ◌==◌, [], IsTrue, List, ℕ};
 ghost use Rattle.std.specs.List.{list_any};
-ghost use Rattle.mx_cli.specs.Transcript.{IsWithin, Transcript};
+ghost use Rattle.mx_run.specs.Transcript.{IsWithin, Transcript};
 ghost use Rattle.mx_cli.specs.Top.{IsRun};
 
 use crate::mx_top;

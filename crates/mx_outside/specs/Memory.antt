@@ -1,5 +1,5 @@
 -- What the forms in memory have left and have taken, and which of their calls fail.
-use Rattle.std.specs.Prelude.{ℕ, ◌+◌, ◌-◌, ◌^◌, List, min, Option, Some, drop}
+use Rattle.std.specs.Prelude.{ℕ, Bool, ◌+◌, ◌-◌, ◌^◌, List, min, Option, Some, drop}
 use Rattle.mx_outside.specs.Files.{FileMap, files_of}
 use Rattle.mx_outside.specs.declared.memory.MemSource.{MemSource}
 use Rattle.mx_outside.specs.declared.memory.MemSink.{MemSink}
@@ -9,6 +9,9 @@ use Rattle.mx_outside.specs.declared.sure.SureFiles.{SureFiles}
 
 abbrev pub source_left : MemSource → Option (List ℕ)
 source_left s = Some (drop s.at s.bytes.items)
+
+abbrev pub source_ended : MemSource → Bool
+source_ended s = s.ended
 
 abbrev pub source_faults : MemSource → ℕ
 source_faults s = s.faults
@@ -44,6 +47,9 @@ files_calls s = s.calls
 
 abbrev pub sure_held : SureFiles → Option FileMap
 sure_held s = Some (files_of s.files.items)
+
+abbrev pub sure_ended : SureSource → Bool
+sure_ended s = s.ended
 
 abbrev pub sure_left : SureSource → Option (List ℕ)
 sure_left s = Some (drop s.at s.bytes.items)

@@ -20,6 +20,3 @@ pub use name::is_file_name;
 pub use sink::{Sink, WriteFailure, write_whole};
 pub use source::{Failed, Source};
 pub use sure::{SureFiles, SureSink, SureSource};
-
-#[cfg(test)]
-mod tests;

@@ -1,5 +1,5 @@
 //! A source, a sink and files in memory that fail at chosen calls, to try what stands above them.
-ghost use Rattle.std.specs.Prelude.{◌≡◌, ◌≤◌, ◌^◌, vec_len, Some, []};
+ghost use Rattle.std.specs.Prelude.{◌≡◌, ◌≤◌, ◌^◌, vec_len, false, Some, []};
 ghost use Rattle.std.specs.FinMap as finite;
 
 use crate::files::{bytes_of, find_bytes, set_bytes};
@@ -15,6 +15,7 @@ pub struct MemSource {
     fails: Vec<u64>,
     calls: u64,
     faults: u64,
+    ended: bool,
     ghost within: { at ≤ vec_len bytes },
 }
 
@@ -24,6 +25,7 @@ impl MemSource {
     /// A source with all of these bytes left, no call made and no fault counted.
     pub fn new(bytes: Vec<u8>, fails: Vec<u64>) -> MemSource
         ensures left { ⟦<MemSource as Source>⟧.left result ≡ Some bytes.items }
+        ensures ended { ⟦<MemSource as Source>⟧.ended result ≡ false }
         ensures faults { ⟦<MemSource as Source>⟧.faults result ≡ 0 }
         ensures fails { source_fails result ≡ fails.items }
         ensures calls { source_calls result ≡ 0 }
@@ -34,17 +36,20 @@ impl MemSource {
             fails,
             calls: 0,
             faults: 0,
+            ended: false,
         }
     }
 }
 
 impl Source for MemSource {
-    ghost use Rattle.std.specs.Prelude.{◌≡◌, ◌≤◌, ◌<◌, ◌↔◌, length, IfOk, OnErr, IsErr, Contains};
+    ghost use Rattle.std.specs.Prelude.{◌≡◌, ◌≤◌, ◌<◌, ◌↔◌, length, IfOk, OnOk, OnErr, IsErr, Contains};
     ghost use Rattle.std.specs.Io.KnownBytes.{prepend_known, IsAtEnd};
-    ghost use Rattle.mx_outside.specs.Outside.{Rose, bytes_read};
-    ghost use Rattle.mx_outside.specs.Memory.{source_left, source_faults, source_fails, source_calls, next_call};
+    ghost use Rattle.mx_outside.specs.Outside.{Rose, bytes_read, tells_end};
+    ghost use Rattle.mx_outside.specs.Memory.{source_left, source_ended, source_faults, source_fails, source_calls, next_call};
 
     ghost left = { source_left };
+
+    ghost ended = { source_ended };
 
     ghost faults = { source_faults };
 
@@ -52,6 +57,8 @@ impl Source for MemSource {
         ensures bound { IfOk result (λ n. n ≤ length into.new) }
         ensures bytes { source_left self.old ≡ prepend_known (bytes_read result into.new) (source_left self.new) }
         ensures end { result ≡ Ok 0 → 0 < length into.new → IsAtEnd (source_left self.new) }
+        ensures ended { source_ended self.new ≡ tells_end (source_ended self.old) result (length into.new) }
+        ensures kept { OnOk result (source_faults self.new ≡ source_faults self.old) }
         ensures later { source_faults self.old ≤ source_faults self.new }
         ensures failed { OnErr result (Rose (source_faults self.old) (source_faults self.new)) }
 
@@ -67,6 +74,7 @@ impl Source for MemSource {
         }
         let count = copy_front(&self.bytes[self.at..], into);
         self.at += count;
+        self.ended = self.ended || count == 0 && !into.is_empty();
         Ok(count)
     }
 }
@@ -107,7 +115,7 @@ impl MemSink {
 }
 
 impl Sink for MemSink {
-    ghost use Rattle.std.specs.Prelude.{◌≡◌, ◌≤◌, ◌<◌, ◌↔◌, length, take, IfOk, OnErr, IsErrOf, Contains};
+    ghost use Rattle.std.specs.Prelude.{◌≡◌, ◌≤◌, ◌<◌, ◌↔◌, length, take, IfOk, OnOk, OnErr, IsErrOf, Contains};
     ghost use Rattle.std.specs.Io.KnownBytes.{append_known};
     ghost use Rattle.mx_outside.specs.Outside.{Rose, TakesFront};
     ghost use Rattle.mx_outside.specs.Memory.{sink_taken, sink_faults, sink_fails, sink_calls, next_call};
@@ -121,6 +129,7 @@ impl Sink for MemSink {
         ensures some { IfOk result (λ n. 0 < length piece.now → 0 < n) }
         ensures err { OnErr result (TakesFront (sink_taken self.old) (sink_taken self.new) piece.now) }
         ensures no_memory { IsErrOf result WriteFailure.NoMemory → sink_taken self.new ≡ sink_taken self.old }
+        ensures kept { OnOk result (sink_faults self.new ≡ sink_faults self.old) }
         ensures later { sink_faults self.old ≤ sink_faults self.new }
         ensures failed { IsErrOf result WriteFailure.Failed → Rose (sink_faults self.old) (sink_faults self.new) }
 

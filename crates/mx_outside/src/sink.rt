@@ -42,6 +42,7 @@ pub trait Sink {
         ensures some { IfOk result (λ n. 0 < length piece.now → 0 < n) }
         ensures err { OnErr result (TakesFront (taken self.old) (taken self.new) piece.now) }
         ensures no_memory { IsErrOf result WriteFailure.NoMemory → taken self.new ≡ taken self.old }
+        ensures kept { OnOk result (faults self.new ≡ faults self.old) }
         ensures later { faults self.old ≤ faults self.new }
         ensures failed { IsErrOf result WriteFailure.Failed → Rose (faults self.old) (faults self.new) };
 }
@@ -50,6 +51,7 @@ pub trait Sink {
 pub fn write_whole<K: Sink>(out: &mut K, piece: &[u8]) -> Result<(), WriteFailure>
     ensures ok { OnOk result (K.taken out.new ≡ append_known (K.taken out.old) piece.now) }
     ensures err { OnErr result (TakesFront (K.taken out.old) (K.taken out.new) piece.now) }
+    ensures kept { OnOk result (K.faults out.new ≡ K.faults out.old) }
     ensures later { K.faults out.old ≤ K.faults out.new }
     ensures failed { IsErrOf result WriteFailure.Failed → Rose (K.faults out.old) (K.faults out.new) }
 {

@@ -1,7 +1,7 @@
 //! Where bytes come from.
-ghost use Rattle.std.specs.Prelude.{◌≡◌, ◌<◌, ◌≤◌, ℕ, List, Option, length, min, take, IfOk, OnErr};
+ghost use Rattle.std.specs.Prelude.{◌≡◌, ◌<◌, ◌≤◌, ℕ, Bool, List, Option, length, min, take, IfOk, OnOk, OnErr};
 ghost use Rattle.std.specs.Io.KnownBytes.{prepend_known, IsAtEnd};
-ghost use Rattle.mx_outside.specs.Outside.{Rose, bytes_read};
+ghost use Rattle.mx_outside.specs.Outside.{Rose, bytes_read, tells_end};
 
 /// A read failed. It took no byte.
 #[derive(Clone, Copy, Debug, PartialEq, Eq)]
@@ -11,6 +11,9 @@ pub struct Failed;
 pub trait Source {
     /// The bytes that are left, where it tells them.
     ghost left: { Self → Option (List ℕ) };
+
+    /// Whether a read has told the end.
+    ghost ended: { Self → Bool };
 
     /// How often a read has failed. It stops at the greatest `u64`.
     ghost faults: { Self → ℕ };
@@ -22,6 +25,8 @@ pub trait Source {
         ensures bound { IfOk result (λ n. n ≤ length into.new) }
         ensures bytes { left self.old ≡ prepend_known (bytes_read result into.new) (left self.new) }
         ensures end { result ≡ Ok 0 → 0 < length into.new → IsAtEnd (left self.new) }
+        ensures ended { ended self.new ≡ tells_end (ended self.old) result (length into.new) }
+        ensures kept { OnOk result (faults self.new ≡ faults self.old) }
         ensures later { faults self.old ≤ faults self.new }
         ensures failed { OnErr result (Rose (faults self.old) (faults self.new)) };
 }

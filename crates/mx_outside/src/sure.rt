@@ -1,5 +1,5 @@
 //! A source, a sink and files in memory that never fail.
-ghost use Rattle.std.specs.Prelude.{◌≡◌, ◌≤◌, vec_len, Some, []};
+ghost use Rattle.std.specs.Prelude.{◌≡◌, ◌≤◌, vec_len, false, Some, []};
 ghost use Rattle.std.specs.FinMap as finite;
 
 use crate::files::{bytes_of, find_bytes, set_bytes};
@@ -12,25 +12,33 @@ use std::alloc::Global;
 pub struct SureSource {
     bytes: Vec<u8>,
     at: usize,
+    ended: bool,
     ghost within: { at ≤ vec_len bytes },
 }
 
 impl SureSource {
     /// A source with all of these bytes left.
     pub fn new(bytes: Vec<u8>) -> SureSource
-        ensures { ⟦<SureSource as Source>⟧.left result ≡ Some bytes.items }
+        ensures left { ⟦<SureSource as Source>⟧.left result ≡ Some bytes.items }
+        ensures ended { ⟦<SureSource as Source>⟧.ended result ≡ false }
     {
-        SureSource { bytes, at: 0 }
+        SureSource {
+            bytes,
+            at: 0,
+            ended: false,
+        }
     }
 }
 
 impl Source for SureSource {
     ghost use Rattle.std.specs.Prelude.{◌≡◌, ◌<◌, ◌≤◌, length, IfOk, IsOk};
     ghost use Rattle.std.specs.Io.KnownBytes.{prepend_known, IsAtEnd};
-    ghost use Rattle.mx_outside.specs.Outside.{bytes_read};
-    ghost use Rattle.mx_outside.specs.Memory.{sure_left};
+    ghost use Rattle.mx_outside.specs.Outside.{bytes_read, tells_end};
+    ghost use Rattle.mx_outside.specs.Memory.{sure_left, sure_ended};
 
     ghost left = { sure_left };
+
+    ghost ended = { sure_ended };
 
     ghost faults = { λ _. 0 };
 
@@ -39,9 +47,11 @@ impl Source for SureSource {
         ensures bound { IfOk result (λ n. n ≤ length into.new) }
         ensures bytes { sure_left self.old ≡ prepend_known (bytes_read result into.new) (sure_left self.new) }
         ensures end { result ≡ Ok 0 → 0 < length into.new → IsAtEnd (sure_left self.new) }
+        ensures ended { sure_ended self.new ≡ tells_end (sure_ended self.old) result (length into.new) }
     {
         let count = copy_front(&self.bytes[self.at..], into);
         self.at += count;
+        self.ended = self.ended || count == 0 && !into.is_empty();
         Ok(count)
     }
 }

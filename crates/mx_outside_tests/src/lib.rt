@@ -1,7 +1,9 @@
-//! Tests of the calls on files.
+//! Tests of sources, sinks and files.
 #![tactic(auto)]
 
 #[cfg(test)]
 mod files;
 #[cfg(test)]
 mod names;
+#[cfg(test)]
+mod streams;

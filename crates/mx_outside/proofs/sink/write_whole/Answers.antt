@@ -16,5 +16,5 @@ loop-done-preserved g c =
     record {
       within = omega (arith, c.in_ok-done.ensures.ok.0, length-drop c.loop-done.done c.args.piece.now);
       written = taken_more _ _ _ _ _ _ c.loop-done.invariant.written written;
-      later = omega arith;
+      kept = omega (arith, c.in_ok-done.ensures.kept);
     }

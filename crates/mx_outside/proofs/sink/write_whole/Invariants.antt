@@ -6,7 +6,7 @@ abbrev pub invariant-loop-done : goal.invariant-loop-done
 invariant-loop-done g l = record {
   within : l.done ≤ length l.piece;
   written : g.K.Sink.taken l.out ≡ append_known (g.K.Sink.taken l.initial.out) (take l.done l.piece);
-  later : g.K.Sink.faults l.initial.out ≤ g.K.Sink.faults l.out;
+  kept : g.K.Sink.faults l.out ≡ g.K.Sink.faults l.initial.out;
 }
 
 abbrev pub decreases-loop-done : goal.decreases-loop-done

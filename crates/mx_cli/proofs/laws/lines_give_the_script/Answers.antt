@@ -1,5 +1,0 @@
-use Rattle.mx_cli.proofs.ScriptLemmas.{are_lines}
-use Rattle.mx_cli.proofs.laws.lines_give_the_script.Goals as goal
-
-pub returns : goal.returns
-returns c = are_lines

@@ -1,5 +1,0 @@
-use Rattle.mx_cli.proofs.EndsLemmas.{nothing_traded}
-use Rattle.mx_cli.proofs.script.run.Goals as goal
-
-pub returns-in_default-clause-output : goal.returns-in_default-clause-output
-returns-in_default-clause-output g c = nothing_traded _ _

@@ -1,0 +1,161 @@
+-- A piece that is fed line by line, and a script's end.
+use Rattle.std.proofs.Common.{◌≡◌, ◌≢◌, ℕ, zero, suc, ◌+◌, ◌<◌, List, [], ◌∷◌, ◌++◌, Option, None, Result, Ok, Err, MatchResult, length, take, drop, get_or, refl, sym, ap, ◌∙◌, subst, append_assoc, append-nil, arith, take-append-drop}
+use Rattle.std.proofs.lemmas.List.{take_more}
+use Rattle.std.specs.Option.{option_to_list}
+use Rattle.std.specs.Io.KnownBytes.{append_known}
+use Rattle.mx_outside.specs.declared.sink.WriteFailure.{WriteFailure}
+use Rattle.mx_outside.proofs.Bytes.{append_known-append}
+use Rattle.mx_run.specs.Script.{taken, complete, pending_after, complete_commands, commands}
+use Rattle.mx_script.specs.Script.{split_lines, last_line, Command, Taken, HasNoLf}
+use Rattle.mx_run.specs.Answer.{State, first_state}
+use Rattle.mx_run.specs.Transcript.{Runs, Begins, Wrote, IsOutput}
+use Rattle.mx_run.specs.Session.{TakesLine, pending_of}
+use Rattle.mx_run.specs.At.{IsAfter, At, Halts, GoesOn, Finishes}
+use Rattle.mx_run.specs.declared.take.Pending.{Pending}
+use Rattle.mx_run.specs.declared.stop.Stop.{Stop}
+use Rattle.mx_run.specs.declared.session.Session.{Session}
+use Rattle.mx_run.proofs.RunLemmas.{run_more, begins_more, begins_less}
+use Rattle.mx_run.proofs.ScriptLemmas.{complete-append, pending_after-append}
+use Rattle.mx_run.proofs.AtLemmas.{halts_grow, given}
+
+-- bytes with no LF, from their places
+pub no_lf_front : (s : List ℕ) (n : ℕ) → ((k : ℕ) → k < n → get_or s k 0 ≢ 10) → HasNoLf (take n s)
+no_lf_front s zero none = tt
+no_lf_front [] (suc n) none = tt
+no_lf_front (b ∷ bs) (suc n) none = (none 0 (omega arith), no_lf_front bs n (λ k h. none (suc k) (omega arith)))
+
+pub no_lf_whole : (s : List ℕ) → ((k : ℕ) → k < length s → get_or s k 0 ≢ 10) → HasNoLf s
+no_lf_whole [] none = tt
+no_lf_whole (b ∷ bs) none = (none 0 (omega arith), no_lf_whole bs (λ k h. none (suc k) (omega arith)))
+
+-- a list in front of a place, the LF there and what is behind it
+pub around_lf : (s : List ℕ) (n : ℕ) → n < length s → get_or s n 0 ≡ 10 → s ≡ take n s ++ (10 ∷ drop (n + 1) s)
+around_lf s n within lf = sym (take-append-drop (n + 1) s) ∙ ap (λ (l : List ℕ). l ++ drop (n + 1) s) (take_more s n 0 within) ∙ append_assoc (take n s) (get_or s n 0 ∷ []) (drop (n + 1) s)
+    ∙ ap (λ (b : ℕ). take n s ++ (b ∷ drop (n + 1) s)) lf
+
+-- What the calls for a line make of what was fed before it: `done` of the piece was, and the line is next.
+module _ (s : Session) (piece done rest line more read written : List ℕ) (is : piece ≡ done ++ rest) (next : rest ≡ line ++ more) (old mid : Option (List ℕ)) (first : Wrote old mid (λ block. At s (read ++ done) (written ++ block))) where
+  regroup : ((read ++ done) ++ line) ++ more ≡ read ++ piece
+  regroup = append_assoc (read ++ done) line more ∙ ap (λ (l : List ℕ). (read ++ done) ++ l) (sym next) ∙ append_assoc read done rest ∙ ap (λ (l : List ℕ). read ++ l) (sym is)
+
+  pub stop_inside : (stop : Stop) → ((r w : List ℕ) → At s r w → Halts stop (r ++ line) w) → Wrote old mid (λ block. Halts stop (read ++ piece) (written ++ block))
+  stop_inside stop halts = record {
+    written = first.written;
+    taken = first.taken;
+    holds = subst (λ (r : List ℕ). Halts stop r (written ++ first.written)) regroup
+        (halts_grow stop ((read ++ done) ++ line) more (written ++ first.written) (halts (read ++ done) (written ++ first.written) first.holds));
+  }
+
+  pub goes_last : (t : Session) (result : Result (Unit {0}) Stop) → more ≡ [] → ((r w : List ℕ) → At s r w → GoesOn t result (r ++ line) w) → Wrote old mid (λ block. GoesOn t result (read ++ piece) (written ++ block))
+  goes_last t result end goes = record {
+    written = first.written;
+    taken = first.taken;
+    holds = subst (λ (r : List ℕ). GoesOn t result r (written ++ first.written)) (sym (append-nil ((read ++ done) ++ line)) ∙ ap (λ (l : List ℕ). ((read ++ done) ++ line) ++ l) (sym end) ∙ regroup)
+        (goes (read ++ done) (written ++ first.written) first.holds);
+  }
+
+  module _ (t : Session) (lengthens : (r w : List ℕ) → At s r w → At t (r ++ line) w) (new : Option (List ℕ)) where
+    pub stop_at_end : (stop : Stop) (behind : List ℕ) → more ≡ 10 ∷ behind → ((r w : List ℕ) → At t r w → Wrote mid new (λ block. Halts stop (r ++ 10 ∷ []) (w ++ block))) → Wrote old new (λ block. Halts stop (read ++ piece) (written ++ block))
+    stop_at_end stop behind lf ends =
+        let last = ends ((read ++ done) ++ line) (written ++ first.written) (lengthens (read ++ done) (written ++ first.written) first.holds) in
+        let all : (((read ++ done) ++ line) ++ 10 ∷ []) ++ behind ≡ read ++ piece =
+        append_assoc ((read ++ done) ++ line) (10 ∷ []) behind ∙ ap (λ (l : List ℕ). ((read ++ done) ++ line) ++ l) (sym lf) ∙ regroup in
+        record {
+          written = first.written ++ last.written;
+          taken = last.taken ∙ ap (λ (x : Option (List ℕ)). append_known x last.written) first.taken ∙ append_known-append old first.written last.written;
+          holds = subst (λ (r : List ℕ). Halts stop r (written ++ (first.written ++ last.written))) all
+              (subst (λ (w : List ℕ). Halts stop ((((read ++ done) ++ line) ++ 10 ∷ []) ++ behind) w) (append_assoc written first.written last.written)
+              (halts_grow stop (((read ++ done) ++ line) ++ 10 ∷ []) behind ((written ++ first.written) ++ last.written) last.holds));
+        }
+
+    pub goes_next : (u : Session) → ((r w : List ℕ) → At t r w → Wrote mid new (λ block. At u (r ++ 10 ∷ []) (w ++ block))) → Wrote old new (λ block. At u (read ++ (done ++ (line ++ 10 ∷ []))) (written ++ block))
+    goes_next u ends =
+        let last = ends ((read ++ done) ++ line) (written ++ first.written) (lengthens (read ++ done) (written ++ first.written) first.holds) in
+        record {
+          written = first.written ++ last.written;
+          taken = last.taken ∙ ap (λ (x : Option (List ℕ)). append_known x last.written) first.taken ∙ append_known-append old first.written last.written;
+          holds = subst (λ (r : List ℕ). At u r (written ++ (first.written ++ last.written))) (append_assoc (read ++ done) line (10 ∷ []) ∙ append_assoc read done (line ++ 10 ∷ []))
+              (subst (λ (w : List ℕ). At u (((read ++ done) ++ line) ++ 10 ∷ []) w) (append_assoc written first.written last.written) last.holds);
+        }
+
+-- the last commands are answered, or begun
+abbrev pub Ended : State → List Command → Result (Unit {0}) WriteFailure → State → List ℕ → Type 0
+Ended state cs result new block = MatchResult result (λ _. Runs state cs block new) (λ _. Begins state cs block)
+
+ended_more : (read : List ℕ) (cs ds : List Command) (state new : State) (w b : List ℕ) (result : Result (Unit {0}) WriteFailure) → commands read ≡ cs ++ ds → Runs first_state cs w state → Ended state ds result new b
+    → Finishes result read (w ++ b)
+ended_more read cs ds state new w b (Ok u) is run ended = subst (λ (x : List Command). IsOutput x (w ++ b)) (sym is) (new, run_more first_state cs ds w b state new run ended)
+ended_more read cs ds state new w b (Err e) is run begun = subst (λ (x : List Command). Begins first_state x (w ++ b)) (sym is) (begins_more first_state cs ds w b state run begun)
+
+last_line_empty : (r : List ℕ) → r ≡ [] → last_line r ≡ []
+last_line_empty r e = rw e refl
+
+last_line_some : (r : List ℕ) → length r ≢ 0 → last_line r ≡ r ∷ []
+last_line_some [] some = absurd (some refl)
+last_line_some (b ∷ bs) some = refl
+
+module _ (line : List ℕ) (lines size : ℕ) (pending : Option Command) (state : State) (read written : List ℕ) (at : IsAfter line lines size pending state read written) where
+  commands_empty : line ≡ [] → commands read ≡ complete_commands read ++ option_to_list pending
+  commands_empty empty =
+      ap (λ (last : List (List ℕ)). complete 1 None ((split_lines read).whole ++ last) ++ option_to_list (pending_after 1 None ((split_lines read).whole ++ last)))
+      (last_line_empty (split_lines read).rest (sym at.open_line ∙ empty))
+      ∙ ap (λ (ls : List (List ℕ)). complete 1 None ls ++ option_to_list (pending_after 1 None ls)) (append-nil (split_lines read).whole)
+      ∙ ap (λ (p : Option Command). complete_commands read ++ option_to_list p) (sym at.may_go_on)
+
+  same_line : taken (1 + length (split_lines read).whole) (pending_after 1 None (split_lines read).whole) (split_lines read).rest ≡ taken (lines + 1) pending line
+  same_line =
+      let n : 1 + length (split_lines read).whole ≡ lines + 1 = omega (arith, at.lines_before) in
+      ap (λ (k : ℕ). taken k (pending_after 1 None (split_lines read).whole) (split_lines read).rest) n
+      ∙ ap (λ (p : Option Command). taken (lines + 1) p (split_lines read).rest) (sym at.may_go_on)
+      ∙ ap (λ (l : List ℕ). taken (lines + 1) pending l) (sym at.open_line)
+
+  commands_line : length line ≢ 0 → commands read ≡ complete_commands read ++ ((taken (lines + 1) pending line).done ++ option_to_list (taken (lines + 1) pending line).pending)
+  commands_line some =
+      let rest_some : length (split_lines read).rest ≢ 0 = subst (λ (l : List ℕ). length l ≢ 0) at.open_line some in
+      ap (λ (last : List (List ℕ)). complete 1 None ((split_lines read).whole ++ last) ++ option_to_list (pending_after 1 None ((split_lines read).whole ++ last)))
+      (last_line_some (split_lines read).rest rest_some)
+      ∙ ap (λ (cs : List Command). cs ++ option_to_list (pending_after 1 None ((split_lines read).whole ++ (split_lines read).rest ∷ []))) (complete-append 1 None (split_lines read).whole ((split_lines read).rest ∷ []))
+      ∙ ap (λ (p : Option Command). (complete_commands read ++ complete (1 + length (split_lines read).whole) (pending_after 1 None (split_lines read).whole) ((split_lines read).rest ∷ [])) ++ option_to_list p)
+      (pending_after-append 1 None (split_lines read).whole ((split_lines read).rest ∷ []))
+      ∙ ap (λ (t : Taken). (complete_commands read ++ (t.done ++ [])) ++ option_to_list t.pending) same_line
+      ∙ ap (λ (cs : List Command). (complete_commands read ++ cs) ++ option_to_list (taken (lines + 1) pending line).pending) (append-nil (taken (lines + 1) pending line).done)
+      ∙ append_assoc (complete_commands read) (taken (lines + 1) pending line).done (option_to_list (taken (lines + 1) pending line).pending)
+
+  module _ (kept : Option Pending) (same_pending : pending_of kept ≡ pending) where
+    pub finish_empty : (result : Result (Unit {0}) WriteFailure) (new : State) (old after : Option (List ℕ)) → line ≡ []
+        → Wrote old after (Ended state (option_to_list (pending_of kept)) result new) → Wrote old after (λ block. Finishes result read (written ++ block))
+    finish_empty result new old after empty wrote = record {
+      written = wrote.written;
+      taken = wrote.taken;
+      holds = ended_more read (complete_commands read) (option_to_list pending) state new written wrote.written result (commands_empty empty) at.blocks
+          (subst (λ (p : Option Command). Ended state (option_to_list p) result new wrote.written) same_pending wrote.holds);
+    }
+
+    module _ (text : List ℕ) (same_text : text ≡ line) (some : length line ≢ 0) where
+      pub finish_line : (p : Option Pending) (mid_state : State) (result : Result (Unit {0}) WriteFailure) (new : State) (old mid after : Option (List ℕ))
+          → Wrote old mid (TakesLine state (taken (lines + 1) (pending_of kept) text) (Ok p) mid_state)
+          → Wrote mid after (Ended mid_state (option_to_list (pending_of p)) result new) → Wrote old after (λ block. Finishes result read (written ++ block))
+      finish_line p mid_state result new old mid after first second =
+          let took = given line lines size pending state read written at kept same_pending text same_text (Ok p) mid_state first.written first.holds in
+          let t = taken (lines + 1) pending line in
+          let last = subst (λ (q : Option Command). Ended mid_state (option_to_list q) result new second.written) took.0 second.holds in
+          let is = commands_line some ∙ sym (append_assoc (complete_commands read) t.done (option_to_list t.pending)) in
+          record {
+            written = first.written ++ second.written;
+            taken = second.taken ∙ ap (λ (x : Option (List ℕ)). append_known x second.written) first.taken ∙ append_known-append old first.written second.written;
+            holds = subst (λ (w : List ℕ). Finishes result read w) (append_assoc written first.written second.written)
+                (ended_more read (complete_commands read ++ t.done) (option_to_list t.pending) mid_state new (written ++ first.written) second.written result is
+                (run_more first_state (complete_commands read) t.done written first.written state mid_state at.blocks took.1) last);
+          }
+
+      pub finish_stop : (e : WriteFailure) (new : State) (old mid : Option (List ℕ))
+          → Wrote old mid (TakesLine state (taken (lines + 1) (pending_of kept) text) (Err e) new) → Wrote old mid (λ block. Finishes (Err e) read (written ++ block))
+      finish_stop e new old mid first =
+          let begun = given line lines size pending state read written at kept same_pending text same_text (Err e) new first.written first.holds in
+          let t = taken (lines + 1) pending line in
+          record {
+            written = first.written;
+            taken = first.taken;
+            holds = subst (λ (x : List Command). Begins first_state x (written ++ first.written)) (sym (commands_line some))
+                (begins_more first_state (complete_commands read) (t.done ++ option_to_list t.pending) written first.written state at.blocks (begins_less state t.done (option_to_list t.pending) first.written begun));
+          }

@@ -1,0 +1,9 @@
+pub mod RunLemmas
+pub mod TakeLemmas
+pub mod ScriptLemmas
+pub mod AtLemmas
+pub mod EndLemmas
+pub mod EndsLemmas
+pub mod WithinLemmas
+pub mod Known
+pub mod Alike

@@ -1,0 +1,17 @@
+use Rattle.std.proofs.Common.{◌≡◌, refl}
+use Rattle.mx_script.specs.declared.command.FormRefusal.TheVariants.{NoMemory}
+use Rattle.mx_run.specs.Answer.{refused, carried}
+use Rattle.mx_run.proofs.Known.{known}
+use Rattle.mx_run.proofs.answer.step.Goals as goal
+
+pub carry_out-requires-clause-known : goal.carry_out-requires-clause-known
+carry_out-requires-clause-known g c = known c.args.text.now c.in-Ok.command (c.in-Ok.ensures.found (λ e. absurd cc))
+
+pub returns-in-Err : goal.returns-in-Err
+returns-in-Err g c =
+    let done = c.in_ok-push_refused_command-in-Err.ensures in
+    refused c.in-Err.refusal done.memory (c.in-Err.ensures.found (λ e. done.memory (let same : c.in-Err.refusal ≡ NoMemory = cc in same))) (rw c.requires at done.text) refl
+
+pub returns-in-Ok : goal.returns-in-Ok
+returns-in-Ok g c =
+    carried c.in-Ok.command (c.in-Ok.ensures.found (λ e. absurd cc)) c.in_ok-carry_out-in-Ok.ensures

@@ -1,0 +1,10 @@
+pub mod Script
+pub mod Text
+pub mod Refusals
+pub mod Answer
+pub mod Transcript
+pub mod Session
+pub mod At
+pub mod Stop
+pub mod Statuses
+pub mod Laws

@@ -1,0 +1,19 @@
+-- What is kept of the bytes read so far.
+use Rattle.std.specs.Prelude.{◌≡◌, ℕ, Option, Result, Ok, Err, List}
+use Rattle.std.specs.Option.{option_map}
+use Rattle.mx_outside.specs.declared.sink.WriteFailure.{WriteFailure}
+use Rattle.mx_script.specs.Script.{Command, Taken}
+use Rattle.mx_run.specs.Answer.{State}
+use Rattle.mx_run.specs.Transcript.{Runs, Begins}
+use Rattle.mx_run.specs.declared.take.Pending.{Pending}
+
+abbrev pub command_of : Pending → Command
+command_of p = record { number = p.number; text = p.text.items }
+
+abbrev pub pending_of : Option Pending → Option Command
+pending_of p = option_map command_of p
+
+-- a line's complete commands are answered, and the one that may go on is kept
+abbrev pub TakesLine : State → Taken → Result (Option Pending) WriteFailure → State → List ℕ → Type 0
+TakesLine state t (Ok p) new block = (pending_of p ≡ t.pending) × Runs state t.done block new
+TakesLine state t (Err e) new block = Begins state t.done block
