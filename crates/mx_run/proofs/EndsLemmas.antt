@@ -1,15 +1,17 @@
 -- What a run has read and written, call after call.
-use Rattle.std.proofs.Common.{◌≡◌, ℕ, zero, suc, ◌<◌, Bool, true, false, List, [], ◌++◌, Option, None, Some, Ok, Err, inl, inr, refl, sym, ap, ◌∙◌, subst, append-nil, arith}
-use Rattle.std.specs.Bool.{IsTrue}
+use Rattle.std.proofs.Common.{◌≡◌, ℕ, ◌<◌, Bool, true, false, not, List, [], ◌++◌, Option, None, Some, Ok, Err, inl, inr, refl, sym, ap, ◌∙◌, subst, append-nil, arith}
+use Rattle.std.specs.Bool.{IsTrue, ◌==◌}
+use Rattle.std.proofs.lemmas.Bool.Decides.{nat_tests}
 use Rattle.std.specs.Io.KnownBytes.{append_known, prepend_known}
 use Rattle.mx_outside.specs.declared.sink.WriteFailure.{WriteFailure}
 use Rattle.mx_outside.specs.declared.sink.WriteFailure.TheVariants as write
-use Rattle.mx_outside.specs.Outside.{tells_end}
+use Rattle.mx_outside.specs.Outside.{Rose, tells_end}
 use Rattle.mx_outside.proofs.Bytes.{append_known-append, append_known-nil, prepend_known-append}
 use Rattle.mx_run.specs.Script.{complete_commands}
 use Rattle.mx_run.specs.Answer.{first_state}
 use Rattle.mx_run.specs.Transcript.{Wrote, Traded, IsWithin}
 use Rattle.mx_run.specs.At.{At, Halts, Finishes, Ends}
+use Rattle.mx_run.specs.Statuses.{Outside, IsCaused, HasNotFailed}
 use Rattle.mx_run.specs.Stop.{stop_for}
 use Rattle.mx_run.specs.declared.stop.Stop.{Stop}
 use Rattle.mx_run.specs.declared.stop.Stop.TheVariants.{ReadFault, WriteFault, NoMemory, OverLimit}
@@ -71,21 +73,38 @@ module _ (s : Session) (left mid_left new_left taken mid_taken new_taken : Optio
         holds = ends_halted ended stop (r ++ more) (w ++ wrote.written) wrote.holds;
       })
 
-  -- a read failed, and took nothing
-  pub ended_fault : mid_left ≡ prepend_known [] new_left → Traded left new_left taken mid_taken (Ends ended (Err ReadFault))
-  ended_fault is = traded_more left mid_left new_left taken mid_taken mid_taken [] (At s) (Ends ended (Err ReadFault)) so_far is
-      (λ r w at. record {
-        written = [];
-        taken = sym (append_known-nil mid_taken);
-        holds = subst (λ (x : List ℕ). Ends ended (Err ReadFault) x (w ++ [])) (sym (append-nil r))
-            (subst (λ (x : List ℕ). Ends ended (Err ReadFault) r x) (sym (append-nil w)) (at.within, (s.interpreter.engine, at.blocks)));
-      })
+-- a read failed, and took nothing
+pub ended_fault : (ended : Bool) (s : Session) (left mid_left new_left taken mid_taken : Option (List ℕ)) → Traded left mid_left taken mid_taken (At s) → mid_left ≡ prepend_known [] new_left → Traded left new_left taken mid_taken (Ends ended (Err ReadFault))
+ended_fault ended s left mid_left new_left taken mid_taken so_far is = traded_more left mid_left new_left taken mid_taken mid_taken [] (At s) (Ends ended (Err ReadFault)) so_far is
+    (λ r w at. record {
+      written = [];
+      taken = sym (append_known-nil mid_taken);
+      holds = subst (λ (x : List ℕ). Ends ended (Err ReadFault) x (w ++ [])) (sym (append-nil r))
+          (subst (λ (x : List ℕ). Ends ended (Err ReadFault) r x) (sym (append-nil w)) (at.within, (s.interpreter.engine, at.blocks)));
+    })
 
 -- the end is told by a read that gave nothing into a buffer with room
-pub end_told : (before after : Bool) (room : ℕ) → 0 < room → after ≡ tells_end before (Ok 0) room → IsTrue after
-end_told true after (suc room) some is = rw is tt
-end_told false after (suc room) some is = rw is tt
-end_told before after zero some is = absurd (omega arith)
+has_room : (room : ℕ) → 0 < room → (room == 0) ≡ false
+has_room room some = grind (arith, nat_tests)
+
+pub end_told : (E : Type 0) (before after : Bool) (room : ℕ) → after ≡ tells_end {E = E} before (Ok 0) room → 0 < room → IsTrue after
+end_told E true after room is some = is
+end_told E false after room is some = is ∙ ap (λ (b : Bool). not b) (has_room room some)
+
+-- a write that failed is the cause of a run's end
+pub caused_write : (e : WriteFailure) (stop : Stop) (old new : Outside) → stop ≡ stop_for e → (e ≡ write.Failed → Rose old.writes_failed new.writes_failed) → IsCaused (Err stop) old new
+caused_write write.Failed stop old new is failed = subst (λ (s : Stop). IsCaused (Err s) old new) (sym is) (failed refl)
+caused_write write.NoMemory stop old new is failed = subst (λ (s : Stop). IsCaused (Err s) old new) (sym is) tt
+
+-- so is what stopped a session while it read
+pub caused_halt : (stop : Stop) (old new : Outside) (r w : List ℕ) → Halts stop r w → (stop ≡ WriteFault → Rose old.writes_failed new.writes_failed) → (stop ≡ OverLimit → HasNotFailed old new) → IsCaused (Err stop) old new
+caused_halt ReadFault old new r w h failed limit = absurd h
+caused_halt WriteFault old new r w h failed limit = failed refl
+caused_halt NoMemory old new r w h failed limit = tt
+caused_halt OverLimit old new r w h failed limit = limit refl
+
+pub rose_from : (a b c : ℕ) → a ≡ b → Rose a c → Rose b c
+rose_from a b c e rose = subst (λ (n : ℕ). Rose n c) e rose
 
 prepend_known-nil : (left : Option (List ℕ)) → prepend_known [] left ≡ left
 prepend_known-nil None = refl

@@ -32,7 +32,7 @@ lines-preserved g c =
       rw take_rest split,
       (λ read written at. goes_next c.lines.self c.args.piece.now done rest line _ read written c.lines.invariant.1 around _ _ (c.lines.invariant.2 read written at)
           c.lengthen.new.self (λ r w at'. c.in_default-lengthen.ensures.output r w none at') _ c.end_line.new.self c.in_default-end_line.ensures.output),
-      omega arith,
+      omega (arith, c.in_default-end_line.ensures.kept, c.lines.invariant.3),
     )
 
 pub returns-clause-output : goal.returns-clause-output
