@@ -32,6 +32,7 @@ pub fn name_at(code: &Code, place: usize) -> Result<&Label, AllocError>
 }
 
 /// Whether the namespace binds the name, to cells. What is looked up comes to the events.
+#[inline(always)]
 fn seek(
     text: &ModelText,
     scope: &Scope,
@@ -82,6 +83,7 @@ fn cells_here(scope: &Scope, name: &Label) -> Result<Value, AllocError>
 }
 
 /// The run goes on where the namespace binds the name.
+#[inline(always)]
 pub fn check(
     text: &ModelText,
     scope: &Scope,

@@ -180,6 +180,7 @@ impl Stack {
 
     /// A run begins above all others, at the first instruction of its code, with these arguments as
     /// its first locals and so many in all.
+    #[inline(always)]
     pub fn begin(
         &mut self,
         alloc: Global,
@@ -218,6 +219,7 @@ fn set(locals: &mut Vec<Option<Value>>, at: usize, value: Value)
 }
 
 /// The arguments are the next locals, and behind them stand others that are not set, so many in all.
+#[inline(always)]
 fn push_locals(
     alloc: Global,
     locals: &mut Vec<Option<Value>>,
