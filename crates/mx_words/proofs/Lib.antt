@@ -1,0 +1,7 @@
+pub mod Combining
+pub mod Separating
+pub mod HeadRules
+pub mod PhraseRules
+pub mod PhraseCode
+pub mod PartAnswers
+pub mod OnePart
