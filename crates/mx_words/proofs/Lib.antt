@@ -5,3 +5,4 @@ pub mod PhraseRules
 pub mod PhraseCode
 pub mod PartAnswers
 pub mod OnePart
+pub mod LineEnd

@@ -1,9 +1,10 @@
 -- What the code of heads computes.
-use Rattle.std.specs.Prelude.{ℕ, List, []}
+use Rattle.std.specs.Prelude.{ℕ, List, [], Result}
 use Rattle.mx_grammar.specs.declared.word.Symbol.{Symbol}
 use Rattle.mx_grammar.specs.declared.word.Symbol.TheVariants as symbol
 use Rattle.mx_grammar.specs.Words.{is}
-use Rattle.mx_grammar.specs.Reading.{Parser, ◌>>=◌, ◌>>◌, pure, accept, expect, choose, many}
+use Rattle.mx_grammar.specs.declared.trouble.Trouble.{Trouble}
+use Rattle.mx_grammar.specs.Reading.{Words, Parser, whole, ◌>>=◌, ◌>>◌, pure, accept, expect, choose, many}
 use Rattle.mx_grammar.specs.AddressParsers.{name_of}
 use Rattle.mx_words.specs.declared.head.Target.{Target}
 use Rattle.mx_words.specs.declared.head.HeadForm.{HeadForm}
@@ -45,3 +46,7 @@ named_by (form.Reference o) = ended symbol.Assign (owned o)
 
 abbrev pub head_by : HeadForm → Parser Target
 head_by f = worded (named_by f)
+
+-- what ends a line that is a whole text
+abbrev pub line_end : Words → Result (Unit {0}) Trouble
+line_end ts = whole ((expect symbol.Newline >> expect symbol.End) ts)

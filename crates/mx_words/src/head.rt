@@ -114,6 +114,18 @@ fn named(alloc: Global, tokens: &mut Cursor<'_>, form: HeadForm) -> Result<Targe
     }
 }
 
+/// NEWLINE and END, with nothing behind them.
+pub fn line_end(tokens: &mut Cursor<'_>) -> Result<(), Trouble>
+    ensures { Gives (spec.line_end tokens.old) result }
+{
+    tokens.expect(Symbol::Newline)?;
+    tokens.expect(Symbol::End)?;
+    if tokens.left() > 0 {
+        return Err(Trouble::Unexpected(tokens.left()));
+    }
+    Ok(())
+}
+
 /// What the tokens of a head name.
 #[tactic(auto, unfolding(mx_grammar::specs::Reading::line, mx_grammar::specs::Reading::text))]
 pub fn head_in(alloc: Global, form: HeadForm, words: &[Word]) -> Result<Target, Trouble>
@@ -122,10 +134,6 @@ pub fn head_in(alloc: Global, form: HeadForm, words: &[Word]) -> Result<Target, 
     let mut left = Cursor::new(words);
     word(&mut left)?;
     let target = named(alloc, &mut left, form)?;
-    left.expect(Symbol::Newline)?;
-    left.expect(Symbol::End)?;
-    if left.left() > 0 {
-        return Err(Trouble::Unexpected(left.left()));
-    }
+    line_end(&mut left)?;
     Ok(target)
 }

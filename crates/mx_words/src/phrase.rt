@@ -4,12 +4,12 @@ ghost use Rattle.mx_grammar.specs.Reading.{Reads, Gives, parsed, accept, line};
 ghost use Rattle.mx_edit.specs.declared.edit.Edit.TheVariants as edit;
 ghost use Rattle.mx_words.specs.declared.command.Command.TheVariants as command;
 ghost use Rattle.mx_words.specs.Heads.{space_of, whole_of};
-ghost use Rattle.mx_words.specs.HeadParsers.{worded};
+ghost use Rattle.mx_words.specs.HeadParsers as parsers;
 ghost use Rattle.mx_words.specs.Phrases as phrases;
 ghost use Rattle.mx_words.specs.PhraseParsers as spec;
 
 use crate::command::Command;
-use crate::head::{Target, dotted, owned, word};
+use crate::head::{Target, dotted, line_end, owned, word};
 use crate::table::{Named, Owner, Phrase, Reference};
 use mx_edit::edit::Edit;
 use mx_edit::reference::RefValue;
@@ -307,36 +307,39 @@ fn behind_word(
     }
 }
 
+/// A command's word, and what stands behind it.
+fn worded(
+    alloc: Global,
+    tokens: &mut Cursor<'_>,
+    phrase: Phrase,
+    levels: usize,
+) -> Result<Command, Trouble>
+    ensures { Reads (parsers.worded (spec.phrase_by phrase levels) tokens.old) result tokens.new }
+{
+    word(tokens)?;
+    behind_word(alloc, tokens, phrase, levels)
+}
+
 /// The command that the tokens of a phrase say.
-#[tactic(auto, unfolding(mx_grammar::specs::Reading::line, mx_grammar::specs::Reading::text))]
 pub fn phrase_in(alloc: Global, phrase: Phrase, words: &[Word]) -> Result<Command, Trouble>
-    ensures { Gives (parsed (λ n. line (worded (spec.phrase_by phrase n))) words.now) result }
+    ensures { Gives (parsed (λ n. line (parsers.worded (spec.phrase_by phrase n))) words.now) result }
 {
     let mut left = Cursor::new(words);
-    word(&mut left)?;
-    let command = behind_word(alloc, &mut left, phrase, words.len() + 1)?;
-    left.expect(Symbol::Newline)?;
-    left.expect(Symbol::End)?;
-    if left.left() > 0 {
-        return Err(Trouble::Unexpected(left.left()));
-    }
+    let command = worded(alloc, &mut left, phrase, words.len() + 1)?;
+    line_end(&mut left)?;
     Ok(command)
 }
 
 /// The address that the tokens of a command say, behind its word and a name.
 #[tactic(auto, unfolding(mx_grammar::specs::Reading::line, mx_grammar::specs::Reading::text))]
 pub fn address_in(alloc: Global, name: &[u8], words: &[Word]) -> Result<Addr, Trouble>
-    ensures { Gives (parsed (λ n. line (worded (spec.address_by name.now n))) words.now) result }
+    ensures { Gives (parsed (λ n. line (parsers.worded (spec.address_by name.now n))) words.now) result }
 {
     let mut left = Cursor::new(words);
     let levels = words.len() + 1;
     word(&mut left)?;
     the_name(&mut left, name)?;
     let address = addr(alloc, &mut left, levels + 1)?;
-    left.expect(Symbol::Newline)?;
-    left.expect(Symbol::End)?;
-    if left.left() > 0 {
-        return Err(Trouble::Unexpected(left.left()));
-    }
+    line_end(&mut left)?;
     Ok(address)
 }
