@@ -1,3 +1,4 @@
 pub mod Lists
 pub mod OneCommand
 pub mod Sequels
+pub mod Parted

@@ -97,7 +97,7 @@ module _ (lead : ℕ) (text : List ℕ) where
 
   one_by : (word : Option CommandWord) → Unique (ReadsBy word lead text)
   one_by None r s a b = a ∙ sym b
-  one_by (Some w) = one_rest (rest_of w).form
+  one_by (Some w) r s a b = one_rest (rest_of w).form r s a b
 
 pub only_command : (words : List CommandWord) (text : List ℕ) (r : Answer) → (r ≢ Err NoMemory → ReadsAs words text r) → (answer : Answer) → ReadsAs words text answer → Unless answer r
 only_command words text (Ok c) found answer h = one_by (spaces text) (behind_spaces text) (word_of words (first_word (behind_spaces text))) answer (Ok c) h (found (λ e. absurd cc))

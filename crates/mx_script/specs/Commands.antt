@@ -90,23 +90,35 @@ place_of (t ∷ ts) = t.at
 abbrev pub newline_of : List ℕ → ℕ
 newline_of source = elim (tokens_of source) [ Ok tokens ↦ place_of (drop (length tokens - 2) tokens) | Err e ↦ 0 ]
 
+-- an evaluation, where the node's arguments are of the kinds that are run so far
+abbrev pub evaluated : Node → Answer
+evaluated n = if is_later_node n then Err NotBuilt else Ok (command.Eval n)
+
+-- an input is one of cells
+abbrev pub uninput : ℕ → List ℕ → Node → Answer
+uninput start source (Cell space name args) = Ok (command.Edit (edit.DelInput space name args))
+uninput start source (Item space args) = Err (BadForm (start + newline_of source))
+
 -- what is done with a node, which begins at this place of the command
 abbrev pub asked_command : Asked → ℕ → List ℕ → Node → Answer
-asked_command asked.Value start source n = if is_later_node n then Err NotBuilt else Ok (command.Eval n)
+asked_command asked.Value start source n = evaluated n
 asked_command asked.Precedents start source n = Ok (command.Precedents n)
 asked_command asked.Successors start source n = Ok (command.Succs n)
 asked_command asked.Held start source n = Ok (command.Held (Some n))
 asked_command asked.Clear start source n = Ok (command.Clear (scope.One n))
-asked_command asked.DelInput start source (Cell space name args) = Ok (command.Edit (edit.DelInput space name args))
-asked_command asked.DelInput start source (Item space args) = Err (BadForm (start + newline_of source))
+asked_command asked.DelInput start source n = uninput start source n
 
 -- the word alone
 abbrev pub is_alone : Asked → List ℕ → Bool
 is_alone asked.Held source = is_empty_text source
 is_alone _ source = false
 
+-- where no node stands behind it
+abbrev pub unasked : Asked → List ℕ → ParseRefusal → Answer
+unasked a source e = if is_alone a source then Ok (command.Held None) else Err (Parse e)
+
 abbrev pub asked_of : Asked → ℕ → List ℕ → Result Node ParseRefusal → Answer
-asked_of a start source (Err e) = if is_alone a source then Ok (command.Held None) else Err (Parse e)
+asked_of a start source (Err e) = unasked a source e
 asked_of a start source (Ok n) = asked_command a start source n
 
 -- the rest of the line is a node

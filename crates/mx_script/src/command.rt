@@ -1,9 +1,9 @@
 //! What the text of a command says.
-ghost use Rattle.std.specs.Prelude.{◌≡◌, ◌≢◌, true, false, ◌+◌, ◌-◌, ◌≤◌, ℕ, length, drop, None, Result, Ok, Err, IfOk, IfErr, List as Many};
+ghost use Rattle.std.specs.Prelude.{◌≡◌, ◌≢◌, ◌∷◌, [], true, false, ◌+◌, ◌-◌, ◌≤◌, ℕ, length, drop, None, Result, Ok, Err, IfOk, IfErr, List as Many};
 ghost use Rattle.mx_lex.specs.declared.LexRefusal.{LexRefusal};
 ghost use Rattle.mx_lex.specs.Lexing.{tokens_of};
 ghost use Rattle.mx_grammar.specs.Spelling.{words_of, InText, Answers, Unread};
-ghost use Rattle.mx_grammar.specs.Literals.{literal_text};
+ghost use Rattle.mx_grammar.specs.Literals.{literal_text, space_of as main_of};
 ghost use Rattle.mx_words.specs.declared.command.Command.{Command};
 ghost use Rattle.mx_grammar.specs.declared.refusal.ParseRefusal.{ParseRefusal};
 ghost use Rattle.mx_words.specs.declared.command.FormRefusal.{FormRefusal};
@@ -180,8 +180,21 @@ fn asking(alloc: Global, asked: Asked, start: usize, source: &[u8]) -> Result<Co
 {
     match parse_node(alloc, source) {
         Ok(node) => asked_command(alloc, asked, start, source, node),
-        Err(ParseRefusal::NoMemory) => Err(FormRefusal::NoMemory),
         Err(refusal) => asked_alone(alloc, asked, source, refusal),
+    }
+}
+
+/// Whether a word stands without a node, which only one word may.
+fn is_alone(alloc: Global, asked: Asked, source: &[u8]) -> Result<bool, AllocError>
+    ensures { IfOk result (λ alone. alone ≡ spec.is_alone asked source.now) }
+{
+    match asked {
+        Asked::Held => is_empty_text(alloc, source),
+        Asked::Value => Ok(false),
+        Asked::Precedents => Ok(false),
+        Asked::Successors => Ok(false),
+        Asked::DelInput => Ok(false),
+        Asked::Clear => Ok(false),
     }
 }
 
@@ -192,27 +205,40 @@ fn asked_alone(
     source: &[u8],
     refusal: ParseRefusal,
 ) -> Result<Command, FormRefusal>
-    ensures { result ≢ Err FormRefusal.NoMemory → (start : ℕ) → result ≡ spec.asked_of asked start source.now (Err refusal) }
+    ensures { result ≢ Err FormRefusal.NoMemory → (refusal ≢ ParseRefusal.NoMemory) × (result ≡ spec.unasked asked source.now refusal) }
 {
-    match asked {
-        Asked::Held => {
-            let Ok(empty) = is_empty_text(alloc, source) else {
-                return Err(FormRefusal::NoMemory);
-            };
-            if empty {
+    match refusal {
+        ParseRefusal::NoMemory => Err(FormRefusal::NoMemory),
+        refusal => {
+            if is_alone(alloc, asked, source)? {
                 return Ok(Command::Held(None));
             }
             Err(FormRefusal::Parse(refusal))
         }
-        Asked::Value => Err(FormRefusal::Parse(refusal)),
-        Asked::Precedents => Err(FormRefusal::Parse(refusal)),
-        Asked::Successors => Err(FormRefusal::Parse(refusal)),
-        Asked::DelInput => Err(FormRefusal::Parse(refusal)),
-        Asked::Clear => Err(FormRefusal::Parse(refusal)),
     }
 }
 
-/// What is done with a node. An evaluation is read where the node's arguments are of the kinds that are run so far.
+/// An evaluation, which is read where the node's arguments are of the kinds that are run so far.
+fn evaluated(node: Node) -> Result<Command, FormRefusal>
+    ensures { result ≡ spec.evaluated node }
+{
+    if is_later_node(&node) {
+        return Err(FormRefusal::NotBuilt);
+    }
+    Ok(Command::Eval(node))
+}
+
+/// The command that takes the input of a node out, which is a node of cells.
+fn uninput(alloc: Global, start: usize, source: &[u8], node: Node) -> Result<Command, FormRefusal>
+    ensures { result ≢ Err FormRefusal.NoMemory → result ≡ spec.uninput start source.now node }
+{
+    match node {
+        Node::Cell(space, name, args) => Ok(Command::Edit(Edit::DelInput { space, name, args })),
+        Node::Item(_, _) => Err(no_cells(alloc, start, source)),
+    }
+}
+
+/// What is done with a node.
 fn asked_command(
     alloc: Global,
     asked: Asked,
@@ -223,22 +249,12 @@ fn asked_command(
     ensures { result ≢ Err FormRefusal.NoMemory → result ≡ spec.asked_command asked start source.now node }
 {
     match asked {
-        Asked::Value => {
-            if is_later_node(&node) {
-                return Err(FormRefusal::NotBuilt);
-            }
-            Ok(Command::Eval(node))
-        }
+        Asked::Value => evaluated(node),
         Asked::Precedents => Ok(Command::Precedents(node)),
         Asked::Successors => Ok(Command::Succs(node)),
         Asked::Held => Ok(Command::Held(Some(node))),
         Asked::Clear => Ok(Command::Clear(Scope::One(node))),
-        Asked::DelInput => match node {
-            Node::Cell(space, name, args) => {
-                Ok(Command::Edit(Edit::DelInput { space, name, args }))
-            }
-            Node::Item(_, _) => Err(no_cells(alloc, start, source)),
-        },
+        Asked::DelInput => uninput(alloc, start, source, node),
     }
 }
 
@@ -420,18 +436,45 @@ fn clearing_of(name: &[u8]) -> Clearing
     Clearing::All
 }
 
-/// The segments in front of the last, or those of `Main` where there are none.
-fn main_of(alloc: Global, front: &[Segment]) -> Result<Addr, AllocError>
-    ensures { IfOk result (λ a. a ≡ spec.main_of front.now) }
+fn copied(alloc: Global, segments: &[Segment]) -> Result<Addr, AllocError>
+    ensures { IfOk result (λ a. a ≡ segments.now) }
 {
-    let mut segments = Vec::new(alloc);
-    for segment in front {
-        segments.push(segment.copy(alloc)?)?;
+    let mut copies = Vec::new(alloc);
+    for segment in segments {
+        copies.push(segment.copy(alloc)?)?;
     }
+    List::from_vec(alloc, copies)
+}
+
+/// The segments in front of the last, or that of `Main` where there are none.
+fn main_of(alloc: Global, front: &[Segment]) -> Result<Addr, AllocError>
+    ensures { IfOk result (λ a. a ≡ main_of front.now) }
+{
     if front.is_empty() {
-        segments.push(Segment::Name(label(alloc, b"Main")?))?;
+        let mut main = Vec::new(alloc);
+        main.push(Segment::Name(label(alloc, b"Main")?))?;
+        return List::from_vec(alloc, main);
     }
-    List::from_vec(alloc, segments)
+    copied(alloc, front)
+}
+
+/// The cells that the last segment of an address names, behind these, which is no item.
+fn cells_by(
+    alloc: Global,
+    lead: usize,
+    text: &[u8],
+    front: &[Segment],
+    last: &Segment,
+) -> Result<Command, FormRefusal>
+    ensures { result ≢ Err FormRefusal.NoMemory → result ≡ spec.cells_by (lead + spec.newline_of text.now) front.now (last.now ∷ []) }
+{
+    match last {
+        Segment::Name(name) => match named_cells(alloc, front, name) {
+            Ok(command) => Ok(command),
+            Err(_) => Err(FormRefusal::NoMemory),
+        },
+        Segment::Item(_) => Err(no_cells(alloc, lead, text)),
+    }
 }
 
 /// The cells at an address, which does not end with an item.
@@ -445,17 +488,13 @@ fn cells_at(
 {
     let last = address.len().saturating_sub(1);
     match address.get(last) {
-        Some(Segment::Name(name)) => match named_cells(alloc, &address[..last], name) {
-            Ok(command) => Ok(command),
-            Err(_) => Err(FormRefusal::NoMemory),
-        },
-        Some(Segment::Item(_)) => Err(no_cells(alloc, lead, text)),
+        Some(segment) => cells_by(alloc, lead, text, &address[..last], segment),
         None => Err(no_cells(alloc, lead, text)),
     }
 }
 
 fn named_cells(alloc: Global, front: &[Segment], name: &Label) -> Result<Command, AllocError>
-    ensures { IfOk result (λ c. c ≡ command.Clear (scope.Cells (spec.main_of front.now) name.now)) }
+    ensures { IfOk result (λ c. c ≡ command.Clear (scope.Cells (main_of front.now) name.now)) }
 {
     let space = main_of(alloc, front)?;
     Ok(Command::Clear(Scope::Cells(space, name.copy()?)))

@@ -4,11 +4,12 @@ use Rattle.mx_grammar.specs.Limits.{AnswersWithin}
 use Rattle.mx_parse.specs.Formulas.{formula_text}
 use Rattle.mx_parse.specs.FormulaLimits.{formula_limits}
 use Rattle.mx_words.proofs.PartAnswers.{failed}
+use Rattle.mx_words.specs.declared.command.FormRefusal.TheVariants as form
 use Rattle.mx_script.proofs.Sequels.{stops, decides, behind_head}
 use Rattle.mx_script.proofs.command.definition.Goals as goal
 
 pub returns-in-Err : goal.returns-in-Err
-returns-in-Err c = λ ne. stops c.in-Err.refusal (c.in-Err.ensures ne)
+returns-in-Err c = λ ne. stops c.in-Err.refusal (c.in-Err.ensures (λ e. ne (let same : c.in-Err.refusal ≡ form.NoMemory = cc in ap failed same)))
 
 pub returns-in-Ok-parse_formula : goal.returns-in-Ok-parse_formula
 returns-in-Ok-parse_formula c = λ ne.

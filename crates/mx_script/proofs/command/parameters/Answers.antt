@@ -4,14 +4,15 @@ use Rattle.mx_grammar.specs.Limits.{AnswersWithin}
 use Rattle.mx_parse.specs.Formulas.{params_text}
 use Rattle.mx_parse.specs.FormulaLimits.{params_limits}
 use Rattle.mx_words.proofs.PartAnswers.{failed}
+use Rattle.mx_words.specs.declared.command.FormRefusal.TheVariants as form
 use Rattle.mx_script.proofs.Sequels.{stops, decides, behind_head}
 use Rattle.mx_script.proofs.command.parameters.Goals as goal
 
 pub returns-in-Err : goal.returns-in-Err
-returns-in-Err c = λ ne. stops c.in-Err.refusal (c.in-Err.ensures ne)
+returns-in-Err c = λ ne. stops c.in-Err.refusal (c.in-Err.ensures (λ e. ne (let same : c.in-Err.refusal ≡ form.NoMemory = cc in ap failed same)))
 
-pub returns-in-Ok-parse_params-parametrized : goal.returns-in-Ok-parse_params-parametrized
-returns-in-Ok-parse_params-parametrized c = λ ne.
+pub returns-in-Ok-parametrized : goal.returns-in-Ok-parametrized
+returns-in-Ok-parametrized c = λ ne.
     decides c.in-Ok.target (Ok c.in-Ok-parse_params.params) (Ok c.in-Ok-parametrized.command) (c.in-Ok.ensures (λ e. absurd cc))
     (behind_head (AnswersWithin params_text params_limits) c.args.text.now c.head_length-end.result (Ok c.in-Ok-parse_params.params) c.head_length-end.ensures.count (c.in-Ok-parse_params.ensures.found (λ e. absurd cc))) c.in-Ok-parametrized.ensures
 
