@@ -305,25 +305,11 @@ fn a_root_is_the_greatest_base(rt: HostRuntime) -> Result<(), Fail> {
     roots_are(&rt, &ROOTS)
 }
 
+// 0.125 and 0.375 at two decimals, in units of 0.01
 #[test]
-fn half_a_unit_goes_to_the_even_side(rt: HostRuntime) -> Result<(), Fail> {
-    // 0.000000003 * 0.5 and 0.000000001 * 0.5
-    assert_eq!(rt; number(3)?.mul(number(500_000_000)?)?.raw(), 2);
-    assert_eq!(rt; number(1)?.mul(number(500_000_000)?)?.raw(), 0);
-    // 0.125 at two decimals, in units of 0.01
+fn half_a_unit_goes_to_the_even_side(rt: HostRuntime) {
     assert_eq!(rt; div_half_even(125_000_000, 10_000_000), 12);
-    // 1 / 3 and the square root of 2
-    assert_eq!(rt;
-        number(1_000_000_000)?.div(number(3_000_000_000)?)?.raw(),
-        333_333_333
-    );
-    assert_eq!(rt; number(2_000_000_000)?.root(2)?.raw(), 1_414_213_562);
-    // 7.5 % -2
-    assert_eq!(rt;
-        number(7_500_000_000)?.rem(number(-2_000_000_000)?)?.raw(),
-        -500_000_000
-    );
-    Ok(())
+    assert_eq!(rt; div_half_even(375_000_000, 10_000_000), 38);
 }
 
 #[test]
@@ -332,23 +318,57 @@ fn numbers_past_ten_billions_are_out_of_range(rt: HostRuntime) -> Result<(), Fai
     assert_eq!(rt; most.raw(), 10_000_000_000_000_000_000);
     assert_eq!(rt; Fixed::from_int(-10_000_000_001), Err(NumFault::Overflow));
     assert_eq!(rt; Fixed::from_raw(10_000_000_000_000_000_001), None);
-    assert_eq!(rt; most.add(number(1)?), Err(NumFault::Overflow));
-    assert_eq!(rt; most.sub(most)?.raw(), 0);
-    assert_eq!(rt; most.mul(number(1_000_000_001)?), Err(NumFault::Overflow));
+    Ok(())
+}
+
+/// A call on two numbers. The exponent of a power and the degree of a root are whole.
+#[derive(Clone, Copy)]
+enum Call {
+    Add,
+    Mul,
+    Div,
+    FloorDiv,
+    Pow(i64),
+    Root(u32),
+}
+
+fn fault_of(call: Call, x: i128, y: i128) -> Result<Option<NumFault>, Fail> {
+    let (x, y) = (number(x)?, number(y)?);
+    let answer = match call {
+        Call::Add => x.add(y),
+        Call::Mul => x.mul(y),
+        Call::Div => x.div(y),
+        Call::FloorDiv => x.floor_div(y),
+        Call::Pow(n) => x.pow(n),
+        Call::Root(n) => x.root(n),
+    };
+    Ok(answer.err())
+}
+
+const MOST: i128 = 10_000_000_000_000_000_000;
+
+// A call, its numbers, and its fault.
+const FAULTS: [(Call, i128, i128, NumFault); 10] = [
+    (Call::Add, MOST, 1, NumFault::Overflow),
+    (Call::Mul, MOST, 1_000_000_001, NumFault::Overflow),
+    (Call::Div, MOST, 0, NumFault::ZeroDivision),
+    (Call::FloorDiv, MOST, 1, NumFault::Overflow),
+    (Call::Pow(10_001), 0, 0, NumFault::Domain),
+    (Call::Pow(-2), 0, 0, NumFault::ZeroDivision),
+    (Call::Pow(-2), MOST, 0, NumFault::Overflow),
+    (Call::Root(1), -1, 0, NumFault::Domain),
+    (Call::Root(0), 0, 0, NumFault::Domain),
+    (Call::Root(10_001), 0, 0, NumFault::Domain),
+];
+
+fn faults_are(rt: &impl Abort, rows: &[(Call, i128, i128, NumFault)]) -> Result<(), Fail> {
+    for (call, x, y, fault) in rows {
+        assert_eq!(rt; fault_of(*call, *x, *y)?, Some(*fault));
+    }
     Ok(())
 }
 
 #[test]
 fn the_faults_come_in_their_order(rt: HostRuntime) -> Result<(), Fail> {
-    let most = Fixed::from_int(10_000_000_000)?;
-    let zero = number(0)?;
-    assert_eq!(rt; most.div(zero), Err(NumFault::ZeroDivision));
-    assert_eq!(rt; most.floor_div(number(1)?), Err(NumFault::Overflow));
-    assert_eq!(rt; zero.pow(10_001), Err(NumFault::Domain));
-    assert_eq!(rt; zero.pow(-2), Err(NumFault::ZeroDivision));
-    assert_eq!(rt; most.pow(-2), Err(NumFault::Overflow));
-    assert_eq!(rt; number(-1)?.root(1), Err(NumFault::Domain));
-    assert_eq!(rt; zero.root(0), Err(NumFault::Domain));
-    assert_eq!(rt; zero.root(10_001), Err(NumFault::Domain));
-    Ok(())
+    faults_are(&rt, FAULTS.as_slice())
 }

@@ -13,6 +13,7 @@ use mx_value::fixed::Fixed;
 use mx_value::label::Label;
 use mx_value::value::Value;
 use std::alloc::Global;
+use std::process::Abort;
 use std::test::Fail;
 
 fn value_text(alloc: Global, value: &Value) -> Result<Vec<u8>, Fail> {
@@ -25,40 +26,51 @@ fn fixed(raw: i128) -> Result<Value, Fail> {
     Ok(Value::Fix(Fixed::from_raw(raw).ok_or("out of range")?))
 }
 
+const DECIMALS: [(i128, &[u8]); 7] = [
+    (0, b"0.0"),
+    (2_500_000_000, b"2.5"),
+    (-2_500_000_000, b"-2.5"),
+    (1, b"0.000000001"),
+    (-1, b"-0.000000001"),
+    (1_010_000_000, b"1.01"),
+    (10_000_000_000_000_000_000, b"10000000000.0"),
+];
+
+fn are_written(rt: &impl Abort, alloc: Global, rows: &[(i128, &[u8])]) -> Result<(), Fail> {
+    for (raw, text) in rows {
+        let out = value_text(alloc, &fixed(*raw)?)?;
+        assert_eq!(rt; out.as_slice(), *text);
+    }
+    Ok(())
+}
+
 #[test]
 fn numbers_have_their_decimals(rt: HostRuntime) -> Result<(), Fail> {
-    let rows: [(i128, &[u8]); 7] = [
-        (0, b"0.0"),
-        (2_500_000_000, b"2.5"),
-        (-2_500_000_000, b"-2.5"),
-        (1, b"0.000000001"),
-        (-1, b"-0.000000001"),
-        (1_010_000_000, b"1.01"),
-        (10_000_000_000_000_000_000, b"10000000000.0"),
-    ];
-    for (raw, text) in rows {
-        let out = value_text(rt.alloc(), &fixed(raw)?)?;
-        assert_eq!(rt; out.as_slice(), text);
-    }
+    are_written(&rt, rt.alloc(), DECIMALS.as_slice())?;
     let least = value_text(rt.alloc(), &Value::Int(i64::MIN))?;
     assert_eq!(rt; least.as_slice(), b"-9223372036854775808".as_slice());
     Ok(())
 }
 
-#[test]
-fn texts_escape_quotes_and_backslashes(rt: HostRuntime) -> Result<(), Fail> {
-    let rows: [(&[u8], &[u8]); 4] = [
-        (b"", b"\"\""),
-        (b"a b", b"\"a b\""),
-        (b"say \"x\"", b"\"say \\\"x\\\"\""),
-        (b"a\\b'c", b"\"a\\\\b'c\""),
-    ];
+const ESCAPES: [(&[u8], &[u8]); 4] = [
+    (b"", b"\"\""),
+    (b"a b", b"\"a b\""),
+    (b"say \"x\"", b"\"say \\\"x\\\"\""),
+    (b"a\\b'c", b"\"a\\\\b'c\""),
+];
+
+fn are_escaped(rt: &impl Abort, alloc: Global, rows: &[(&[u8], &[u8])]) -> Result<(), Fail> {
     for (text, printed) in rows {
-        let value = Value::Text(Label::new(rt.alloc(), text)?);
-        let out = value_text(rt.alloc(), &value)?;
-        assert_eq!(rt; out.as_slice(), printed);
+        let value = Value::Text(Label::new(alloc, text)?);
+        let out = value_text(alloc, &value)?;
+        assert_eq!(rt; out.as_slice(), *printed);
     }
     Ok(())
+}
+
+#[test]
+fn texts_escape_quotes_and_backslashes(rt: HostRuntime) -> Result<(), Fail> {
+    are_escaped(&rt, rt.alloc(), ESCAPES.as_slice())
 }
 
 fn tuple(values: Vec<Value>) -> Value {

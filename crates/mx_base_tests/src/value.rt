@@ -15,6 +15,7 @@ use mx_value::size::size_of_value;
 use mx_value::value::{Addr, CellsAt, Segment, Value};
 use std::alloc::Global;
 use std::collections::HashMap;
+use std::process::Abort;
 use std::test::Fail;
 
 fn fixed(raw: i128) -> Result<Value, Fail> {
@@ -57,59 +58,69 @@ fn claims(alloc: Global, t: i64) -> Result<Node, Fail> {
 }
 
 #[test]
-fn a_label_has_printable_bytes_alone(rt: HostRuntime) -> Result<(), Fail> {
+fn a_label_keeps_its_bytes(rt: HostRuntime) -> Result<(), Fail> {
     let whole = Label::new(rt.alloc(), b" az~09".as_slice())?;
     assert_eq!(rt; whole.as_slice(), b" az~09".as_slice());
     assert_eq!(rt; whole.len(), 6);
     assert!(rt; Label::new(rt.alloc(), b"".as_slice())?.is_empty());
-    let bad: [(&[u8], usize); 6] = [
-        (b"\t".as_slice(), 0),
-        (b"\x1f".as_slice(), 0),
-        (b"a\x7f".as_slice(), 1),
-        (b"ab\n".as_slice(), 2),
-        (b"abc\xc3\xa9".as_slice(), 3),
-        (b"a\0b\0".as_slice(), 1),
-    ];
-    for (bytes, place) in bad {
-        let refused = Label::new(rt.alloc(), bytes).err();
-        assert!(rt; refused == Some(LabelRefusal::NotPrintable(place)));
+    Ok(())
+}
+
+// Bytes, and the place of the first that is not printable.
+const UNPRINTABLE: [(&[u8], usize); 6] = [
+    (b"\t", 0),
+    (b"\x1f", 0),
+    (b"a\x7f", 1),
+    (b"ab\n", 2),
+    (b"abc\xc3\xa9", 3),
+    (b"a\0b\0", 1),
+];
+
+fn are_refused(rt: &impl Abort, alloc: Global, rows: &[(&[u8], usize)]) -> Result<(), Fail> {
+    for (bytes, place) in rows {
+        let refused = Label::new(alloc, bytes).err();
+        assert!(rt; refused == Some(LabelRefusal::NotPrintable(*place)));
+    }
+    Ok(())
+}
+
+#[test]
+fn a_label_has_printable_bytes_alone(rt: HostRuntime) -> Result<(), Fail> {
+    are_refused(&rt, rt.alloc(), UNPRINTABLE.as_slice())
+}
+
+const NAMES: [&str; 10] = [
+    "a",
+    "Z",
+    "x1",
+    "term_life_S",
+    "none",
+    "true",
+    "print",
+    "match",
+    "Class",
+    "ifs",
+];
+
+const OTHERS: [&str; 43] = [
+    "", "_a", "_", "1a", "a b", "a-b", "a.b", "a\"", "and", "as", "assert", "async", "await",
+    "break", "class", "continue", "def", "del", "elif", "else", "except", "finally", "for", "from",
+    "global", "if", "import", "in", "is", "lambda", "nonlocal", "not", "or", "pass", "raise",
+    "return", "try", "while", "with", "yield", "None", "True", "False",
+];
+
+fn are_told(rt: &impl Abort, alloc: Global, words: &[&str], names: bool) -> Result<(), Fail> {
+    for word in words {
+        let told = is_name(&Label::new(alloc, word.as_bytes())?);
+        assert!(rt; told == names, "{word}");
     }
     Ok(())
 }
 
 #[test]
 fn names_are_told(rt: HostRuntime) -> Result<(), Fail> {
-    let names = [
-        "a",
-        "Z",
-        "x1",
-        "term_life_S",
-        "none",
-        "true",
-        "print",
-        "match",
-        "Class",
-        "ifs",
-    ];
-    for name in names {
-        assert!(rt;
-            is_name(&Label::new(rt.alloc(), name.as_bytes())?),
-            "{name}"
-        );
-    }
-    let others = [
-        "", "_a", "_", "1a", "a b", "a-b", "a.b", "a\"", "and", "as", "assert", "async", "await",
-        "break", "class", "continue", "def", "del", "elif", "else", "except", "finally", "for",
-        "from", "global", "if", "import", "in", "is", "lambda", "nonlocal", "not", "or", "pass",
-        "raise", "return", "try", "while", "with", "yield", "None", "True", "False",
-    ];
-    for other in others {
-        assert!(rt;
-            !is_name(&Label::new(rt.alloc(), other.as_bytes())?),
-            "{other}"
-        );
-    }
-    Ok(())
+    are_told(&rt, rt.alloc(), NAMES.as_slice(), true)?;
+    are_told(&rt, rt.alloc(), OTHERS.as_slice(), false)
 }
 
 #[test]
@@ -161,34 +172,51 @@ fn an_address_counts_its_arguments(rt: HostRuntime) -> Result<(), Fail> {
     Ok(())
 }
 
-#[test]
-fn whole_decimal_numbers_become_whole_numbers(rt: HostRuntime) -> Result<(), Fail> {
-    let alloc = rt.alloc();
-    let rows = [
-        (fixed(2_000_000_000)?, Value::Int(2)),
-        (fixed(2_500_000_000)?, fixed(2_500_000_000)?),
-        (fixed(0)?, Value::Int(0)),
-        (fixed(-3_000_000_000)?, Value::Int(-3)),
-        (fixed(-1)?, fixed(-1)?),
-        (
-            fixed(10_000_000_000_000_000_000)?,
-            Value::Int(10_000_000_000),
-        ),
-        (Value::Flag(true), Value::Flag(true)),
-        (Value::Nothing, Value::Nothing),
-    ];
+// A decimal number, and the whole number that it becomes.
+const NORMAL: [(i128, Option<i64>); 6] = [
+    (2_000_000_000, Some(2)),
+    (2_500_000_000, None),
+    (0, Some(0)),
+    (-3_000_000_000, Some(-3)),
+    (-1, None),
+    (10_000_000_000_000_000_000, Some(10_000_000_000)),
+];
+
+/// The value, and a tuple of it alone.
+fn push_both(alloc: Global, list: &mut Items<Value>, value: Value) -> Result<(), Fail> {
+    let mut tuple = Items::new(alloc);
+    tuple.push(value.copy(alloc)?)?;
+    list.push(value)?;
+    list.push(Value::Tup(tuple))?;
+    Ok(())
+}
+
+fn become_whole(rt: &impl Abort, alloc: Global, rows: &[(i128, Option<i64>)]) -> Result<(), Fail> {
     let mut given = Items::new(alloc);
     let mut wanted = Items::new(alloc);
-    for (value, normal_value) in rows {
-        given.push(value.copy(alloc)?)?;
-        wanted.push(normal_value.copy(alloc)?)?;
-        let mut tuple = Items::new(alloc);
-        tuple.push(value)?;
-        given.push(Value::Tup(tuple))?;
-        let mut normal_tuple = Items::new(alloc);
-        normal_tuple.push(normal_value)?;
-        wanted.push(Value::Tup(normal_tuple))?;
+    for (raw, whole) in rows {
+        push_both(alloc, &mut given, fixed(*raw)?)?;
+        let normal_value = match whole {
+            Some(n) => Value::Int(*n),
+            None => fixed(*raw)?,
+        };
+        push_both(alloc, &mut wanted, normal_value)?;
     }
+    assert!(rt; normal(given) == wanted);
+    Ok(())
+}
+
+#[test]
+fn whole_decimal_numbers_become_whole_numbers(rt: HostRuntime) -> Result<(), Fail> {
+    become_whole(&rt, rt.alloc(), NORMAL.as_slice())
+}
+
+#[test]
+fn other_values_stay(rt: HostRuntime) -> Result<(), Fail> {
+    let mut given = Items::new(rt.alloc());
+    push_both(rt.alloc(), &mut given, Value::Flag(true))?;
+    push_both(rt.alloc(), &mut given, Value::Nothing)?;
+    let wanted = copy_items(rt.alloc(), &given)?;
     assert!(rt; normal(given) == wanted);
     Ok(())
 }
@@ -241,19 +269,24 @@ fn copies_of_namespaces_are_equal(rt: HostRuntime) -> Result<(), Fail> {
     Ok(())
 }
 
+fn are_copied(rt: &impl Abort, alloc: Global, reads: &[Read]) -> Result<(), Fail> {
+    for read in reads {
+        assert!(rt; read.copy(alloc)? == *read);
+    }
+    Ok(())
+}
+
 #[test]
 fn copies_of_reads_are_equal(rt: HostRuntime) -> Result<(), Fail> {
     let alloc = rt.alloc();
-    let rows = [
+    let reads = vec![in alloc;
         Read::Node(claims(alloc, 1)?),
         Read::Ref(address(alloc)?, Label::new(alloc, b"rate".as_slice())?),
         Read::Global(Label::new(alloc, b"rate".as_slice())?),
         Read::Table(Label::new(alloc, b"mort".as_slice())?),
-    ];
-    for read in &rows {
-        assert!(rt; read.copy(alloc)? == *read);
-    }
-    assert!(rt; rows[2] != rows[3]);
+    ]?;
+    are_copied(&rt, alloc, reads.as_slice())?;
+    assert!(rt; reads[2] != reads[3]);
     Ok(())
 }
 

@@ -7,3 +7,4 @@ pub mod EndLemmas
 pub mod EndsLemmas
 pub mod WithinLemmas
 pub mod Known
+pub mod Alike

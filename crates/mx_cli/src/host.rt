@@ -2,7 +2,7 @@
 //!
 //! They tell no content: what the terminal, a pipe or a file gives and takes is outside of every proof. Only the counts
 //! of their faults are told.
-ghost use Rattle.std.specs.Prelude.{None};
+ghost use Rattle.std.specs.Prelude.{◌≡◌, None};
 
 use mx_outside::{Failed, Sink, Source, WriteFailure};
 use std::io::{Read, Write};
@@ -16,7 +16,9 @@ pub struct HostSource<R: Read + Drop> {
 
 impl<R: Read + Drop> HostSource<R> {
     /// A source over this reader, with no fault counted.
-    pub fn new(inner: R) -> HostSource<R> {
+    pub fn new(inner: R) -> HostSource<R>
+        ensures { result.faults ≡ 0 }
+    {
         HostSource { inner, faults: 0 }
     }
 }
@@ -46,7 +48,9 @@ pub struct HostSink<W: Write + Drop> {
 
 impl<W: Write + Drop> HostSink<W> {
     /// A sink over this writer, with no fault counted.
-    pub fn new(inner: W) -> HostSink<W> {
+    pub fn new(inner: W) -> HostSink<W>
+        ensures { result.faults ≡ 0 }
+    {
         HostSink { inner, faults: 0 }
     }
 }

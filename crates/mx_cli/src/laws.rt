@@ -1,5 +1,6 @@
-//! Laws of the lines and commands of a script.
+//! Laws of the lines and commands of a script, and of what they write.
 ghost use Rattle.std.specs.Prelude.{◌++◌, ℕ, List};
+ghost use Rattle.mx_cli.specs.Laws.{OneBlock, OneOutput, OneTranscript};
 ghost use Rattle.mx_cli.specs.Script.{complete_commands, commands};
 ghost use Rattle.mx_script.specs.Script.{split_lines, AreLines, GrowsTo};
 
@@ -12,4 +13,12 @@ pub fn lines_give_the_script()
 pub fn complete_commands_stay()
     ensures more { (read : List ℕ) (more : List ℕ) → GrowsTo (complete_commands read) (complete_commands (read ++ more)) }
     ensures whole { (read : List ℕ) → GrowsTo (complete_commands read) (commands read) }
+{}
+
+/// From one right state each command has one block, each list of commands one output, and so has a script, as
+/// long as no evaluation is too deep or full and memory suffices: which nodes are run first makes no difference.
+pub fn commands_have_one_output()
+    ensures block { OneBlock }
+    ensures output { OneOutput }
+    ensures transcript { OneTranscript }
 {}

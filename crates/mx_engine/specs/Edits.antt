@@ -1,11 +1,14 @@
 -- The model text after an edit, and the refusals of edits.
 use Rattle.std.specs.Prelude.{◌≡◌, ℕ, ◌≤◌, Bool, true, false, not, ◌&&◌, Option, None, Some, Result, Ok, Err, List, [], length, nat_le, is_some, if◌then◌else◌}
 use Rattle.std.specs.Map.{lookup}
+use Rattle.mx_value.specs.declared.node.Node.{Node}
 use Rattle.mx_value.specs.Name.{is_name}
 use Rattle.mx_value.specs.Name.{same_name, same_path}
 use Rattle.mx_meaning.specs.Model.{Text, define, main_path}
-use Rattle.mx_meaning.specs.Held.{Entry, IsMemo}
-use Rattle.mx_meaning.specs.State.{most_held}
+use Rattle.mx_meaning.specs.Lists.{Has}
+use Rattle.mx_meaning.specs.Meaning.{bound_node}
+use Rattle.mx_meaning.specs.Held.{Entry, IsMemo, nodes_of}
+use Rattle.mx_meaning.specs.State.{IsValidText, greatest_limit, most_held}
 use Rattle.mx_engine.specs.declared.edit.Edit.{Edit}
 use Rattle.mx_engine.specs.declared.edit.Edit.TheVariants.{SetCells}
 use Rattle.mx_engine.specs.declared.edit.Limit.TheVariants as limits
@@ -36,7 +39,12 @@ IsRefusedBy (Ok n) r = r ≡ None
 IsRefusedBy (Err NoMemory) r = Unit {0}
 IsRefusedBy (Err e) r = r ≡ Some e
 
--- what is held is right for the text, and no more than may be
-pub record IsSound (text : Text) (held : List Entry) : Type 0 where
+-- The text is valid, what is held is right for it and in bound form, no more is held than may be, and the limit is
+-- within its bounds.
+pub record IsSound (text : Text) (held : List Entry) (limit : ℕ) : Type 0 where
+  pub valid : IsValidText text
   pub memo : IsMemo text held
+  pub bound : (n : Node) → Has (nodes_of held) n → bound_node text n ≡ n
   pub room : length held ≤ most_held
+  pub least : 1 ≤ limit
+  pub greatest : limit ≤ greatest_limit

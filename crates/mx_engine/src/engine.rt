@@ -65,7 +65,7 @@ impl Model for Engine {
 
     ghost view = { λ e. record { text = e.text; held = e.work.held.entries; limit = e.limit } };
 
-    ghost invariant = { λ e. IsSound e.text e.work.held.entries };
+    ghost invariant = { λ e. IsSound e.text e.work.held.entries e.limit };
 }
 
 impl Engine {

@@ -1,7 +1,9 @@
-//! Tests of the engine, above the crate that they test.
+//! Tests of the engine and of its machine, above the crates that they test.
 #![tactic(auto)]
 
 #[cfg(test)]
-mod tests;
+mod deep;
 #[cfg(test)]
-mod trees;
+mod texts;
+#[cfg(test)]
+mod worked;

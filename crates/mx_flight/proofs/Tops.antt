@@ -18,7 +18,7 @@ use Rattle.mx_meaning.proofs.Lists.{has_left, onto}
 use Rattle.mx_meaning.proofs.Runs.{asked_by_end}
 use Rattle.mx_meaning.proofs.Meanings.{IsFailure, failure_reached, finished, failure_no_value}
 use Rattle.mx_meaning.proofs.Reach.{reached_by}
-use Rattle.mx_meaning.proofs.Held.{nodes_added, nodes_cases, held_reach, held_value, memo_push}
+use Rattle.mx_meaning.proofs.Held.{nodes_added, nodes_cases, held_reach, held_value, holds_more, memo_push}
 use Rattle.mx_flight.proofs.Standing.{stands_first, stands_given, stands_shallow_end, shallow_more, asks_none, unasked_shallow}
 use Rattle.mx_flight.proofs.Waiting.{handed_down, held_counts, asked_reaches, waits_closed, stopped, stopped_lost}
 use Rattle.mx_flight.proofs.Deep.{deep, ring, on_ring, asked_nothing}
@@ -80,14 +80,12 @@ module _ (text : Text) (limit : ℕ) (start : List Entry) (asked : Node) where
   done_bottom held n r memo d =
       let settled : IsSettled text limit start n held = record {
         shallow = subst (λ es. IsShallow text limit 1 (nodes_of es) n) d.waits.1 d.shallow;
-        holds = record {
-          grown = record { more = d.news; is = d.grown ∙ ap (λ es. es ++ d.news) d.waits.1 };
-          only = λ x h. elim (nodes_cases d.since d.news held x d.grown h) [
-            | inl a ↦ inl (subst (λ es. Has (nodes_of es) x) d.waits.1 a)
-            | inr b ↦ inr (d.reached x b, held_value text held memo.right x h)
-          ];
-          whole = λ x q v. held_reach text held memo.right n x d.kept q;
-        };
+        holds = holds_more text start d.news held n memo.right (d.grown ∙ ap (λ es. es ++ d.news) d.waits.1)
+            (λ x h. elim (nodes_cases d.since d.news held x d.grown h) [
+              | inl a ↦ inl (subst (λ es. Has (nodes_of es) x) d.waits.1 a)
+              | inr b ↦ inr (d.reached x b, held_value text held memo.right x h)
+            ])
+            (λ x q v. held_reach text held memo.right n x d.kept q);
       } in
       subst (λ x. Means text x (Gives r) × IsSettled text limit start x held) d.waits.0 (d.means, settled)
 

@@ -13,7 +13,7 @@ use Rattle.mx_flight.specs.Flights.{Suspended, StandsAt, Waits, frame_nodes, IsS
 use Rattle.mx_meaning.proofs.Runs.{Before, Now, After, ask_case}
 use Rattle.mx_meaning.proofs.Meanings.{IsFailure, passed_on, ask_has_value, AsksWithin}
 use Rattle.mx_meaning.proofs.Reach.{reach_within, reach_on, reach_ask, reached_by}
-use Rattle.mx_meaning.proofs.Held.{nodes_grow, nodes_cases, held_value, grown_on}
+use Rattle.mx_meaning.proofs.Held.{nodes_grow, nodes_cases, held_value, grown_on, holds_more}
 use Rattle.mx_flight.proofs.Standing.{stands_shallow_ask}
 
 module _ (text : Text) (limit : ℕ) (start : List Entry) (asked : Node) where
@@ -123,14 +123,12 @@ module _ (text : Text) (limit : ℕ) (start : List Entry) (asked : Node) where
         ]
 
     pub stopped : ((z : Node) → DoesAsk text m z → Has (nodes_of held) z ⊎ Has (m ∷ frame_nodes fs) z) → length fs ≤ limit → IsShallow text limit (suc (length fs)) (frame_nodes fs ++ nodes_of since) m → IsSettled text limit start asked held
-    stopped own le sh = record {
-      shallow = handed_shallow fs m since w none le sh;
-      holds = record {
-        grown = grown_on start since held (waits_grown fs m since w) (record { more = news; is = grown });
-        only = held_counts fs m since held news w right grown reached;
-        whole = stopped_whole own;
-      };
-    }
+    stopped own le sh =
+        let g : Grown start held = grown_on start since held (waits_grown fs m since w) (record { more = news; is = grown }) in
+        record {
+          shallow = handed_shallow fs m since w none le sh;
+          holds = holds_more text start g.more held asked right g.is (held_counts fs m since held news w right grown reached) (stopped_whole own);
+        }
 
     -- the nodes on the stack are those that are reached and have no value
     pub stopped_lost : ((z : Node) → DoesAsk text m z → Has (nodes_of held) z ⊎ Has (m ∷ frame_nodes fs) z) → (ns : List Node) → Distinct ns → ((x : Node) → Has (m ∷ frame_nodes fs) x → Has ns x) → ((x : Node) → Has ns x → Has (m ∷ frame_nodes fs) x) → AreLost text asked (length ns)

@@ -10,7 +10,7 @@ use Rattle.mx_meaning.specs.Model.{Text}
 use Rattle.mx_meaning.specs.Lists.{Has}
 use Rattle.mx_meaning.specs.Held.{Entry, nodes_of, IsMemo, Grown, HoldsMore}
 use Rattle.mx_meaning.specs.Answers.{Answer, AtMost, DeepChain, HasRoom}
-use Rattle.mx_meaning.proofs.Held.{held_reach, nodes_grow}
+use Rattle.mx_meaning.proofs.Held.{held_reach, holds_before, holds_more, holds_reached}
 use Rattle.mx_flight.specs.Flights.{IsSettled}
 use Rattle.mx_flight.proofs.Deep.{no_deep}
 use Rattle.mx_step.specs.Flight.{all_of, no_run}
@@ -22,17 +22,13 @@ at_most : (text : Text) (held after : List Entry) (n : Node) (most : ℕ) → Ho
 at_most text held after n most h le = record {
   nodes = nodes_of after;
   few = let e : length (nodes_of after) ≡ length after = length-map after (λ d. d.0) in omega arith;
-  whole = λ x c. elim c [ inl a ↦ nodes_grow held h.grown.more after x h.grown.is a | inr b ↦ h.whole x b.0 b.1 ];
+  whole = λ x c. elim c [ inl a ↦ holds_before text held after n h x a | inr b ↦ holds_reached text held after n h x b.0 b.1 ];
 }
 
 module _ (text : Text) (held : List Entry) (limit most : ℕ) (n : Node) where
   pub held_answer : IsMemo text held → length held ≤ most → Has (nodes_of held) n → HasRoom text held limit most n × HoldsMore text held n held
   held_answer m le h =
-      let more : HoldsMore text held n held = record {
-        grown = record { more = []; is = sym (append-nil held) };
-        only = λ x i. inl i;
-        whole = λ x r v. held_reach text held m.right n x h r;
-      } in
+      let more : HoldsMore text held n held = holds_more text held [] held n m.right (sym (append-nil held)) (λ x i. inl i) (λ x r v. held_reach text held m.right n x h r) in
       (record { shallow = no_deep text held limit n (λ rest c d. absurd (d n (inl refl) h)); few = at_most text held held n most more le }, more)
 
   pub zero_deep : (Has (nodes_of held) n → ⊥) → limit ≡ 0 → DeepChain text held limit n n

@@ -17,7 +17,7 @@ use Rattle.mx_code.specs.Told.{told}
 use Rattle.mx_code_law.specs.Machine.{Does}
 use Rattle.mx_flight.specs.Flights.{GoesPast, IsDone, IsTop, Suspended, frame_nodes}
 use Rattle.mx_flight.proofs.Waiting.{waits_grown}
-use Rattle.mx_flight.proofs.Tops.{done_bottom, done_popped, done_top, fault_top, full_top, memo_top, top_past}
+use Rattle.mx_flight.proofs.Tops.{depth_within, done_bottom, done_popped, done_top, fault_top, full_top, memo_top, top_past}
 use Rattle.mx_step.specs.Flight.{Below, Flight, on_top, with_value}
 use Rattle.mx_step.specs.Homes.{home_of}
 use Rattle.mx_machine.specs.declared.evaluator.Evaluator.{Evaluator}
@@ -45,6 +45,14 @@ grown_longer a b g = let e : length b ≡ length (a ++ g.more) = ap length g.is 
 pub emptied : {X : Type 0} (olds : List X) → (0 < length olds → ⊥) → olds ≡ []
 emptied [] h = refl
 emptied (x ∷ xs) h = absurd (h (omega arith))
+
+-- with the run on top no more stand on the stack than the limit
+pub flies_within : (q : Evaluation) (work : Evaluator) (r : Running) (now : ℕ) → Flies q work r now → length work.waiting.entries < q.bounds.limit
+flies_within q work r now f =
+    let o = f.over in
+    let l : length work.waiting.entries ≡ length o.below = sym (length-reverse work.waiting.entries) ∙ stand_long work.stack.below (reverse work.waiting.entries) o.below o.stand in
+    let d : suc (length o.below) ≤ q.bounds.limit = depth_within q.text q.bounds.limit q.start q.asked o.below r.scope.node work.held.entries o.top.apart in
+    omega (arith, l, d)
 
 module _ (q : Evaluation) (now : ℕ) where
   pub ended : (held : List Entry) (k : ℕ) (a : Result Value EvalRefusal) → IsMemo q.text held → length held ≤ q.bounds.most → Grown q.start held → AreCounted q now held k → EndsAs q held now a → HasEnded q held now a

@@ -1,5 +1,5 @@
 -- What an insertion by a node that is not there does.
-use Rattle.std.proofs.Common.{Bool, true, false, if◌then◌else◌, ◌≡◌, List, [], ◌∷◌, ◌++◌, map, reverse, Option, Some, None, is_some, inl, inr, refl, sym, ◌∙◌, ap, subst}
+use Rattle.std.proofs.Common.{Bool, true, false, if◌then◌else◌, ◌≡◌, suc, ◌≤◌, arith, length, List, [], ◌∷◌, ◌++◌, map, reverse, Option, Some, None, is_some, inl, inr, refl, sym, ◌∙◌, ap, subst}
 use Rattle.indexmap.specs.IndexMap.{insert_entry}
 use Rattle.mx_value.specs.declared.node.Node.{Node}
 use Rattle.mx_value.specs.Equality.{node_eq}
@@ -26,3 +26,12 @@ none_there None e = refl
 -- a node that is not among the last ones first is not among them
 pub off_reversed : {X : Type 0} (below : List (Node × X)) (n : Node) → (Has (map (λ (d : Node × X). d.0) (reverse below)) n → ⊥) → Has (map (λ (d : Node × X). d.0) below) n → ⊥
 off_reversed below n h i = h (subst (λ ns. Has ns n) (sym (map_reverse (λ (d : Node × _). d.0) below)) (has_reverse (map (λ (d : Node × _). d.0) below) n i))
+
+inserted_by : {X : Type 0} (n : Node) (v : X) (b : Bool) (e : Node × X) (es : List (Node × X)) → length (insert_entry node_eq es n v) ≤ suc (length es) → length (if b then ((e.0, v) ∷ es) else (e ∷ insert_entry node_eq es n v)) ≤ suc (suc (length es))
+inserted_by n v true e es h = omega arith
+inserted_by n v false e es h = omega (arith, h)
+
+-- an insertion adds one entry at most
+pub inserted_long : {X : Type 0} (n : Node) (v : X) (es : List (Node × X)) → length (insert_entry node_eq es n v) ≤ suc (length es)
+inserted_long n v [] = omega arith
+inserted_long n v (e ∷ es) = inserted_by n v (node_eq n e.0) e es (inserted_long n v es)

@@ -41,6 +41,7 @@ pub fn begin<L: Ledger>(
 }
 
 /// The run of a node stands on top of the stack.
+#[inline(always)]
 fn open(
     alloc: Global,
     text: &ModelText,
@@ -71,6 +72,7 @@ fn open(
 }
 
 /// A formula stands before its first instruction, with the arguments as its first locals.
+#[inline(always)]
 fn enter(
     alloc: Global,
     compiled: &Compiled,
@@ -96,6 +98,7 @@ fn enter(
 }
 
 /// What the run of a cells node does first: it looks for an input, and then its formula up.
+#[inline(always)]
 fn first_events(
     alloc: Global,
     node: &Shared<Node>,

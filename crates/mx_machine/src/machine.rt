@@ -27,7 +27,8 @@ use std::alloc::{AllocError, Global};
 use std::sync::ledger::Ledger;
 
 /// The value of a node, which is held with those that it rests on. After a fault and a ring what was
-/// computed stays held; after each other refusal is held what was before.
+/// computed stays held; after each other refusal is held what was before. At no time do more runs stand
+/// on the stack than the limit: one more is begun only where fewer wait.
 pub fn eval<L: Ledger>(
     alloc: Global,
     text: &ModelText,
@@ -42,6 +43,7 @@ pub fn eval<L: Ledger>(
     ensures room { length work.new.held.entries ≤ bounds.most }
     ensures answer { Answer text.now work.old.held.entries bounds.limit bounds.most node.now result work.new.held.entries (steps.new - steps.old) }
     ensures ticks { steps.old ≤ steps.new }
+    ensures frames { length work.old.waiting.entries ≤ bounds.limit → length work.new.waiting.entries ≤ bounds.limit }
 {
     if let Some(kept) = work.held.get(Sought { key: node }) {
         return Ok(kept.reply.get().value.copy(alloc)?);
@@ -86,7 +88,8 @@ fn evaluate<L: Ledger>(
     requires room { length work.old.held.entries ≤ bounds.most }
     requires new { Has (nodes_of work.old.held.entries) node.now → ⊥ }
     requires some { bounds.limit ≡ 0 → ⊥ }
-    ensures { HasEnded (evaluation text.now bounds work.old.held.entries node.now steps.old) work.new.held.entries steps.new result }
+    ensures ended { HasEnded (evaluation text.now bounds work.old.held.entries node.now steps.old) work.new.held.entries steps.new result }
+    ensures frames { length work.new.waiting.entries ≤ bounds.limit }
 {
     work.waiting.clear();
     work.stack.clear();
@@ -110,8 +113,10 @@ fn step<L: Ledger>(
     work: &mut Evaluator,
     steps: &mut Steps<L>,
 ) -> Result<Progress, EvalRefusal>
-    requires { IsMemo text.now work.old.held.entries }
-    ensures { (start : Many Entry) (asked : Nodes) (before : ℕ) → Flies (evaluation text.now bounds start asked before) work.old running steps.old → Flew (evaluation text.now bounds start asked before) work.new steps.new result }
+    requires memo { IsMemo text.now work.old.held.entries }
+    requires room { length work.old.waiting.entries < bounds.limit }
+    ensures flew { (start : Many Entry) (asked : Nodes) (before : ℕ) → Flies (evaluation text.now bounds start asked before) work.old running steps.old → Flew (evaluation text.now bounds start asked before) work.new steps.new result }
+    ensures frames { length work.new.waiting.entries ≤ bounds.limit }
 {
     let Running { scope, mut events } = running;
     match run_past(
@@ -144,7 +149,8 @@ fn give(
     value: Value,
     work: &mut Evaluator,
 ) -> Result<Progress, EvalRefusal>
-    ensures { (q : Evaluation) (now : ℕ) → q.bounds.most ≡ most → Over q work.old running (gives value) now → Flew q work.new now result }
+    ensures flew { (q : Evaluation) (now : ℕ) → q.bounds.most ≡ most → Over q work.old running (gives value) now → Flew q work.new now result }
+    ensures frames { length work.new.waiting.entries ≤ length work.old.waiting.entries }
 {
     if work.held.len() >= most {
         return Err(EvalRefusal::Full);
@@ -172,7 +178,8 @@ fn hand_down(
     reply: Shared<Reply>,
     work: &mut Evaluator,
 ) -> Result<Progress, EvalRefusal>
-    ensures { (q : Evaluation) (now : ℕ) → IsHeld q work.old node reply now → Flew q work.new now result }
+    ensures flew { (q : Evaluation) (now : ℕ) → IsHeld q work.old node reply now → Flew q work.new now result }
+    ensures frames { length work.new.waiting.entries ≤ length work.old.waiting.entries }
 {
     let value = reply.get().value.copy(alloc)?;
     let Some((_, frame)) = work.waiting.pop() else {
@@ -198,7 +205,9 @@ fn wait(
     to: &Shared<Node>,
     work: &mut Evaluator,
 ) -> Result<(), EvalRefusal>
-    ensures { (q : Evaluation) (now : ℕ) (go : Replies → Run) → q.bounds.limit ≡ limit → Over q work.old running (Asks to.now go) now → Resumes running.scope work.old.stack.top go → (Has (nodes_of work.old.held.entries) to.now → ⊥) → Waited q work.new to.now now result }
+    requires room { length work.old.waiting.entries < limit }
+    ensures waited { (q : Evaluation) (now : ℕ) (go : Replies → Run) → q.bounds.limit ≡ limit → Over q work.old running (Asks to.now go) now → Resumes running.scope work.old.stack.top go → (Has (nodes_of work.old.held.entries) to.now → ⊥) → Waited q work.new to.now now result }
+    ensures frames { length work.new.waiting.entries ≤ limit }
 {
     let Running { scope, events } = running;
     let node = scope.node.copy()?;

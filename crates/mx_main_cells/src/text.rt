@@ -64,6 +64,7 @@ impl ModelText {
     }
 
     /// Whether this is the path of the space Main.
+    #[inline(always)]
     pub fn has_path(&self, path: &Path) -> bool
         ensures { result ≡ same_path path.now main_path }
     {
@@ -74,6 +75,7 @@ impl ModelText {
     }
 
     /// Whether this is the address of the space Main.
+    #[inline(always)]
     pub fn has_space(&self, at: &Addr) -> bool
         ensures { IsTrue result ↔ path_of at.now ≡ Some main_path }
     {
@@ -84,6 +86,7 @@ impl ModelText {
     }
 
     /// The source of the namespace at an address without items: the address's names.
+    #[inline(always)]
     pub fn source_of(&self, alloc: Global, at: &Addr) -> Result<Option<Path>, AllocError>
         ensures { IfOk result (λ p. p ≡ path_of at.now) }
     {
@@ -94,6 +97,7 @@ impl ModelText {
     }
 
     /// The formula of the cells that a path binds to a name, with its code.
+    #[inline(always)]
     pub fn formula_at(&self, path: &Path, name: &Label) -> Option<&Compiled>
         ensures { option_copied result ≡ formula_at self.now path.now name.now }
     {

@@ -3,12 +3,12 @@ use Rattle.std.proofs.Common.{◌≡◌, List, [], ◌∷◌, ◌++◌, ◌⊎�
 use Rattle.std.proofs.lemmas.List.{map-append, append_assoc}
 use Rattle.mx_value.specs.declared.node.Node.{Node}
 use Rattle.mx_meaning.specs.Model.{Text}
-use Rattle.mx_meaning.specs.Lists.{Has, Distinct}
+use Rattle.mx_meaning.specs.Lists.{Has, Distinct, Disjoint}
 use Rattle.mx_meaning.specs.Runs.{Ends, Gives}
 use Rattle.mx_meaning.specs.Meaning.{body, Means, Leads}
 use Rattle.mx_meaning.specs.Chains.{asks_of, DoesAsk, Reaches, HasValue}
-use Rattle.mx_meaning.specs.Held.{Entry, nodes_of, IsRight, HaveRuns, IsMemo, Grown}
-use Rattle.mx_meaning.proofs.Lists.{has_left, has_right, has_cases, has_push_cases, distinct_push, has_map_from}
+use Rattle.mx_meaning.specs.Held.{Entry, nodes_of, IsRight, HaveRuns, IsMemo, Grown, HoldsMore}
+use Rattle.mx_meaning.proofs.Lists.{has_left, has_right, has_cases, has_push_cases, distinct_push, distinct_later, distinct_apart, has_map_from, among_or_not}
 use Rattle.mx_meaning.proofs.Runs.{asked_by_end}
 use Rattle.mx_meaning.proofs.Meanings.{finished}
 use Rattle.mx_meaning.proofs.Reach.{reach_within}
@@ -68,3 +68,30 @@ module _ (text : Text) (held : List Entry) (e : Entry) (leads : Leads text (body
 
 pub grown_on : (a b c : List Entry) → Grown a b → Grown b c → Grown a c
 grown_on a b c x y = record { more = x.more ++ y.more; is = y.is ∙ ap (λ es. es ++ y.more) x.is ∙ append_assoc a x.more y.more }
+
+-- what is right after holds exactly those before and these more
+pub holds_more : (text : Text) (before more after : List Entry) (n : Node) → IsRight text after → after ≡ before ++ more → ((x : Node) → Has (nodes_of after) x → Has (nodes_of before) x ⊎ (Reaches text n x × HasValue text x)) → ((x : Node) → Reaches text n x → HasValue text x → Has (nodes_of after) x) → HoldsMore text before n after
+holds_more text before more after n r e only whole =
+    let d : Distinct (nodes_of before ++ nodes_of more) = subst (λ ns. Distinct ns) (ap (λ es. nodes_of es) e ∙ nodes_append before more) r.once in
+    let apart : Disjoint (nodes_of before) (nodes_of more) = distinct_apart (nodes_of before) (nodes_of more) d in
+    record {
+      more = more;
+      is = e;
+      once = distinct_later (nodes_of before) (nodes_of more) d;
+      exactly = λ x. (
+        (λ h. elim (only x (nodes_added before more after x e h)) [ inl a ↦ absurd (apart x a h) | inr b ↦ (b.0, b.1, λ k. apart x k h) ]),
+        (λ h. elim (nodes_cases before more after x e (whole x h.0 h.1)) [ inl a ↦ absurd (h.2 a) | inr b ↦ b ]),
+      );
+      means = λ f h. r.means f (subst (λ es. Has es f) (sym e) (has_right before more f h));
+    }
+
+-- after it is held what was held, and each node that n reaches and that means a value
+pub holds_before : (text : Text) (before after : List Entry) (n : Node) → HoldsMore text before n after → (x : Node) → Has (nodes_of before) x → Has (nodes_of after) x
+holds_before text before after n m x h = nodes_grow before m.more after x m.is h
+
+pub holds_reached : (text : Text) (before after : List Entry) (n : Node) → HoldsMore text before n after → (x : Node) → Reaches text n x → HasValue text x → Has (nodes_of after) x
+holds_reached text before after n m x r v =
+    elim (among_or_not x (nodes_of before)) [
+      | inl h ↦ holds_before text before after n m x h
+      | inr k ↦ nodes_added before m.more after x m.is ((m.exactly x).1 (r, v, k))
+    ]

@@ -7,3 +7,6 @@ pub mod Held
 pub mod Looks
 pub mod Agreement
 pub mod Unique
+pub mod Alike
+pub mod Binding
+pub mod Bound

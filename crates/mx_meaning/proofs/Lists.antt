@@ -1,6 +1,9 @@
 -- Laws of what is among a list.
-use Rattle.std.proofs.Common.{◌≡◌, List, [], ◌∷◌, ◌++◌, map, reverse, ◌⊎◌, inl, inr, refl, sym, ◌∙◌, ap, subst}
+use Rattle.std.proofs.Common.{Bool, true, false, ◌≡◌, List, [], ◌∷◌, ◌++◌, map, reverse, ◌⊎◌, inl, inr, refl, sym, ◌∙◌, ap, subst}
 use Rattle.std.proofs.lemmas.List.{reverse-append, reverse-reverse, append-nil, append_assoc, map-append}
+use Rattle.mx_value.specs.declared.node.Node.{Node}
+use Rattle.mx_value.specs.Equality.{node_eq}
+use Rattle.mx_value.proofs.NodeSames.{node_decides}
 use Rattle.mx_meaning.specs.Lists.{Has, Distinct, Disjoint}
 
 pub has_left : {X : Type 0} (xs ys : List X) (x : X) → Has xs x → Has (xs ++ ys) x
@@ -75,3 +78,33 @@ pub disjoint_onto : {X : Type 0} (xs rest zs : List X) → Disjoint xs zs → Di
 disjoint_onto [] rest zs d e = e
 disjoint_onto (x ∷ xs) rest zs d e =
     disjoint_onto xs (x ∷ rest) zs (λ z h. d z (inr h)) (λ z h k. elim h [ inl i ↦ d z (inl i) k | inr r ↦ e z r k ])
+
+-- what is distinct as a whole is so from a place on, and nothing before it stands behind it
+pub distinct_later : {X : Type 0} (xs ys : List X) → Distinct (xs ++ ys) → Distinct ys
+distinct_later [] ys d = d
+distinct_later (x ∷ xs) ys d = distinct_later xs ys d.1
+
+pub distinct_apart : {X : Type 0} (xs ys : List X) → Distinct (xs ++ ys) → Disjoint xs ys
+distinct_apart [] ys d = λ x h k. h
+distinct_apart (y ∷ xs) ys d = λ x h k.
+    elim h [
+      | inl e ↦ d.0 (has_right xs ys y (subst (λ z. Has ys z) (sym e) k))
+      | inr r ↦ distinct_apart xs ys d.1 x r k
+    ]
+
+-- a node is among a list, or it is not
+module _ (n : Node) where
+  among_by : (b : Bool) (m : Node) (ns : List Node) → node_eq m n ≡ b → Has ns n ⊎ (Has ns n → ⊥) → Has (m ∷ ns) n ⊎ (Has (m ∷ ns) n → ⊥)
+  among_by true m ns q h = inl (inl ((node_decides m n).0 q))
+  among_by false m ns q h =
+      elim h [
+        | inl i ↦ inl (inr i)
+        | inr k ↦ inr (λ i. elim i [
+          | inl e ↦ let t : node_eq m n ≡ true = (node_decides m n).1 e in let c : true ≡ false = sym t ∙ q in absurd (cc)
+          | inr r ↦ k r
+        ])
+      ]
+
+  pub among_or_not : (ns : List Node) → Has ns n ⊎ (Has ns n → ⊥)
+  among_or_not [] = inr (λ z. z)
+  among_or_not (m ∷ ns) = among_by (node_eq m n) m ns refl (among_or_not ns)

@@ -24,7 +24,7 @@ longer text rest other e f es fs h g = let i : fs ≡ es ++ g.more = g.is in rec
 both_longer : (text : Text) (p q : Run) (e f : Event) (es fs : List Event) → e ≡ f → GoesOn text p es fs q ⊎ GoesOn text q fs es p → GoesOn text p (e ∷ es) (f ∷ fs) q ⊎ GoesOn text q (f ∷ fs) (e ∷ es) p
 both_longer text p q e f es fs h c = elim c [ inl a ↦ inl (longer text p q e f es fs h a) | inr b ↦ inr (longer text q p f e fs es (sym h) b) ]
 
-same_value : (text : Text) (m : Node) (v w : Reply) → Means text m (Gives v) → Means text m (Gives w) → v ≡ w
+pub same_value : (text : Text) (m : Node) (v w : Reply) → Means text m (Gives v) → Means text m (Gives w) → v ≡ w
 same_value text m v w a b = let e : Gives v ≡ Gives w = one_meaning text m (Gives v) (Gives w) a b in cc
 
 pub comparable : (text : Text) (run p q : Run) (es fs : List Event) → Leads text run es p → Leads text run fs q → GoesOn text p es fs q ⊎ GoesOn text q fs es p

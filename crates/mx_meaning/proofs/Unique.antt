@@ -166,7 +166,7 @@ remove_one (y ∷ ys) x h =
           (y ∷ q.0, ap suc q.1, λ z i n. elim i [ inl j ↦ inl j | inr j ↦ inr (q.2 z j n) ])
     ]
 
-no_more : (xs ys : List Node) → Distinct xs → ((x : Node) → Has xs x → Has ys x) → length xs ≤ length ys
+pub no_more : (xs ys : List Node) → Distinct xs → ((x : Node) → Has xs x → Has ys x) → length xs ≤ length ys
 no_more [] ys d h = omega arith
 no_more (x ∷ xs) ys d h =
     let q = remove_one ys x (h x (inl refl)) in
@@ -174,7 +174,7 @@ no_more (x ∷ xs) ys d h =
     let r : length xs ≤ length q.0 = no_more xs q.0 d.1 (λ z i. q.2 z (h z (inr i)) (λ j. d.0 (subst (λ y. Has xs y) (sym j) i))) in
     omega arith
 
-few_or_many : (text : Text) (held : List Entry) (n : Node) (most : ℕ) → AtMost text held n most → PastMost text held n most → ⊥
+pub few_or_many : (text : Text) (held : List Entry) (n : Node) (most : ℕ) → AtMost text held n most → PastMost text held n most → ⊥
 few_or_many text held n most a p =
     let h : length p.nodes ≤ length a.nodes = no_more p.nodes a.nodes p.distinct (λ x i. a.whole x (p.each x i)) in
     let i : length a.nodes ≤ most = a.few in
@@ -182,7 +182,7 @@ few_or_many text held n most a p =
     absurd (omega arith)
 
 -- what an answer that says something rests on
-abbrev RestsOn : Text → Node → Said → Type 0
+abbrev pub RestsOn : Text → Node → Said → Type 0
 RestsOn text n (Value v) = GivesValue text n v
 RestsOn text n (Faulty k m line) = Means text n (Faults k m line)
 RestsOn text n NoNode = Means text n NoSuch
@@ -190,7 +190,7 @@ RestsOn text n BadCount = Means text n WrongCount
 RestsOn text n (Circle ns) = IsRing text n ns × MeansNothing text n
 
 module _ (text : Text) (held : List Entry) (limit most : ℕ) (n : Node) where
-  rests : (a : Result Values EvalRefusal) (after : List Entry) (ticks : ℕ) (s : Said) → Answer text held limit most n a after ticks → Says a s → RestsOn text n s × HasRoom text held limit most n
+  pub rests : (a : Result Values EvalRefusal) (after : List Entry) (ticks : ℕ) (s : Said) → Answer text held limit most n a after ticks → Says a s → RestsOn text n s × HasRoom text held limit most n
   rests (Ok v) after ticks s x e = (subst (λ z. RestsOn text n z) (sym e) x.0, x.1)
   rests (Err (refusal.Fault k m line)) after ticks s x e = (subst (λ z. RestsOn text n z) (sym e) x.0, x.1)
   rests (Err refusal.NoSuch) after ticks s x e = (subst (λ z. RestsOn text n z) (sym e) x.0, x.1)
@@ -209,7 +209,7 @@ module _ (text : Text) (held : List Entry) (limit most : ℕ) (n : Node) where
       let f : a.reply ≡ b.reply = cc in
       sym a.value ∙ ap (λ (r : Reply). r.value) f ∙ b.value
 
-  same_said : (s t : Said) → RestsOn text n s → RestsOn text n t → s ≡ t
+  pub same_said : (s t : Said) → RestsOn text n s → RestsOn text n t → s ≡ t
   same_said (Value v) (Value w) a b = ap Value (same_value v w a b)
   same_said (Value v) (Faulty k m line) a b = absurd (let e : Gives a.reply ≡ Faults k m line = same_outcome (Gives a.reply) (Faults k m line) a.means b in cc)
   same_said (Value v) NoNode a b = absurd (let e : Gives a.reply ≡ NoSuch = same_outcome (Gives a.reply) NoSuch a.means b in cc)

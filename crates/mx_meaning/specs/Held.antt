@@ -1,5 +1,5 @@
 -- What is held.
-use Rattle.std.specs.Prelude.{◌≡◌, List, [], ◌∷◌, ◌++◌, ◌⊎◌, map}
+use Rattle.std.specs.Prelude.{◌≡◌, ◌↔◌, List, [], ◌∷◌, ◌++◌, length, map}
 use Rattle.mx_value.specs.declared.node.Node.{Node}
 use Rattle.mx_meaning.specs.declared.kept.Kept.{Kept}
 use Rattle.mx_meaning.specs.Lists.{Has, Distinct}
@@ -40,8 +40,17 @@ pub record Grown (olds news : List Entry) : Type 0 where
   pub more : List Entry
   pub is : news ≡ olds ++ more
 
--- held are those before, and the nodes that n reaches and that mean a value
+-- Held are those before and, behind them, some more: exactly the nodes that n reaches, that mean a value and
+-- that were not held before, each once and with the value that it means.
 pub record HoldsMore (text : Text) (before : List Entry) (n : Node) (after : List Entry) : Type 0 where
-  pub grown : Grown before after
-  pub only : (x : Node) → Has (nodes_of after) x → Has (nodes_of before) x ⊎ (Reaches text n x × HasValue text x)
-  pub whole : (x : Node) → Reaches text n x → HasValue text x → Has (nodes_of after) x
+  pub more : List Entry
+  pub is : after ≡ before ++ more
+  pub once : Distinct (nodes_of more)
+  pub exactly : (x : Node) → Has (nodes_of more) x ↔ (Reaches text n x × HasValue text x × (Has (nodes_of before) x → ⊥))
+  pub means : (e : Entry) → Has more e → Means text e.0 (Gives e.1.reply)
+
+-- both hold the same nodes with the same replies, and as many, in whatever order
+pub record HoldAlike (held others : List Entry) : Type 0 where
+  pub nodes : (x : Node) → Has (nodes_of held) x ↔ Has (nodes_of others) x
+  pub replies : (d e : Entry) → Has held d → Has others e → d.0 ≡ e.0 → d.1.reply ≡ e.1.reply
+  pub many : length held ≡ length others

@@ -1,4 +1,4 @@
--- Laws over the definitions: one meaning, one last ask, one ring, one answer, and agreement of two texts.
+-- Laws over the definitions: one meaning, one last ask, one ring, one answer, one step, and agreement of two texts.
 use Rattle.std.specs.Prelude.{◌≡◌, ℕ, List, Result, Ok, Err}
 use Rattle.mx_value.specs.declared.node.Node.{Node}
 use Rattle.mx_value.specs.declared.value.Value.{Value as Values}
@@ -9,11 +9,12 @@ use Rattle.mx_value.specs.declared.refusal.EvalRefusal.{EvalRefusal}
 use Rattle.mx_value.specs.declared.refusal.EvalRefusal.TheVariants as refusal
 use Rattle.mx_meaning.specs.Model.{Text}
 use Rattle.mx_meaning.specs.Runs.{Outcome, Run, Gives}
-use Rattle.mx_meaning.specs.Meaning.{body, Means, Leads}
-use Rattle.mx_meaning.specs.Chains.{LastAsk, IsRing, MeansNothing}
-use Rattle.mx_meaning.specs.Held.{Entry}
+use Rattle.mx_meaning.specs.Meaning.{body, Means, Leads, bound_node}
+use Rattle.mx_meaning.specs.Chains.{LastAsk, IsRing, MeansNothing, DoesAsk, HasValue}
+use Rattle.mx_meaning.specs.Held.{Entry, IsRight, HoldAlike}
 use Rattle.mx_meaning.specs.Support.{IsUnchanged}
 use Rattle.mx_meaning.specs.Answers.{Answer}
+use Rattle.mx_meaning.specs.State.{IsThere}
 
 -- a node means at most one thing
 abbrev pub OneMeaning : Type 0
@@ -73,3 +74,47 @@ IsRefused (Err refusal.NoMemory) = ⊥
 -- where one right answer says something, TooDeep and Full are not right
 abbrev pub NotRefused : Type 0
 NotRefused = (text : Text) (held : List Entry) (limit most : ℕ) (n : Node) (a b : Result Values EvalRefusal) (after other : List Entry) (ticks runs : ℕ) (s : Said) → Answer text held limit most n a after ticks → Answer text held limit most n b other runs → Says a s → IsRefused b → ⊥
+
+-- it says something: it is no refusal, and did not want memory
+abbrev pub IsSaid : Result Values EvalRefusal → Type 0
+IsSaid (Ok v) = Unit {0}
+IsSaid (Err (refusal.Fault k m line)) = Unit {0}
+IsSaid (Err refusal.NoSuch) = Unit {0}
+IsSaid (Err refusal.WrongCount) = Unit {0}
+IsSaid (Err (refusal.Ring ring)) = Unit {0}
+IsSaid (Err (refusal.TooDeep m)) = ⊥
+IsSaid (Err refusal.Full) = ⊥
+IsSaid (Err refusal.NoMemory) = ⊥
+
+-- the formula runs of an evaluation that answers so are told
+abbrev pub TellsTicks : Result Values EvalRefusal → Type 0
+TellsTicks (Ok v) = Unit {0}
+TellsTicks (Err (refusal.Fault k m line)) = Unit {0}
+TellsTicks (Err (refusal.Ring ring)) = Unit {0}
+TellsTicks (Err e) = ⊥
+
+-- both answer the same, leave what is held alike, and began as many runs where these are told
+pub record EndAlike (a b : Result Values EvalRefusal) (after last : List Entry) (ticks runs : ℕ) : Type 0 where
+  pub same : a ≡ b
+  pub alike : HoldAlike after last
+  pub began : TellsTicks a → ticks ≡ runs
+
+-- Two evaluations of a node from what is held alike end alike, where one says something and the other had memory.
+abbrev pub OneStep : Type 0
+OneStep = (text : Text) (held others : List Entry) (limit most : ℕ) (n : Node) (a b : Result Values EvalRefusal) (after last : List Entry) (ticks runs : ℕ) → HoldAlike held others → Answer text held limit most n a after ticks → Answer text others limit most n b last runs → IsSaid a → (b ≡ Err refusal.NoMemory → ⊥) → EndAlike a b after last ticks runs
+
+-- what is right is held alike with itself: two evaluations from one right state are such
+abbrev pub RightIsAlike : Type 0
+RightIsAlike = (text : Text) (held : List Entry) → IsRight text held → HoldAlike held held
+
+-- a run asks nodes in bound form
+abbrev pub AskedIsBound : Type 0
+AskedIsBound = (text : Text) (n m : Node) → DoesAsk text n m → bound_node text m ≡ m
+
+-- the bound form is bound
+abbrev pub BoundIsBound : Type 0
+BoundIsBound = (text : Text) (n : Node) → bound_node text (bound_node text n) ≡ bound_node text n
+
+-- a node that means a value is there
+abbrev pub ValueIsThere : Type 0
+ValueIsThere = (text : Text) (n : Node) → HasValue text n → IsThere text n

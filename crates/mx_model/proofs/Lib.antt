@@ -1,14 +1,11 @@
 mod Changes
 pub mod Defined
-pub mod EditLemmas
 pub mod Filtered
-pub mod GoneSpaces
 pub mod KindLemmas
 pub mod LayerSteps
 pub mod LookupLemmas
 pub mod MemberLemmas
 pub mod NameLemmas
-pub mod NewSpaces
 pub mod Places
 mod SmallModels
 pub mod SoundLemmas

@@ -80,7 +80,7 @@ change text (edit.SetTable name table) = record text { tables = define same_name
 
 -- ---- bound arguments
 
-abbrev bound_by : Option (List Param) → List Value → List Value
+abbrev pub bound_by : Option (List Param) → List Value → List Value
 bound_by (Some params) arguments = bound params arguments
 bound_by None arguments = arguments
 

@@ -11,11 +11,11 @@ use Rattle.mx_syntax.specs.declared.stmt.Param.{Param}
 use Rattle.mx_model.specs.Records.{Name, Path, ModelRecord}
 use Rattle.mx_model.specs.Binding.{Member, Cells, Reference, Child, binding}
 
-abbrev name_in : Segment-F Segment Value CellsAt → Option Name
+abbrev pub name_in : Segment-F Segment Value CellsAt → Option Name
 name_in (Segment-F.Name name) = Some name
 name_in (Segment-F.Item items) = None
 
-abbrev joined : Option Name → Option Path → Option Path
+abbrev pub joined : Option Name → Option Path → Option Path
 joined (Some name) (Some names) = Some (name ∷ names)
 joined _ _ = None
 

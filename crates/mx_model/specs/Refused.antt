@@ -41,11 +41,11 @@ bad_name _ = false
 -- ---- NoSuchSpace: a path is no defined space, or for an input no static one. The empty path is the model, where that may hold
 -- the member
 
-abbrev is_holder : ModelRecord → Path → Bool
+abbrev pub is_holder : ModelRecord → Path → Bool
 is_holder text [] = true
 is_holder text (name ∷ names) = is_defined text (name ∷ names)
 
-abbrev lacks_path : ModelRecord → Option Path → Bool
+abbrev pub lacks_path : ModelRecord → Option Path → Bool
 lacks_path text (Some path) = not (is_static text path)
 lacks_path text None = false
 
@@ -65,24 +65,24 @@ no_such_space text (edit.SetTable name table) = false
 
 -- ---- NoSuchMember: what is to be changed, or is named as a target, is not there
 
-abbrev has_cells : Name → Option SpaceRecord → Bool
+abbrev pub has_cells : Name → Option SpaceRecord → Bool
 has_cells name (Some s) = is_some (lookup (same_name name) s.cells)
 has_cells name None = false
 
-abbrev has_reference : Name → Option SpaceRecord → Bool
+abbrev pub has_reference : Name → Option SpaceRecord → Bool
 has_reference name (Some s) = is_some (lookup (same_name name) s.references)
 has_reference name None = false
 
-abbrev has_params : Option SpaceRecord → Bool
+abbrev pub has_params : Option SpaceRecord → Bool
 has_params (Some s) = is_some s.params
 has_params None = false
 
-abbrev holds_reference : ModelRecord → Path → Name → Bool
+abbrev pub holds_reference : ModelRecord → Path → Name → Bool
 holds_reference text [] name = is_some (lookup (same_name name) text.globals)
 holds_reference text (first ∷ names) name = has_reference name (space_at text (first ∷ names))
 
 -- the last name of a path is bound to cells
-abbrev is_cells : ModelRecord → Option (Path × Name) → Bool
+abbrev pub is_cells : ModelRecord → Option (Path × Name) → Bool
 is_cells text (Some (path, name)) = is_some (params_of (binding text path name))
 is_cells text None = false
 
@@ -91,7 +91,7 @@ is_target text (ref.Plain value) = true
 is_target text (ref.Table name) = is_some (lookup (same_name name) text.tables)
 is_target text (ref.Target path fixed) = is_static text path || is_cells text (split_last path)
 
-abbrev lacks_cells : ModelRecord → Option Path → Name → Bool
+abbrev pub lacks_cells : ModelRecord → Option Path → Name → Bool
 lacks_cells text (Some path) name = is_none (params_of (binding text path name))
 lacks_cells text None name = false
 
@@ -107,7 +107,7 @@ no_such_member text _ = false
 
 -- ---- NameTaken: another member of the space, or of the model, has the name
 
-abbrev has_child : ModelRecord → Path → Name → Bool
+abbrev pub has_child : ModelRecord → Path → Name → Bool
 has_child text path name = is_defined text (path ++ name ∷ [])
 
 abbrev pub name_taken : ModelRecord → Edit → Bool
@@ -118,7 +118,7 @@ name_taken text _ = false
 
 -- ---- WrongCount: the arguments of an input do not bind
 
-abbrev do_not_bind : Option (List Param) → List Value → Bool
+abbrev pub do_not_bind : Option (List Param) → List Value → Bool
 do_not_bind (Some params) arguments = is_wrong_count params (length arguments)
 do_not_bind None arguments = false
 
@@ -144,7 +144,7 @@ abbrev pub is_nothing : Value → Bool
 is_nothing values.Nothing = true
 is_nothing _ = false
 
-abbrev is_long : ℕ → Bool
+abbrev pub is_long : ℕ → Bool
 is_long bytes = nat_lt 60000 bytes
 
 -- one of the paths stands twice
@@ -152,7 +152,7 @@ abbrev pub has_double : List Path → Bool
 has_double [] = false
 has_double (path ∷ paths) = list_any (same_path path) paths || has_double paths
 
-abbrev is_empty : List Param → Bool
+abbrev pub is_empty : List Param → Bool
 is_empty [] = true
 is_empty (param ∷ params) = false
 
@@ -170,14 +170,14 @@ bad_value text _ = false
 
 -- ---- InUse: the first space in order of creation that stays and has a removed one as base
 
-abbrev uses : Path → SpaceRecord → Bool
+abbrev pub uses : Path → SpaceRecord → Bool
 uses removed s = not (is_within removed s.path) && list_any (is_within removed) s.bases
 
 abbrev pub first_user : Path → List SpaceRecord → Option Path
 first_user removed [] = None
 first_user removed (s ∷ spaces) = if uses removed s then Some s.path else first_user removed spaces
 
-abbrev in_use : ModelRecord → Edit → Option EditRefusal
+abbrev pub in_use : ModelRecord → Edit → Option EditRefusal
 in_use text (edit.DelSpace path) = elim (first_user path text.spaces) [ Some user ↦ Some (refusal.InUse user) | None ↦ None ]
 in_use text _ = None
 

@@ -145,7 +145,7 @@ pub fn child_of(
 }
 
 /// The names of a path and one more.
-pub(crate) fn path_below(alloc: Global, names: &[Label], last: &Label) -> Result<Path, AllocError>
+pub fn path_below(alloc: Global, names: &[Label], last: &Label) -> Result<Path, AllocError>
     ensures { IfOk result (λ path. path ≡ names.now ++ last.now ∷ []) }
 {
     let mut copies = Vec::new(alloc);

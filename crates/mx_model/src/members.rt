@@ -5,17 +5,11 @@ ghost use Rattle.mx_value.specs.Name.{same_name};
 ghost use Rattle.mx_model.specs.Change.{define, without};
 ghost use Rattle.mx_model.specs.Readers.{name_at};
 
+use crate::share::Share;
 use indexmap::IndexMap;
 use mx_value::label::Label;
 use std::alloc::{AllocError, Global};
 use std::marker::Model;
-
-/// What is copied at once: a copy shares what it is made of.
-pub trait Share: Drop {
-    /// An equal value.
-    fn share(&self) -> Result<Self, AllocError>
-        ensures { IfOk result (λ c. c ≡ self.now) };
-}
 
 /// Members by name. One that is defined again keeps its place, and a removal keeps the order of the others.
 #[derive(Drop)]

@@ -1,19 +1,15 @@
 //! The model text.
-ghost use Rattle.std.specs.Prelude.{◌≡◌, ◌<◌, ◌∷◌, [], codes, Some, length, slice_get, option_copied, option_map, IfOk, ◌⊎◌, None};
+ghost use Rattle.std.specs.Prelude.{◌≡◌, ◌<◌, ◌∷◌, [], codes, Some, length, slice_get, option_copied, option_map, IfOk};
 ghost use Rattle.std.specs.Map.{lookup};
 ghost use Rattle.mx_value.specs.Name.{same_name};
-ghost use Rattle.mx_model.specs.Records.{beginning, empty_space, Path as SpacePath, SpaceRecord};
+ghost use Rattle.mx_model.specs.Records.{beginning, empty_space};
 ghost use Rattle.mx_model.specs.Layers.{id_of, space_of, base_lists};
 ghost use Rattle.mx_model.specs.Keys.{input_of};
-ghost use Rattle.mx_model.specs.Lookup.{kind_in, kind_of};
-ghost use Rattle.mx_model.specs.Binding.{own_member};
-ghost use Rattle.mx_model.specs.Change.{define, without, at_space};
-ghost use Rattle.mx_model.specs.Kept.{KeepsOthers, StaysInPlace};
-ghost use Rattle.mx_model.specs.Indexed.{Tells, TellsAt};
+ghost use Rattle.mx_model.specs.Lookup.{kind_in};
+ghost use Rattle.mx_model.specs.Indexed.{TellsAt, ArePlaced};
 ghost use Rattle.mx_model.specs.Readers.{path_in, formula_in, allows_in, reference_in, params_in, name_at, cells_at, reference_at};
 
 use crate::kind::Kind;
-use crate::layers::path_below;
 use crate::members::Members;
 use crate::space::Space;
 use indexmap::{IndexMap, IndexSet};
@@ -104,7 +100,7 @@ impl ModelText {
     }
 
     /// A defined space.
-    pub(crate) fn space(&self, s: SpaceId) -> &Space
+    pub fn space(&self, s: SpaceId) -> &Space
         requires { s.0 < length self.now.spaces }
         ensures { space_of self.now s ≡ Some result.now }
     {
@@ -267,89 +263,47 @@ impl ModelText {
         Some(node)
     }
 
-    /// What a space in this text has itself under a name.
-    fn own_kind(
-        &self,
-        alloc: Global,
-        space: &Space,
-        name: &Label,
-    ) -> Result<Option<Kind>, AllocError>
-        ensures { let own = own_member self.now name.now space.now in
-            IfOk result (λ kind. kind ≡ option_map kind_of own) }
+    /// The defined spaces, in order of creation.
+    pub fn spaces(&self) -> &[Shared<Space>]
+        ensures { result.now ≡ self.now.spaces }
     {
-        match space.cells(name) {
-            Some(_) => return Ok(Some(Kind::Cells)),
-            None => {}
-        }
-        match space.reference(name) {
-            Some(_) => return Ok(Some(Kind::Reference)),
-            None => {}
-        }
-        let path = path_below(alloc, space.path().as_slice(), name)?;
-        match self.id_of(&path) {
-            Some(_) => return Ok(Some(Kind::Child)),
-            None => return Ok(None),
-        }
+        self.spaces.as_slice()
+    }
+
+    /// What each space has itself of each name, by its place.
+    pub fn kinds(&self) -> &[Shared<Members<Kind>>]
+        ensures { ArePlaced result.now self.now }
+    {
+        self.kinds.as_slice()
+    }
+
+    /// The references of the model.
+    pub fn globals(&self) -> &Members<RefValue>
+        ensures { result.now ≡ self.now.globals }
+    {
+        self.globals.get()
+    }
+
+    /// The inputs, by hash.
+    pub fn inputs(&self) -> &IndexMap<Node, Shared<Value>>
+        ensures { result.now.entries ≡ self.now.inputs }
+    {
+        self.inputs.get()
+    }
+
+    /// The tables.
+    pub fn tables(&self) -> &Members<Table>
+        ensures { result.now ≡ self.now.tables }
+    {
+        self.tables.get()
     }
 
     /// What a space has itself of each name.
-    pub(crate) fn kinds_at(&self, s: SpaceId) -> Result<Shared<Members<Kind>>, AllocError>
+    pub fn kinds_at(&self, s: SpaceId) -> Result<Shared<Members<Kind>>, AllocError>
         requires { s.0 < length self.now.spaces }
         ensures { IfOk result (λ kinds. TellsAt self.now s kinds) }
     {
         self.kinds[s.0 as usize].copy()
-    }
-
-    /// The kinds of a space that differs from the one at a place under one name alone.
-    pub(crate) fn kinds_of(
-        &self,
-        alloc: Global,
-        s: SpaceId,
-        space: &Space,
-        name: &Label,
-    ) -> Result<Shared<Members<Kind>>, AllocError>
-        requires within { s.0 < length self.now.spaces }
-        requires others { (old : SpaceRecord) →
-            space_of self.now s ≡ Some old → KeepsOthers name.now old space.now }
-        ensures { IfOk result (λ kinds. Tells self.now space.now kinds) }
-    {
-        let kinds = &self.kinds[s.0 as usize];
-        match self.own_kind(alloc, space, name)? {
-            Some(kind) => return define_kind(alloc, kinds, name, kind),
-            None => return remove_kind(alloc, kinds, name),
-        }
-    }
-
-    /// The text with another space of the same path and bases in the place of one.
-    pub(crate) fn put(
-        &self,
-        alloc: Global,
-        s: SpaceId,
-        space: Space,
-        kinds: Shared<Members<Kind>>,
-    ) -> Result<ModelText, AllocError>
-        requires within { s.0 < length self.now.spaces }
-        requires stays { (old : SpaceRecord) →
-            space_of self.now s ≡ Some old → StaysInPlace old space }
-        requires tells { Tells self.now space kinds }
-        ensures { (path : SpacePath) (change : SpaceRecord → SpaceRecord) →
-            id_of self.now path ≡ Some s →
-            ((old : SpaceRecord) → space_of self.now s ≡ Some old → space ≡ change old) →
-            IfOk result (λ t. t ≡ at_space self.now path change) }
-    {
-        let mut spaces = copy_all(alloc, self.spaces.as_slice())?;
-        spaces[s.0 as usize] = Shared::new(alloc, space)?;
-        let mut tables = copy_all(alloc, self.kinds.as_slice())?;
-        tables[s.0 as usize] = kinds;
-        Ok(ModelText {
-            paths: self.paths.copy()?,
-            spaces,
-            kinds: tables,
-            lists: self.lists.copy()?,
-            globals: self.globals.copy()?,
-            inputs: self.inputs.copy()?,
-            tables: self.tables.copy()?,
-        })
     }
 
     /// An equal text, which shares all that it holds.
@@ -371,44 +325,8 @@ impl ModelText {
     }
 }
 
-/// Kinds in which a name has this kind.
-pub(crate) fn define_kind(
-    alloc: Global,
-    kinds: &Shared<Members<Kind>>,
-    name: &Label,
-    kind: Kind,
-) -> Result<Shared<Members<Kind>>, AllocError>
-    ensures { IfOk result (λ defined.
-        (lookup (same_name name.now) kinds.now ≡ Some kind × (defined ≡ kinds.now)) ⊎
-        (defined ≡ define same_name kinds.now name.now kind)) }
-{
-    if kinds.get().get(name) == Some(&kind) {
-        return kinds.copy();
-    }
-    let mut defined = kinds.get().copy(alloc)?;
-    defined.define(name.copy()?, kind)?;
-    return Shared::new(alloc, defined);
-}
-
-/// Kinds without a name.
-pub(crate) fn remove_kind(
-    alloc: Global,
-    kinds: &Shared<Members<Kind>>,
-    name: &Label,
-) -> Result<Shared<Members<Kind>>, AllocError>
-    ensures { IfOk result (λ rest.
-        (rest ≡ without same_name kinds.now name.now) × (lookup (same_name name.now) rest ≡ None)) }
-{
-    let mut rest = kinds.get().copy(alloc)?;
-    rest.remove(name);
-    Shared::new(alloc, rest)
-}
-
 /// The same items, shared.
-pub(crate) fn copy_all<T: Drop>(
-    alloc: Global,
-    items: &[Shared<T>],
-) -> Result<Vec<Shared<T>>, AllocError>
+pub fn copy_all<T: Drop>(alloc: Global, items: &[Shared<T>]) -> Result<Vec<Shared<T>>, AllocError>
     ensures { IfOk result (λ copies. copies.items ≡ items.now) }
 {
     let mut copies = Vec::new(alloc);

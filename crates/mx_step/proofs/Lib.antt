@@ -2,3 +2,4 @@ pub mod Stacks
 pub mod Tolds
 pub mod Looks
 pub mod Callings
+pub mod Computed

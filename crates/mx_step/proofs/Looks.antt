@@ -1,13 +1,12 @@
 -- Look-ups on the way from an instruction to what comes of it.
-use Rattle.std.proofs.Common.{◌≡◌, true, false, ℕ, List, [], ◌∷◌, ◌++◌, Option, Some, None, Result, Ok, Err, IfOk, refl, sym, ap, ◌∙◌, subst}
+use Rattle.std.proofs.Common.{◌≡◌, true, false, ℕ, List, [], ◌∷◌, ◌++◌, Option, Some, None, IfSome, refl, sym, ap, ◌∙◌, subst}
 use Rattle.std.specs.Prelude.{slice_get}
-use Rattle.std.specs.declared.alloc.AllocError.{AllocError}
 use Rattle.std.proofs.lemmas.List.{append-nil, append_assoc}
 use Rattle.mx_value.specs.declared.label.Label.{Label}
 use Rattle.mx_value.specs.declared.value.Value.{Value}
 use Rattle.mx_value.specs.declared.value.Segment.{Segment}
 use Rattle.mx_value.specs.declared.node.Node.{Node}
-use Rattle.mx_value.specs.declared.fault.FaultKind.TheVariants.{NoName, NoneReturned}
+use Rattle.mx_value.specs.declared.fault.FaultKind.TheVariants.{NoName}
 use Rattle.mx_syntax.specs.declared.stmt.Formula.{Formula}
 use Rattle.mx_meaning.specs.declared.key.Key.TheVariants as key
 use Rattle.mx_meaning.specs.declared.key.Key.{Key}
@@ -20,25 +19,14 @@ use Rattle.mx_meaning.specs.Chains.{asks_of}
 use Rattle.mx_meaning.specs.Meaning.{Leads}
 use Rattle.mx_meaning.proofs.Levels.{leads_append}
 use Rattle.mx_meaning.proofs.Runs.{asks_append}
-use Rattle.mx_code.specs.declared.code.Op.{Op}
-use Rattle.mx_code.specs.Told.{told_op}
 use Rattle.mx_code.specs.declared.action.Instr.{Instr}
 use Rattle.mx_code_law.specs.Machine.{Home, State, Next, On, Look, Fault, bound_next, call_next, cells_next, found_next, name_next, next_at, next_of, Does, Leads as Does_next}
 use Rattle.mx_code_law.proofs.Opened.{opened, taken}
 use Rattle.mx_flight.specs.Flights.{GoesOnAlone}
 use Rattle.mx_step.specs.declared.reached.Reached.{Reached}
 use Rattle.mx_step.specs.declared.reached.Reached.TheVariants as reached
-use Rattle.mx_step.specs.declared.reached.Stop.{Stop}
-use Rattle.mx_step.specs.declared.reached.Stop.TheVariants as stop
-use Rattle.mx_step.specs.Came.{Comes, Passes, Here, Beyond, RunsTo, StopsAs, cells_at, looks_of, named, read_as}
-
--- where a run stops that came to this
-abbrev pub stop_of : ℕ → Reached → Option Stop
-stop_of line reached.Goes = None
-stop_of line (reached.Gives v) = Some (stop.Gives v)
-stop_of line reached.GivesNothing = Some (stop.Faults NoneReturned 1)
-stop_of line (reached.Faults kind) = Some (stop.Faults kind line)
-stop_of line (reached.Asks m) = Some (stop.Asks m)
+use Rattle.mx_step.specs.declared.reached.Went.{Went}
+use Rattle.mx_step.specs.Came.{Comes, Passes, Here, Beyond, RunsTo, StopsAs, cells_at, looks_of, named, read_as, stop_of, went_as}
 
 -- nothing is looked up
 pub comes_still : (text : Text) (n m : Next) (events : List Event) → n ≡ m → Comes text n events events m
@@ -112,25 +100,24 @@ module _ (text : Text) (code : List Instr) (w : Home) where
       }
 
   -- the instruction of a state
-  pub along_step : (run : Run) (a b c : List Event) (s t : State) (i : Instr) (r : Reached) → slice_get code s.pc ≡ Some i → Comes text (next_of w i.action i.line s) b c (read_as w i.line r t) → Along text code w run a b (On s) → Along text code w run a c (read_as w i.line r t)
-  along_step run a b c s t i r h k g =
-      along_comes run a b c (next_of w i.action i.line s) (read_as w i.line r t) k (record { rest = g.rest; alone = g.alone; leads = subst (λ (o : Option Instr). Does_next code w (next_at w o s) g.rest) h (taken code w s g.rest g.leads) })
+  pub along_step : (run : Run) (a b c : List Event) (s : State) (i : Instr) (m : Next) → slice_get code s.pc ≡ Some i → Comes text (next_of w i.action i.line s) b c m → Along text code w run a b (On s) → Along text code w run a c m
+  along_step run a b c s i m h k g =
+      along_comes run a b c (next_of w i.action i.line s) m k (record { rest = g.rest; alone = g.alone; leads = subst (λ (o : Option Instr). Does_next code w (next_at w o s) g.rest) h (taken code w s g.rest g.leads) })
 
   pub along_first : (run : Run) (a : List Event) (s : State) → Does code w s run → Along text code w run a a (On s)
   along_first run a s d = record { rest = run; alone = record { events = []; is = sym (append-nil a); alone = refl; leads = refl }; leads = d }
 
   -- where a run stops
-  pub stopped : (run : Run) (a c : List Event) (line : ℕ) (t : State) (r : Reached) (at_ : Stop) → stop_of line r ≡ Some at_ → Along text code w run a c (read_as w line r t) → RunsTo text code w run a c at_ t
-  stopped run a c line t r at_ e g = record { rest = g.rest; alone = g.alone; stops = stops_by r at_ e g.rest g.leads }
+  pub stopped : (run : Run) (a c : List Event) (line : ℕ) (t : State) (r : Reached) → Along text code w run a c (read_as w line r t) → RunsTo text code w run a c (stop_of line r) t
+  stopped run a c line t r g = record { rest = g.rest; alone = g.alone; stops = stops_by r g.rest g.leads }
     where
-      stops_by : (r : Reached) (at_ : Stop) → stop_of line r ≡ Some at_ → (rest : Run) → Does_next code w (read_as w line r t) rest → StopsAs code w rest at_ t
-      stops_by reached.Goes at_ e rest d = absurd (cc)
-      stops_by (reached.Gives v) at_ e rest d = let q : stop.Gives v ≡ at_ = cc in subst (λ (x : Stop). StopsAs code w rest x t) q (opened code w (read_as w line (reached.Gives v) t) rest d)
-      stops_by reached.GivesNothing at_ e rest d = let q : stop.Faults NoneReturned 1 ≡ at_ = cc in subst (λ (x : Stop). StopsAs code w rest x t) q (opened code w (read_as w line reached.GivesNothing t) rest d)
-      stops_by (reached.Faults kind) at_ e rest d = let q : stop.Faults kind line ≡ at_ = cc in subst (λ (x : Stop). StopsAs code w rest x t) q (opened code w (read_as w line (reached.Faults kind) t) rest d)
-      stops_by (reached.Asks m) at_ e rest d = let q : stop.Asks m ≡ at_ = cc in subst (λ (x : Stop). StopsAs code w rest x t) q (opened code w (read_as w line (reached.Asks m) t) rest d)
+      stops_by : (r : Reached) (rest : Run) → Does_next code w (read_as w line r t) rest → StopsAs code w rest (stop_of line r) t
+      stops_by (reached.Gives v) rest d = opened code w (read_as w line (reached.Gives v) t) rest d
+      stops_by reached.GivesNothing rest d = opened code w (read_as w line reached.GivesNothing t) rest d
+      stops_by (reached.Faults kind) rest d = opened code w (read_as w line (reached.Faults kind) t) rest d
+      stops_by (reached.Asks m) rest d = opened code w (read_as w line (reached.Asks m) t) rest d
 
 -- an instruction for which nothing is looked up
-pub still_result : (text : Text) (w : Home) (values : List Value) (names : List Label) (o p : Op) (s t : State) (events : List Event) (r : Result Reached AllocError) → o ≡ p → IfOk r (λ x. (v : Home) (line : ℕ) → next_of v (told_op values names p) line s ≡ read_as v line x t) → IfOk r (λ x. (line : ℕ) → Comes text (next_of w (told_op values names o) line s) events events (read_as w line x t))
-still_result text w values names o p s t events (Ok x) e h = λ line. comes_still text (next_of w (told_op values names o) line s) (read_as w line x t) events (ap (λ (q : Op). next_of w (told_op values names q) line s) e ∙ h w line)
-still_result text w values names o p s t events (Err x) e h = tt
+pub still_went : (text : Text) (n : Home → ℕ → Next) (w : Home) (t : State) (events : List Event) (o : Option Went) → IfSome o (λ r. (v : Home) (line : ℕ) → n v line ≡ went_as v line r t) → IfSome o (λ r. (line : ℕ) → Comes text (n w line) events events (went_as w line r t))
+still_went text n w t events (Some r) h = λ line. comes_still text (n w line) (went_as w line r t) events (h w line)
+still_went text n w t events None h = tt

@@ -1,5 +1,5 @@
 -- What came of an instruction, as the machine of the law says it.
-use Rattle.std.specs.Prelude.{◌≡◌, ℕ, List, [], ◌∷◌, ◌++◌, None, Bool, true, false}
+use Rattle.std.specs.Prelude.{◌≡◌, ℕ, List, [], ◌∷◌, ◌++◌, Option, Some, None, Bool, true, false}
 use Rattle.mx_value.specs.declared.label.Label.{Label}
 use Rattle.mx_value.specs.declared.value.Value.{Value}
 use Rattle.mx_value.specs.declared.value.Value.TheVariants.{Cells as CellsValue}
@@ -15,10 +15,12 @@ use Rattle.mx_meaning.specs.Runs.{Gives, Ends, Faults, Asks, Run, gives}
 use Rattle.mx_code.specs.declared.action.Instr.{Instr}
 use Rattle.mx_code.specs.declared.action.Action.{Action}
 use Rattle.mx_code.specs.declared.action.Action.TheVariants as act
-use Rattle.mx_code_law.specs.Machine.{Home, State, Next, On, End, Look, Ask, Fault, Does}
+use Rattle.mx_code_law.specs.Machine.{Home, State, Next, On, End, Look, Ask, Stuck, Fault, Does}
 use Rattle.mx_flight.specs.Flights.{GoesOnAlone}
 use Rattle.mx_step.specs.declared.reached.Reached.{Reached}
 use Rattle.mx_step.specs.declared.reached.Reached.TheVariants as reached
+use Rattle.mx_step.specs.declared.reached.Went.{Went}
+use Rattle.mx_step.specs.declared.reached.Went.TheVariants as went
 use Rattle.mx_step.specs.declared.reached.Stop.{Stop}
 use Rattle.mx_step.specs.declared.reached.Stop.TheVariants as stop
 use Rattle.mx_step.specs.Flight.{with_value}
@@ -28,11 +30,29 @@ cells_at at name = roll-CellsAt (record { space = at; name = name })
 
 -- what came of an instruction at a line, with the state behind it
 abbrev pub read_as : Home → ℕ → Reached → State → Next
-read_as w line reached.Goes s = On s
 read_as w line (reached.Gives v) s = End (Gives (record { value = v; namespace = None }))
 read_as w line reached.GivesNothing s = Fault w NoneReturned 1
 read_as w line (reached.Faults kind) s = Fault w kind line
 read_as w line (reached.Asks m) s = Ask m (λ (r : Reply). with_value r.value s)
+
+-- what came of an instruction, unless there was no memory
+abbrev pub done : Went → Option Went
+done went.On = Some went.On
+done (went.Faults kind) = Some (went.Faults kind)
+done went.NoMemory = None
+
+-- what came of an instruction at a line, with the state behind it
+abbrev pub went_as : Home → ℕ → Went → State → Next
+went_as w line went.On s = On s
+went_as w line (went.Faults kind) s = Fault w kind line
+went_as w line went.NoMemory s = Stuck
+
+-- where a run stops that came to this
+abbrev pub stop_of : ℕ → Reached → Stop
+stop_of line (reached.Gives v) = stop.Gives v
+stop_of line reached.GivesNothing = stop.Faults NoneReturned 1
+stop_of line (reached.Faults kind) = stop.Faults kind line
+stop_of line (reached.Asks m) = stop.Asks m
 
 -- the jump of an `or`, which keeps what is true, or of an `and`
 abbrev pub decision : Bool → ℕ → Action

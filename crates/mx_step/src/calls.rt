@@ -70,6 +70,7 @@ fn cells_of(value: &Value) -> Option<&CellsAt>
 }
 
 /// The cells of a name in the space at an address are called with these arguments.
+#[inline(always)]
 pub fn call_cells(
     alloc: Global,
     text: &ModelText,
@@ -91,6 +92,7 @@ pub fn call_cells(
 }
 
 /// The cells of a name in the space at an address, with this formula, are called with these arguments.
+#[inline(always)]
 fn call_formula(
     alloc: Global,
     space: &Addr,
@@ -111,6 +113,7 @@ fn call_formula(
 }
 
 /// The arguments, bound. As many as there are parameters, in normal form, are bound as they are.
+#[inline(always)]
 fn bind_call(
     alloc: Global,
     formula: &Formula,
@@ -127,6 +130,7 @@ fn bind_call(
 
 /// Whether there is an argument for each parameter, each in normal form already. Decimal numbers and
 /// tuples are not looked into.
+#[inline(always)]
 pub fn are_bound(params: &[Param], arguments: &[Value]) -> bool
     ensures { IsTrue result → (is_wrong_count params.now (length arguments.now) ≡ false) × (bound params.now arguments.now ≡ arguments.now) }
 {

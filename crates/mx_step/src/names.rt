@@ -1,13 +1,14 @@
 //! Names of the namespace.
-ghost use Rattle.std.specs.Prelude.{◌≡◌, ℕ, [], get_or, IfOk, OnOk};
+ghost use Rattle.std.specs.Prelude.{◌≡◌, ℕ, [], get_or, IfOk, IfSome, OnSome};
 ghost use Rattle.mx_value.specs.declared.value.Value.{Value as Values};
+ghost use Rattle.mx_value.specs.declared.value.Value.TheVariants.{Cells as CellsValue};
 ghost use Rattle.mx_code.specs.declared.action.Action.TheVariants as act;
 ghost use Rattle.mx_code_law.specs.Machine.{State, name_next, next_of};
-ghost use Rattle.mx_step.specs.Homes.{home_of};
-ghost use Rattle.mx_step.specs.Came.{Comes, named, read_as};
+ghost use Rattle.mx_step.specs.Homes.{address_of, home_of};
+ghost use Rattle.mx_step.specs.Came.{Comes, cells_at, done, named, went_as};
 
 use crate::instructions::{leave, step_on};
-use crate::reached::Reached;
+use crate::reached::Went;
 use crate::scope::{Scope, address};
 use crate::stack::Stack;
 use mx_code::code::Code;
@@ -31,6 +32,7 @@ pub fn name_at(code: &Code, place: usize) -> Result<&Label, AllocError>
 }
 
 /// Whether the namespace binds the name, to cells. What is looked up comes to the events.
+#[inline(always)]
 fn seek(
     text: &ModelText,
     scope: &Scope,
@@ -55,31 +57,48 @@ pub fn name(
     stack: &mut Stack,
     name: &Label,
     events: &mut Items<Event>,
-) -> Result<Reached, AllocError>
-    ensures came { IfOk result (λ r. (line : ℕ) → Comes text.now (next_of (home_of scope.now) (act.Name name.now) line stack.old.top) events.old events.new (read_as (home_of scope.now) line r stack.new.top)) }
-    ensures below { OnOk result (stack.new.below ≡ stack.old.below) }
+) -> Went
+    ensures came { IfSome (done result) (λ r. (line : ℕ) → Comes text.now (next_of (home_of scope.now) (act.Name name.now) line stack.old.top) events.old events.new (went_as (home_of scope.now) line r stack.new.top)) }
+    ensures below { OnSome (done result) (stack.new.below ≡ stack.old.below) }
 {
-    if !seek(text, scope, name, events)? {
-        return Ok(Reached::Faults(FaultKind::NoName));
+    let Ok(found) = seek(text, scope, name, events) else {
+        return Went::NoMemory;
+    };
+    if !found {
+        return Went::Faults(FaultKind::NoName);
     }
+    let Ok(cells) = cells_here(scope, name) else {
+        return Went::NoMemory;
+    };
+    leave(stack, cells)
+}
+
+/// The cells of a name in the scope's space.
+fn cells_here(scope: &Scope, name: &Label) -> Result<Value, AllocError>
+    ensures { IfOk result (λ v. v ≡ CellsValue (cells_at (address_of scope.now.node) name.now)) }
+{
     let space = address(scope.node.get()).copy()?;
     let name = name.copy()?;
-    leave(stack, Value::Cells(CellsAt { space, name }))
+    Ok(Value::Cells(CellsAt { space, name }))
 }
 
 /// The run goes on where the namespace binds the name.
+#[inline(always)]
 pub fn check(
     text: &ModelText,
     scope: &Scope,
     stack: &mut Stack,
     name: &Label,
     events: &mut Items<Event>,
-) -> Result<Reached, AllocError>
-    ensures came { IfOk result (λ r. (line : ℕ) → Comes text.now (next_of (home_of scope.now) (act.Check name.now) line stack.old.top) events.old events.new (read_as (home_of scope.now) line r stack.new.top)) }
-    ensures below { OnOk result (stack.new.below ≡ stack.old.below) }
+) -> Went
+    ensures came { IfSome (done result) (λ r. (line : ℕ) → Comes text.now (next_of (home_of scope.now) (act.Check name.now) line stack.old.top) events.old events.new (went_as (home_of scope.now) line r stack.new.top)) }
+    ensures below { OnSome (done result) (stack.new.below ≡ stack.old.below) }
 {
-    if !seek(text, scope, name, events)? {
-        return Ok(Reached::Faults(FaultKind::NoName));
+    let Ok(found) = seek(text, scope, name, events) else {
+        return Went::NoMemory;
+    };
+    if !found {
+        return Went::Faults(FaultKind::NoName);
     }
     step_on(stack)
 }

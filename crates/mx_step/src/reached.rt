@@ -3,10 +3,18 @@ use mx_value::fault::FaultKind;
 use mx_value::node::Node;
 use mx_value::value::Value;
 
-/// What comes of an instruction: the run goes on, ends, or asks a node.
+/// What comes of an instruction that calls nothing and does not end the run.
+#[derive(Clone, Copy, Debug, PartialEq, Eq, Drop)]
+pub enum Went {
+    On,
+    /// The fault is at the instruction's line.
+    Faults(FaultKind),
+    NoMemory,
+}
+
+/// What comes of a call or a return: the run ends, or asks a node.
 #[derive(Drop)]
 pub enum Reached {
-    Goes,
     Gives(Value),
     /// None is given, though the cells don't allow it.
     GivesNothing,

@@ -68,6 +68,7 @@ impl Stack {
     }
 
     /// The place of the run on top in its code.
+    #[inline(always)]
     pub fn pc(&self) -> usize
         ensures { result ≡ self.now.top.pc }
     {
@@ -75,6 +76,7 @@ impl Stack {
     }
 
     /// Takes the topmost value of the run on top.
+    #[inline(always)]
     pub fn pop(&mut self) -> Option<Value>
         ensures { MatchOption result (self.old.top.stack ≡ []) (λ v. self.old ≡ on_top (with_value v self.new.top) self.new) }
     {
@@ -85,6 +87,7 @@ impl Stack {
     }
 
     /// Puts a value on the run on top.
+    #[inline(always)]
     pub fn push(&mut self, value: Value) -> Result<(), AllocError>
         ensures { OnOk result (self.new ≡ on_top (with_value value self.old.top) self.old) }
     {
@@ -92,7 +95,17 @@ impl Stack {
         Ok(())
     }
 
+    /// Puts a value on the run on top, which goes on behind its instruction.
+    #[inline(always)]
+    pub fn leave(&mut self, value: Value) -> Result<(), AllocError>
+        ensures { OnOk result (self.new ≡ on_top (at_next (with_value value self.old.top)) self.old) }
+    {
+        self.push(value)?;
+        self.advance()
+    }
+
     /// The run on top goes on behind its instruction, and passes so many further ones.
+    #[inline(always)]
     pub fn pass(&mut self, count: usize) -> Result<(), AllocError>
         ensures { OnOk result (self.new ≡ on_top (at_past count self.old.top) self.old) }
     {
@@ -107,6 +120,7 @@ impl Stack {
     }
 
     /// The run on top goes on behind its instruction.
+    #[inline(always)]
     pub fn advance(&mut self) -> Result<(), AllocError>
         ensures { OnOk result (self.new ≡ on_top (at_next self.old.top) self.old) }
     {
@@ -118,6 +132,7 @@ impl Stack {
     }
 
     /// A local of the run on top, which may not be set.
+    #[inline(always)]
     pub fn local(&self, place: usize) -> Option<&Option<Value>>
         ensures { option_copied result ≡ slice_get self.now.top.locals place }
     {
@@ -165,6 +180,7 @@ impl Stack {
 
     /// A run begins above all others, at the first instruction of its code, with these arguments as
     /// its first locals and so many in all.
+    #[inline(always)]
     pub fn begin(
         &mut self,
         alloc: Global,
@@ -203,6 +219,7 @@ fn set(locals: &mut Vec<Option<Value>>, at: usize, value: Value)
 }
 
 /// The arguments are the next locals, and behind them stand others that are not set, so many in all.
+#[inline(always)]
 fn push_locals(
     alloc: Global,
     locals: &mut Vec<Option<Value>>,

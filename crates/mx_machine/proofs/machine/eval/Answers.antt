@@ -28,18 +28,18 @@ pub returns-then-not-keeps-clause-answer : goal.returns-then-not-keeps-clause-an
 returns-then-not-keeps-clause-answer g c =
     let q : Evaluation = evaluation c.args.text.now c.args.bounds c.args.work.now.held.entries c.args.node.now c.args.steps.now in
     let n : c.len-before.result ≡ length c.args.work.now.held.entries = c.len-before.ensures.len in
-    let back : c.truncate.new.self.entries ≡ c.args.work.now.held.entries = rolled_back c.args.work.now.held.entries c.evaluate-answer.new.work.held.entries c.truncate.new.self.entries c.evaluate-answer.ensures.grown (c.truncate.ensures.entries ∙ ap (λ (k : ℕ). take k c.evaluate-answer.new.work.held.entries) n) in
+    let back : c.truncate.new.self.entries ≡ c.args.work.now.held.entries = rolled_back c.args.work.now.held.entries c.evaluate-answer.new.work.held.entries c.truncate.new.self.entries c.evaluate-answer.ensures.ended.grown (c.truncate.ensures.entries ∙ ap (λ (k : ℕ). take k c.evaluate-answer.new.work.held.entries) n) in
     let k : keeps c.evaluate-answer.result ≡ false = first_of (search rules, grind (arith, common_steps)) in
-    back_answer q c.evaluate-answer.new.work.held.entries c.evaluate-answer.new.steps c.evaluate-answer.result c.truncate.new.self.entries back k c.evaluate-answer.ensures
+    back_answer q c.evaluate-answer.new.work.held.entries c.evaluate-answer.new.steps c.evaluate-answer.result c.truncate.new.self.entries back k c.evaluate-answer.ensures.ended
 
 pub returns-then-not-keeps-clause-memo : goal.returns-then-not-keeps-clause-memo
 returns-then-not-keeps-clause-memo g c =
     let n : c.len-before.result ≡ length c.args.work.now.held.entries = c.len-before.ensures.len in
-    let back : c.truncate.new.self.entries ≡ c.args.work.now.held.entries = rolled_back c.args.work.now.held.entries c.evaluate-answer.new.work.held.entries c.truncate.new.self.entries c.evaluate-answer.ensures.grown (c.truncate.ensures.entries ∙ ap (λ (k : ℕ). take k c.evaluate-answer.new.work.held.entries) n) in
+    let back : c.truncate.new.self.entries ≡ c.args.work.now.held.entries = rolled_back c.args.work.now.held.entries c.evaluate-answer.new.work.held.entries c.truncate.new.self.entries c.evaluate-answer.ensures.ended.grown (c.truncate.ensures.entries ∙ ap (λ (k : ℕ). take k c.evaluate-answer.new.work.held.entries) n) in
     subst (λ (es : List Entry). IsMemo c.args.text.now es) (sym back) c.requires.memo
 
 pub returns-else-not-keeps-clause-answer : goal.returns-else-not-keeps-clause-answer
 returns-else-not-keeps-clause-answer g c =
     let q : Evaluation = evaluation c.args.text.now c.args.bounds c.args.work.now.held.entries c.args.node.now c.args.steps.now in
     let k : keeps c.evaluate-answer.result ≡ true = first_of (search rules, grind (arith, common_steps)) in
-    kept_answer q c.evaluate-answer.new.work.held.entries c.evaluate-answer.new.steps c.evaluate-answer.result k c.evaluate-answer.ensures
+    kept_answer q c.evaluate-answer.new.work.held.entries c.evaluate-answer.new.steps c.evaluate-answer.result k c.evaluate-answer.ensures.ended

@@ -6,22 +6,22 @@ use Rattle.mx_machine.specs.Frames.{Waiter}
 use Rattle.mx_machine.proofs.Flown.{emptied, flew_broken, flew_done, flew_on, held_broken}
 use Rattle.mx_machine.proofs.machine.hand_down.Goals as goal
 
-pub returns-in_err-value : goal.returns-in_err-value
-returns-in_err-value c = λ q now h. flew_broken q now _ _ (let e : c.from_residual.result ≡ Err refusal.NoMemory = first_of (search rules, grind (arith, common_steps)) in e) (held_broken q now c.args.work.now c.args.node c.args.reply h)
+pub returns-in_err-value-clause-flew : goal.returns-in_err-value-clause-flew
+returns-in_err-value-clause-flew c = λ q now h. flew_broken q now _ _ (let e : c.from_residual.result ≡ Err refusal.NoMemory = first_of (search rules, grind (arith, common_steps)) in e) (held_broken q now c.args.work.now c.args.node c.args.reply h)
 
-pub returns-in_err-push : goal.returns-in_err-push
-returns-in_err-push c = λ q now h. flew_broken q now _ _ (let e : c.from_residual-in_err-push.result ≡ Err refusal.NoMemory = first_of (search rules, grind (arith, common_steps)) in e) (held_broken q now c.args.work.now c.args.node c.args.reply h)
+pub returns-in_err-push-clause-flew : goal.returns-in_err-push-clause-flew
+returns-in_err-push-clause-flew c = λ q now h. flew_broken q now _ _ (let e : c.from_residual-in_err-push.result ≡ Err refusal.NoMemory = first_of (search rules, grind (arith, common_steps)) in e) (held_broken q now c.args.work.now c.args.node c.args.reply h)
 
-pub returns-in_err-push-2 : goal.returns-in_err-push-2
-returns-in_err-push-2 c = λ q now h. flew_broken q now _ _ (let e : c.from_residual-in_err-push-2.result ≡ Err refusal.NoMemory = first_of (search rules, grind (arith, common_steps)) in e) (held_broken q now c.args.work.now c.args.node c.args.reply h)
+pub returns-in_err-push-2-clause-flew : goal.returns-in_err-push-2-clause-flew
+returns-in_err-push-2-clause-flew c = λ q now h. flew_broken q now _ _ (let e : c.from_residual-in_err-push-2.result ≡ Err refusal.NoMemory = first_of (search rules, grind (arith, common_steps)) in e) (held_broken q now c.args.work.now c.args.node c.args.reply h)
 
-pub returns-in_default : goal.returns-in_default
-returns-in_default c = λ q now h.
+pub returns-in_default-clause-flew : goal.returns-in_default-clause-flew
+returns-in_default-clause-flew c = λ q now h.
     flew_done q now c.args.work.now c.args.node c.args.reply c.in_ok-value.value (emptied c.args.work.now.waiting.entries (λ l. let z : false ≡ true = c.in_default.ensures.found.1 l in absurd (cc)))
     (c.in_ok-value.ensures ∙ ap (λ (r : Reply). r.value) c.get.ensures) h
 
-pub returns : goal.returns
-returns c = λ q now h.
+pub returns-clause-flew : goal.returns-clause-flew
+returns-clause-flew c = λ q now h.
     let w : Waiter = (c.in-Some.field-0-0, c.in-Some.frame) in
     flew_on q now c.args.work.now _ c.args.node c.args.reply c.in_ok-value.value w c.push.new.self c.go_back.new.self c.in-Some.ensures.entries refl
     (c.in_ok-value.ensures ∙ ap (λ (r : Reply). r.value) c.get.ensures) c.in_ok-push.ensures.ok c.go_back.ensures c.in_ok-push-2.ensures h

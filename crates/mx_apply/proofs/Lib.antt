@@ -1,0 +1,3 @@
+pub mod DisplayLemmas
+pub mod StaticLemmas
+pub mod ValueLemmas

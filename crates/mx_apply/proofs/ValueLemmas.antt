@@ -1,0 +1,66 @@
+-- The steps of the tests of values, of bases and of the spaces that use a removed one.
+use Rattle.std.proofs.Common.{◌≡◌, ℕ, ◌+◌, ◌<◌, Bool, true, false, List, [], ◌∷◌, ◌++◌, length, take, drop, get_or, map, Some, refl, sym, ◌∙◌, ap}
+use Rattle.std.specs.Prelude.{codes, ◌||◌, ◌&&◌, not, if◌then◌else◌}
+use Rattle.std.specs.List.{list_any}
+use Rattle.std.proofs.lemmas.List.{drop_more}
+use Rattle.mx_value.specs.Name.{same_path}
+use Rattle.mx_print.specs.Texts.{Text, separated}
+use Rattle.mx_print.proofs.TextLemmas.{separated_first, separated_more}
+use Rattle.mx_model.specs.Records.{Name, Path, SpaceRecord}
+use Rattle.mx_model.specs.Walk.{path_text}
+use Rattle.mx_model.specs.Change.{is_within}
+use Rattle.mx_model.specs.Refused.{has_double, uses, first_user}
+
+-- ---- a path that stands twice
+
+double_step : (paths : List Path) (i : ℕ) (path : Path) → i < length paths → path ≡ get_or paths i path → has_double (drop i paths) ≡ (list_any (same_path path) (drop (i + 1) paths) || has_double (drop (i + 1) paths))
+double_step paths i path within is =
+    ap has_double (drop_more paths i path within ∙ ap (λ (p : Path). p ∷ drop (i + 1) paths) (sym is))
+
+pub double_passed : (paths : List Path) (i : ℕ) (path : Path) → i < length paths → path ≡ get_or paths i path → list_any (same_path path) (drop (i + 1) paths) ≡ false → has_double (drop i paths) ≡ has_double (drop (i + 1) paths)
+double_passed paths i path within is other = double_step paths i path within is ∙ ap (λ (b : Bool). b || has_double (drop (i + 1) paths)) other
+
+pub double_found : (paths : List Path) (i : ℕ) (path : Path) → i < length paths → path ≡ get_or paths i path → list_any (same_path path) (drop (i + 1) paths) ≡ true → has_double (drop i paths) ≡ true
+double_found paths i path within is other = double_step paths i path within is ∙ ap (λ (b : Bool). b || has_double (drop (i + 1) paths)) other
+
+-- ---- a space that uses a removed one
+
+user_step : (removed : Path) (spaces : List SpaceRecord) (i : ℕ) (s : SpaceRecord) → i < length spaces → s ≡ get_or spaces i s → first_user removed (drop i spaces) ≡ (if uses removed s then Some s.path else first_user removed (drop (i + 1) spaces))
+user_step removed spaces i s within is =
+    ap (first_user removed) (drop_more spaces i s within ∙ ap (λ (z : SpaceRecord). z ∷ drop (i + 1) spaces) (sym is))
+
+pub user_passed : (removed : Path) (spaces : List SpaceRecord) (i : ℕ) (s : SpaceRecord) → i < length spaces → s ≡ get_or spaces i s → uses removed s ≡ false → first_user removed (drop i spaces) ≡ first_user removed (drop (i + 1) spaces)
+user_passed removed spaces i s within is other =
+    user_step removed spaces i s within is ∙ ap (λ (b : Bool). if b then Some s.path else first_user removed (drop (i + 1) spaces)) other
+
+pub user_found : (removed : Path) (spaces : List SpaceRecord) (i : ℕ) (s : SpaceRecord) → i < length spaces → s ≡ get_or spaces i s → uses removed s ≡ true → first_user removed (drop i spaces) ≡ Some s.path
+user_found removed spaces i s within is so =
+    user_step removed spaces i s within is ∙ ap (λ (b : Bool). if b then Some s.path else first_user removed (drop (i + 1) spaces)) so
+
+pub uses_by : (removed : Path) (s : SpaceRecord) (bases : List Path) (found : Bool) → is_within removed s.path ≡ false → bases ≡ s.bases → found ≡ list_any (is_within removed) bases → found ≡ uses removed s
+uses_by removed s bases found stays b f =
+    f ∙ ap (list_any (is_within removed)) b ∙ sym (ap (λ (t : Bool). not t && list_any (is_within removed) s.bases) stays)
+
+-- ---- the text of a path
+
+abbrev itself : Name → Text
+itself name = name
+
+same_names : (names : Path) → map itself names ≡ names
+same_names [] = refl
+same_names (name ∷ names) = ap (λ (ns : Path). name ∷ ns) (same_names names)
+
+abbrev dot : Text
+dot = codes "."
+
+pub names_first : (out : Text) (names : Path) (i : ℕ) (name : Name) → i ≡ 0 → i < length names → name ≡ get_or names i name → (out ++ path_text (take i names)) ++ name ≡ out ++ path_text (take (i + 1) names)
+names_first out names i name none within is =
+    ap (λ (ns : Path). (out ++ separated dot ns) ++ name) (sym (same_names (take i names))) ∙
+    separated_first itself dot out names i name none within is ∙
+    ap (λ (ns : Path). out ++ separated dot ns) (same_names (take (i + 1) names))
+
+pub names_more : (out : Text) (names : Path) (i : ℕ) (name : Name) → 0 < i → i < length names → name ≡ get_or names i name → ((out ++ path_text (take i names)) ++ dot) ++ name ≡ out ++ path_text (take (i + 1) names)
+names_more out names i name some within is =
+    ap (λ (ns : Path). ((out ++ separated dot ns) ++ dot) ++ name) (sym (same_names (take i names))) ∙
+    separated_more itself dot out names i name some within is ∙
+    ap (λ (ns : Path). out ++ separated dot ns) (same_names (take (i + 1) names))

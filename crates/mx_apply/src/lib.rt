@@ -1,0 +1,11 @@
+//! Edits of a model text: why one is refused by what the text holds, and the text that it makes.
+#![tactic(auto)]
+
+mod bound;
+pub mod counts;
+mod displays;
+pub mod edits;
+mod own;
+mod refusals;
+mod statics;
+mod values;

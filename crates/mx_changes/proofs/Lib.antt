@@ -1,0 +1,7 @@
+pub mod BaseLemmas
+pub mod EditLemmas
+pub mod Free
+pub mod GoneSpaces
+pub mod InputLemmas
+pub mod KindChanges
+pub mod NewSpaces

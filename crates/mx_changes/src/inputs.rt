@@ -1,0 +1,64 @@
+//! The inputs of a text: their nodes, and the changes that edits of inputs make.
+ghost use Rattle.std.specs.Prelude.{◌≡◌, IfOk};
+ghost use Rattle.mx_value.specs.declared.node.Node.TheVariants as node;
+ghost use Rattle.mx_model.specs.Keys.{node_eq};
+ghost use Rattle.mx_model.specs.Change.{define, without};
+
+use indexmap::IndexMap;
+use mx_list::items::Items;
+use mx_list::shared::Shared;
+use mx_model::text::ModelText;
+use mx_value::label::Label;
+use mx_value::node::Node;
+use mx_value::value::{Addr, Value};
+use std::alloc::{AllocError, Global};
+
+/// The node of cells at these arguments.
+pub fn node_of(at: &Addr, name: &Label, args: Items<Value>) -> Result<Node, AllocError>
+    ensures { IfOk result (λ n. n ≡ node.Cell at.now name.now args) }
+{
+    Ok(Node::Cell(at.copy()?, name.copy()?, args))
+}
+
+/// Equal inputs. Their values are shared.
+fn copy_inputs(
+    alloc: Global,
+    inputs: &IndexMap<Node, Shared<Value>>,
+) -> Result<IndexMap<Node, Shared<Value>>, AllocError>
+    ensures { IfOk result (λ copied. copied.entries ≡ inputs.now.entries) }
+{
+    let mut copied = IndexMap::with_capacity(alloc, inputs.len())?;
+    for place in 0..inputs.len() {
+        let Some((node, value)) = inputs.get_index(place) else {
+            unreachable!()
+        };
+        copied.insert(node.copy(alloc)?, value.copy()?)?;
+    }
+    Ok(copied)
+}
+
+/// The text with a value that is put in for a node.
+pub fn with_input(
+    alloc: Global,
+    text: &ModelText,
+    node: Node,
+    value: &Value,
+) -> Result<ModelText, AllocError>
+    ensures { let inputs = define node_eq text.now.inputs node value.now in
+        IfOk result (λ t. t ≡ record text.now { inputs = inputs }) }
+{
+    let mut inputs = copy_inputs(alloc, text.inputs())?;
+    let value = Shared::new(alloc, value.copy(alloc)?)?;
+    inputs.insert(node, value)?;
+    text.with_inputs(alloc, inputs)
+}
+
+/// The text without the input of a node.
+pub fn without_input(alloc: Global, text: &ModelText, node: &Node) -> Result<ModelText, AllocError>
+    ensures { let inputs = without node_eq text.now.inputs node.now in
+        IfOk result (λ t. t ≡ record text.now { inputs = inputs }) }
+{
+    let mut inputs = copy_inputs(alloc, text.inputs())?;
+    inputs.shift_remove(node);
+    text.with_inputs(alloc, inputs)
+}

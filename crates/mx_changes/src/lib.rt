@@ -1,0 +1,9 @@
+//! The texts that edits of a model text make.
+#![tactic(auto)]
+
+pub mod globals;
+pub mod inputs;
+mod kinds;
+pub mod members;
+mod parts;
+pub mod spaces;

@@ -1,0 +1,163 @@
+//! The changes that edits of spaces make.
+ghost use Rattle.std.specs.Prelude.{◌≡◌, ◌∷◌, [], ◌++◌, false, IfOk, IsTrue, MatchOption};
+ghost use Rattle.mx_edit.specs.declared.edit.Edit.TheVariants as edit;
+ghost use Rattle.mx_model.specs.Records.{Name};
+ghost use Rattle.mx_model.specs.Paths.{is_defined};
+ghost use Rattle.mx_model.specs.Refused.{is_holder, name_taken};
+ghost use Rattle.mx_model.specs.Change.{change, is_within};
+ghost use Rattle.mx_model.specs.Indexed.{ArePlaced, TellAll};
+ghost use Rattle.mx_changes.specs.Kept.{IsLeft, LosesChild};
+
+use crate::kinds::{define_kind, remove_kind};
+use crate::parts;
+use mx_list::list::List;
+use mx_list::shared::Shared;
+use mx_model::kind::Kind;
+use mx_model::layers::path_below;
+use mx_model::members::Members;
+use mx_model::space::Space;
+use mx_model::text::{ModelText, copy_all};
+use mx_value::label::Label;
+use mx_value::node::Path;
+use std::alloc::{AllocError, Global};
+
+/// The text with these bases of a space.
+pub fn with_bases(
+    alloc: Global,
+    text: &ModelText,
+    path: &Path,
+    bases: &List<Path>,
+) -> Result<ModelText, AllocError>
+    requires { IsTrue (is_defined text.now path.now) }
+    ensures { IfOk result (λ t. t ≡ change text.now (edit.SetBases path.now bases.now)) }
+{
+    let Some(s) = text.id_of(path) else {
+        unreachable!()
+    };
+    let space = parts::with_bases(text.space(s), bases)?;
+    let mut spaces = copy_all(alloc, text.spaces())?;
+    spaces[s.0 as usize] = Shared::new(alloc, space)?;
+    let kinds = copy_all(alloc, text.kinds())?;
+    text.with_spaces(alloc, spaces, kinds)
+}
+
+/// These kinds of the spaces with a child of this name in that of its parent.
+fn kinds_with_child(
+    alloc: Global,
+    text: &ModelText,
+    kinds: &[Shared<Members<Kind>>],
+    parent: &Path,
+    name: &Label,
+) -> Result<Vec<Shared<Members<Kind>>>, AllocError>
+    requires placed { ArePlaced kinds.now text.now }
+    requires held { IsTrue (is_holder text.now parent.now) }
+    requires free { name_taken text.now (edit.NewSpace parent.now name.now) ≡ false }
+    ensures { let changed = change text.now (edit.NewSpace parent.now name.now) in
+        IfOk result (λ kinds. TellAll changed text.now.spaces kinds.items) }
+{
+    match text.id_of(parent) {
+        Some(s) => {
+            let table = define_kind(alloc, &kinds[s.0 as usize], name, Kind::Child)?;
+            let mut tables = copy_all(alloc, kinds)?;
+            tables[s.0 as usize] = table;
+            return Ok(tables);
+        }
+        None => return copy_all(alloc, kinds),
+    }
+}
+
+/// The text with a new space behind the others.
+pub fn with_new_space(
+    alloc: Global,
+    text: &ModelText,
+    parent: &Path,
+    name: &Label,
+) -> Result<ModelText, AllocError>
+    requires held { IsTrue (is_holder text.now parent.now) }
+    requires free { name_taken text.now (edit.NewSpace parent.now name.now) ≡ false }
+    ensures { IfOk result (λ t. t ≡ change text.now (edit.NewSpace parent.now name.now)) }
+{
+    if text.spaces().len() >= u32::MAX as usize {
+        return Err(AllocError);
+    }
+    let path = path_below(alloc, parent.as_slice(), name)?;
+    let space = Space::new(alloc, path, List::empty(alloc)?)?;
+    let mut spaces = copy_all(alloc, text.spaces())?;
+    spaces.push(Shared::new(alloc, space)?)?;
+    let mut kinds = kinds_with_child(alloc, text, text.kinds(), parent, name)?;
+    kinds.push(Shared::new(alloc, Members::new(alloc))?)?;
+    text.with_spaces(alloc, spaces, kinds)
+}
+
+/// The text without a space and all defined spaces below it.
+pub fn without_space(alloc: Global, text: &ModelText, path: &Path) -> Result<ModelText, AllocError>
+    ensures { IfOk result (λ t. t ≡ change text.now (edit.DelSpace path.now)) }
+{
+    let all = text.spaces();
+    let tables = text.kinds();
+    let mut spaces = Vec::new(alloc);
+    let mut kinds = Vec::new(alloc);
+    for place in 0..all.len() {
+        let space = &all[place];
+        let at = space.get().path();
+        if !is_within(path, at) {
+            spaces.push(space.copy()?)?;
+            kinds.push(kinds_left(alloc, &tables[place], at, path)?)?;
+        }
+    }
+    text.with_spaces(alloc, spaces, kinds)
+}
+
+/// Whether a path is another one or leads on from it.
+pub fn is_within(path: &Path, other: &Path) -> bool
+    ensures { result ≡ is_within path.now other.now }
+{
+    other.as_slice().starts_with(path.as_slice())
+}
+
+/// The last name of a path just below another one.
+fn child_name<'a>(path: &'a Path, parent: &Path) -> Option<&'a Label>
+    ensures { MatchOption result ((name : Name) → path.now ≡ parent.now ++ name ∷ [] → ⊥)
+        (λ name. path.now ≡ parent.now ++ name.now ∷ []) }
+{
+    match path.as_slice() {
+        [names @ .., last] => {
+            if names == parent.as_slice() {
+                return Some(last);
+            }
+            return None;
+        }
+        [] => return None,
+    }
+}
+
+/// The kinds of a space without the child of a path.
+fn kinds_left(
+    alloc: Global,
+    kinds: &Shared<Members<Kind>>,
+    at: &Path,
+    removed: &Path,
+) -> Result<Shared<Members<Kind>>, AllocError>
+    ensures { IfOk result (λ rest. IsLeft removed.now at.now kinds.now rest) }
+{
+    match child_name(removed, at) {
+        Some(name) => return kinds_without_child(alloc, kinds, name),
+        None => return kinds.copy(),
+    }
+}
+
+/// Kinds without a child of a name, where they have one.
+fn kinds_without_child(
+    alloc: Global,
+    kinds: &Shared<Members<Kind>>,
+    name: &Label,
+) -> Result<Shared<Members<Kind>>, AllocError>
+    ensures { IfOk result (λ rest. LosesChild name.now kinds.now rest) }
+{
+    match kinds.get().get(name) {
+        Some(Kind::Child) => return remove_kind(alloc, kinds, name),
+        Some(Kind::Cells) => return kinds.copy(),
+        Some(Kind::Reference) => return kinds.copy(),
+        None => return kinds.copy(),
+    }
+}

@@ -1,0 +1,5 @@
+//! Tests of the graph of reads, above the crate that they test.
+#![tactic(auto)]
+
+#[cfg(test)]
+mod graphs;

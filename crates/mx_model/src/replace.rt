@@ -1,0 +1,141 @@
+//! Texts that differ from another in one kind of their parts, and share the others with it.
+ghost use Rattle.std.specs.Prelude.{◌≡◌, ◌<◌, length, Some, IfOk};
+ghost use Rattle.mx_model.specs.Records.{Path as SpacePath, SpaceRecord};
+ghost use Rattle.mx_model.specs.Layers.{id_of, space_of};
+ghost use Rattle.mx_model.specs.Change.{at_space};
+ghost use Rattle.mx_model.specs.Kept.{StaysInPlace};
+ghost use Rattle.mx_model.specs.Indexed.{Tells, ArePlaced};
+
+use crate::beside::{lists_of, paths_of};
+use crate::kind::Kind;
+use crate::members::Members;
+use crate::space::Space;
+use crate::text::{ModelText, copy_all};
+use indexmap::IndexMap;
+use mx_c3::space::SpaceId;
+use mx_edit::reference::RefValue;
+use mx_edit::table::Table;
+use mx_list::shared::Shared;
+use mx_value::node::Node;
+use mx_value::value::Value;
+use std::alloc::{AllocError, Global};
+
+impl ModelText {
+    /// The text with another space of the same path and bases in the place of one.
+    pub fn put(
+        &self,
+        alloc: Global,
+        s: SpaceId,
+        space: Space,
+        kinds: Shared<Members<Kind>>,
+    ) -> Result<ModelText, AllocError>
+        requires within { s.0 < length self.now.spaces }
+        requires stays { (old : SpaceRecord) →
+            space_of self.now s ≡ Some old → StaysInPlace old space }
+        requires tells { Tells self.now space kinds }
+        ensures { (path : SpacePath) (change : SpaceRecord → SpaceRecord) →
+            id_of self.now path ≡ Some s →
+            ((old : SpaceRecord) → space_of self.now s ≡ Some old → space ≡ change old) →
+            IfOk result (λ t. t ≡ at_space self.now path change) }
+    {
+        let mut spaces = copy_all(alloc, self.spaces.as_slice())?;
+        spaces[s.0 as usize] = Shared::new(alloc, space)?;
+        let mut tables = copy_all(alloc, self.kinds.as_slice())?;
+        tables[s.0 as usize] = kinds;
+        Ok(ModelText {
+            paths: self.paths.copy()?,
+            spaces,
+            kinds: tables,
+            lists: self.lists.copy()?,
+            globals: self.globals.copy()?,
+            inputs: self.inputs.copy()?,
+            tables: self.tables.copy()?,
+        })
+    }
+
+    /// The text with these spaces, each with its table of kinds.
+    pub fn with_spaces(
+        &self,
+        alloc: Global,
+        spaces: Vec<Shared<Space>>,
+        kinds: Vec<Shared<Members<Kind>>>,
+    ) -> Result<ModelText, AllocError>
+        requires { ArePlaced kinds.items (record self.now { spaces = spaces.items }) }
+        ensures { IfOk result (λ t. t ≡ record self.now { spaces = spaces.items }) }
+    {
+        let paths = paths_of(alloc, &spaces)?;
+        let lists = lists_of(alloc, &spaces, &paths)?;
+        Ok(ModelText {
+            paths: Shared::new(alloc, paths)?,
+            spaces,
+            kinds,
+            lists: Shared::new(alloc, lists)?,
+            globals: self.globals.copy()?,
+            inputs: self.inputs.copy()?,
+            tables: self.tables.copy()?,
+        })
+    }
+
+    /// The text with these references of the model.
+    pub fn with_globals(
+        &self,
+        alloc: Global,
+        globals: Members<RefValue>,
+    ) -> Result<ModelText, AllocError>
+        ensures { IfOk result (λ t. t ≡ record self.now { globals = globals }) }
+    {
+        let spaces = copy_all(alloc, self.spaces.as_slice())?;
+        let kinds = copy_all(alloc, self.kinds.as_slice())?;
+        Ok(ModelText {
+            paths: self.paths.copy()?,
+            spaces,
+            kinds,
+            lists: self.lists.copy()?,
+            globals: Shared::new(alloc, globals)?,
+            inputs: self.inputs.copy()?,
+            tables: self.tables.copy()?,
+        })
+    }
+
+    /// The text with these tables.
+    pub fn with_tables(
+        &self,
+        alloc: Global,
+        tables: Members<Table>,
+    ) -> Result<ModelText, AllocError>
+        ensures { IfOk result (λ t. t ≡ record self.now { tables = tables }) }
+    {
+        let spaces = copy_all(alloc, self.spaces.as_slice())?;
+        let kinds = copy_all(alloc, self.kinds.as_slice())?;
+        Ok(ModelText {
+            paths: self.paths.copy()?,
+            spaces,
+            kinds,
+            lists: self.lists.copy()?,
+            globals: self.globals.copy()?,
+            inputs: self.inputs.copy()?,
+            tables: Shared::new(alloc, tables)?,
+        })
+    }
+
+    /// The text with these inputs.
+    pub fn with_inputs(
+        &self,
+        alloc: Global,
+        inputs: IndexMap<Node, Shared<Value>>,
+    ) -> Result<ModelText, AllocError>
+        ensures { IfOk result (λ t. t ≡ record self.now { inputs = inputs.entries }) }
+    {
+        let spaces = copy_all(alloc, self.spaces.as_slice())?;
+        let kinds = copy_all(alloc, self.kinds.as_slice())?;
+        Ok(ModelText {
+            paths: self.paths.copy()?,
+            spaces,
+            kinds,
+            lists: self.lists.copy()?,
+            globals: self.globals.copy()?,
+            inputs: Shared::new(alloc, inputs)?,
+            tables: self.tables.copy()?,
+        })
+    }
+}
