@@ -7,11 +7,11 @@ use Rattle.mx_value.specs.declared.refusal.EvalRefusal.TheVariants as refusal
 use Rattle.mx_syntax.specs.declared.stmt.Formula.{Formula}
 use Rattle.mx_edit.specs.declared.edit.Edit.{Edit as ScriptEdit}
 use Rattle.mx_edit.specs.declared.edit.Edit.TheVariants as script
-use Rattle.mx_script.specs.declared.command.Command.{Command as ScriptCommand}
-use Rattle.mx_script.specs.declared.command.Command.TheVariants as command
+use Rattle.mx_words.specs.declared.command.Command.{Command as ScriptCommand}
+use Rattle.mx_words.specs.declared.command.Command.TheVariants as command
 use Rattle.mx_run.specs.Script.{program_words}
-use Rattle.mx_script.specs.declared.command.FormRefusal.{FormRefusal}
-use Rattle.mx_script.specs.declared.command.FormRefusal.TheVariants as form
+use Rattle.mx_words.specs.declared.command.FormRefusal.{FormRefusal}
+use Rattle.mx_words.specs.declared.command.FormRefusal.TheVariants as form
 use Rattle.mx_script.specs.Commands.{ReadsAs}
 use Rattle.mx_meaning.specs.Answers.{Answer}
 use Rattle.mx_meaning.specs.Meaning.{bound_node}

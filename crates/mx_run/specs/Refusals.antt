@@ -6,8 +6,8 @@ use Rattle.mx_lex.specs.declared.LexRefusal.{LexRefusal}
 use Rattle.mx_lex.specs.declared.LexRefusal.TheVariants as lexing
 use Rattle.mx_grammar.specs.declared.refusal.ParseRefusal.{ParseRefusal}
 use Rattle.mx_grammar.specs.declared.refusal.ParseRefusal.TheVariants as parsing
-use Rattle.mx_script.specs.declared.command.FormRefusal.{FormRefusal}
-use Rattle.mx_script.specs.declared.command.FormRefusal.TheVariants as form
+use Rattle.mx_words.specs.declared.command.FormRefusal.{FormRefusal}
+use Rattle.mx_words.specs.declared.command.FormRefusal.TheVariants as form
 
 -- why a source has no tokens; want of memory has no text
 abbrev pub lex_refusal_text : LexRefusal → Text

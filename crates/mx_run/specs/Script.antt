@@ -1,7 +1,7 @@
 -- The commands of a script to this program, which knows these words.
 use Rattle.std.specs.Prelude.{ℕ, List, [], ◌∷◌, Option}
-use Rattle.mx_script.specs.declared.table.CommandWord.{CommandWord}
-use Rattle.mx_script.specs.declared.table.CommandWord.TheVariants.{Cells, Def, Eval}
+use Rattle.mx_words.specs.declared.table.CommandWord.{CommandWord}
+use Rattle.mx_words.specs.declared.table.CommandWord.TheVariants.{Cells, Def, Eval}
 use Rattle.mx_script.specs.Script.{Command, Taken}
 use Rattle.mx_script.specs.Script as script
 

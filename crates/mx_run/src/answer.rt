@@ -112,6 +112,9 @@ fn carry_out<L: Ledger>(
         Command::Eval(node) => return evaluate(engine, block, &node, steps),
         Command::Precedents(_) => unreachable!(),
         Command::Succs(_) => unreachable!(),
+        Command::Held(_) => unreachable!(),
+        Command::Clear(_) => unreachable!(),
+        Command::Limit(_) => unreachable!(),
         Command::Order(_) => unreachable!(),
     }
 }

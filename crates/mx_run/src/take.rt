@@ -13,8 +13,8 @@ use crate::line::{blank, continues, strip_cr};
 use crate::words::WORDS;
 use mx_engine::steps::Steps;
 use mx_outside::{Sink, WriteFailure};
-use mx_script::table::takes_lines;
-use mx_script::text::strip_spaces;
+use mx_words::table::takes_lines;
+use mx_words::text::strip_spaces;
 use std::alloc::{AllocError, Global};
 use std::sync::ledger::Ledger;
 

@@ -1,4 +1,4 @@
 //! The words of commands that this program knows.
-use mx_script::table::CommandWord;
+use mx_words::table::CommandWord;
 
 pub const WORDS: [CommandWord; 3] = [CommandWord::Cells, CommandWord::Def, CommandWord::Eval];

@@ -1,6 +1,4 @@
 pub mod Lists
-pub mod HeadRules
-pub mod HeadForms
-pub mod PartAnswers
-pub mod OnePart
 pub mod OneCommand
+pub mod Sequels
+pub mod Parted

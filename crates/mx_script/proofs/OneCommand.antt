@@ -1,61 +1,101 @@
 -- There is one answer for the text of a command.
-use Rattle.std.proofs.Common.{◌≡◌, ◌≢◌, ℕ, List, Option, Some, None, Bool, true, Result, Ok, Err, refl, sym, ap, subst, ◌∙◌}
+use Rattle.std.proofs.Common.{◌≡◌, ◌≢◌, ℕ, ◌+◌, List, Option, Some, None, Bool, true, false, codes, take, Result, Ok, Err, ap, sym, ◌∙◌}
 use Rattle.mx_value.specs.declared.node.Node.{Node}
-use Rattle.mx_syntax.specs.declared.stmt.Formula.{Formula}
+use Rattle.mx_value.specs.declared.node.Node.TheVariants.{Cell, Item}
 use Rattle.mx_grammar.specs.declared.refusal.ParseRefusal.{ParseRefusal}
+use Rattle.mx_grammar.specs.Spelling.{Answers}
 use Rattle.mx_grammar.specs.Limits.{AnswersWithin}
-use Rattle.mx_grammar.specs.Literals.{node_text}
+use Rattle.mx_grammar.specs.Literals.{node_text, literal_text}
 use Rattle.mx_grammar.specs.Reading.{line}
 use Rattle.mx_grammar.proofs.Answering.{one_answer}
 use Rattle.mx_grammar.proofs.Limited.{one_within}
-use Rattle.mx_grammar.proofs.Languages.{nodes}
-use Rattle.mx_parse.specs.Formulas.{formula_text}
-use Rattle.mx_parse.specs.FormulaLimits.{formula_limits}
-use Rattle.mx_parse.proofs.Languages.{formulas}
-use Rattle.mx_script.specs.declared.command.FormRefusal.{FormRefusal}
-use Rattle.mx_script.specs.declared.command.FormRefusal.TheVariants.{UnknownWord, NoMemory}
-use Rattle.mx_script.specs.declared.table.CommandWord.{CommandWord}
-use Rattle.mx_script.specs.declared.table.Form.{Form}
-use Rattle.mx_script.specs.declared.table.Form.TheVariants as form
-use Rattle.mx_script.specs.declared.table.Named.{Named}
-use Rattle.mx_script.specs.declared.table.Asked.{Asked}
-use Rattle.mx_script.specs.declared.head.Target.{Target}
-use Rattle.mx_script.specs.HeadParsers.{head_by}
-use Rattle.mx_script.specs.Texts.{spaces, behind_spaces, behind_word, first_word, head_of, formula_of}
-use Rattle.mx_script.specs.Words.{rest_of, word_of}
-use Rattle.mx_script.specs.Commands.{Answer, opens, head_form, defined, Defines, named_answer, Names, asked_of, Asks, ReadsRest, ReadsBy, ReadsAs, Unless}
-use Rattle.mx_script.proofs.HeadForms.{by_form}
-use Rattle.mx_script.proofs.OnePart.{one_said, not_both, one_refusal, one_part}
+use Rattle.mx_grammar.proofs.Languages.{nodes, literals}
+use Rattle.mx_parse.specs.Formulas.{formula_text, params_text}
+use Rattle.mx_parse.specs.FormulaLimits.{formula_limits, params_limits}
+use Rattle.mx_parse.proofs.Languages.{formulas, space_parameters}
+use Rattle.mx_words.specs.declared.command.FormRefusal.TheVariants.{NoMemory}
+use Rattle.mx_words.specs.declared.table.CommandWord.{CommandWord}
+use Rattle.mx_words.specs.declared.table.Form.{Form}
+use Rattle.mx_words.specs.declared.table.Form.TheVariants as form
+use Rattle.mx_words.specs.declared.table.Asked.{Asked}
+use Rattle.mx_value.specs.declared.value.Segment.{Segment}
+use Rattle.mx_edit.specs.declared.scope.Scope.TheVariants as scope
+use Rattle.mx_words.specs.declared.command.Command.TheVariants as command
+use Rattle.mx_words.specs.declared.table.Asked.TheVariants as asked
+use Rattle.mx_words.specs.declared.table.Clearing.{Clearing}
+use Rattle.mx_words.specs.declared.table.Clearing.TheVariants as clearing
+use Rattle.mx_words.specs.declared.table.Owner.{Owner}
+use Rattle.mx_words.specs.declared.table.Reference.{Reference}
+use Rattle.mx_words.specs.declared.table.Phrase.TheVariants as phrase
+use Rattle.mx_words.specs.declared.head.Target.{Target}
+use Rattle.mx_words.specs.declared.head.HeadForm.TheVariants as head
+use Rattle.mx_words.specs.Heads.{head_text}
+use Rattle.mx_words.specs.HeadParsers.{worded, head_by}
+use Rattle.mx_words.specs.Texts.{spaces, behind_spaces, first_word, head_of, formula_of, first_name, behind_equals}
+use Rattle.mx_words.specs.Words.{rest_of, word_of}
+use Rattle.mx_words.specs.Phrases.{phrase_text, address_text}
+use Rattle.mx_words.specs.PhraseParsers.{phrase_by, address_by}
+use Rattle.mx_words.specs.Parts.{Answer, Sequel, Onward, Decides}
+use Rattle.mx_script.specs.Commands.{opens, form_of, HeadAnswers, ref_value, reference_of, referred, RefHead, RefersBy, newline_of, AddressAnswers, cells_at, cleared_of, clearing_of, ClearsBy, defined, Defines, parametrized, Parametrizes, asked_of, Asks, argument_of, place_behind, input_node, input_literal, has_literal, input_of, Sets, Inputs, ReadsRest, ReadsBy, ReadsAs, Unless}
+use Rattle.mx_words.proofs.HeadRules.{by_form}
+use Rattle.mx_words.proofs.PhraseRules.{phrases, addresses}
+use Rattle.mx_words.proofs.OnePart.{Unique, one_part, one_sequel, one_onward, one_decides}
 
-one_node : (a : Asked) (source : List ℕ) (r s : Answer) → Asks a source r → Asks a source s → r ≡ s
-one_node a source r s p q = p.is ∙ ap (asked_of a) (one_answer node_text _ nodes source p.node q.node p.answers q.answers) ∙ sym q.is
+one_asking : (a : Asked) (start : ℕ) (source : List ℕ) → Unique (Asks a start source)
+one_asking a start source = one_decides (Answers node_text source) (asked_of a start source) (one_answer node_text _ nodes source)
 
-one_naming : (n : Named) (lead : ℕ) (text : List ℕ) (r s : Answer) → Names n lead text r → Names n lead text s → r ≡ s
-one_naming n lead text r s p q = p.is ∙ ap (named_answer n) (one_part (head_form true) (λ m. line (head_by true)) (by_form true) lead text p.target q.target p.answers q.answers) ∙ sym q.is
+one_set : (start : ℕ) (source : List ℕ) (literal : Bool) (r : Result Node ParseRefusal) → Unique (Sets start source literal r)
+one_set start source literal (Err e) r s p q = p ∙ sym q
+one_set start source true (Ok (Cell space name args)) r s p q = one_decides (Answers literal_text (input_literal source)) (input_of space name args) (one_answer literal_text _ literals (input_literal source)) r s p q
+one_set start source false (Ok (Cell space name args)) r s p q = p ∙ sym q
+one_set start source true (Ok (Item space args)) r s p q = p ∙ sym q
+one_set start source false (Ok (Item space args)) r s p q = p ∙ sym q
 
-abbrev refused : FormRefusal → Answer
-refused e = Err e
-
-one_formula : (source : List ℕ) (r s : Result Formula ParseRefusal) → AnswersWithin formula_text formula_limits source r → AnswersWithin formula_text formula_limits source s → r ≡ s
-one_formula source r s a b = one_within formula_text _ formulas formula_limits source r s a b
+one_input : (start : ℕ) (source : List ℕ) → Unique (Inputs start source)
+one_input start source = one_sequel (Answers node_text (input_node source)) (Sets start source (has_literal source)) (one_answer node_text _ nodes (input_node source)) (one_set start source (has_literal source))
 
 module _ (lead : ℕ) (text : List ℕ) where
-  abbrev form_here : Bool
-  form_here = opens text
+  one_head : Unique (HeadAnswers lead text)
+  one_head = one_part (head_text (form_of (opens text))) (λ m. line (head_by (form_of (opens text)))) (by_form (form_of (opens text))) false lead (head_of text)
 
-  one_definition : (r s : Answer) → Defines lead text r → Defines lead text s → r ≡ s
-  one_definition _ _ (Defines.refused {e = d} h) (Defines.refused {e} k) = ap refused (one_refusal (head_form form_here) (λ m. line (head_by form_here)) (by_form form_here) lead (head_of text) d e h k)
-  one_definition _ _ (Defines.refused {e} h) (Defines.named {t} r n f) = absurd (not_both (head_form form_here) (λ m. line (head_by form_here)) (by_form form_here) lead (head_of text) t e n h)
-  one_definition _ _ (Defines.named {t} r n f) (Defines.refused {e} h) = absurd (not_both (head_form form_here) (λ m. line (head_by form_here)) (by_form form_here) lead (head_of text) t e n h)
-  one_definition _ _ (Defines.named {t = a} r m f) (Defines.named {t = b} s n g) =
-      ap (λ (t : Target). defined t r) (one_said (head_form form_here) (λ k. line (head_by form_here)) (by_form form_here) lead (head_of text) a b m n) ∙ ap (defined b) (one_formula (formula_of text) r s f g)
+  one_definition : Unique (Defines lead text)
+  one_definition =
+      let Next = λ (t : Target). Decides (AnswersWithin formula_text formula_limits (formula_of text)) (defined t) in
+      one_sequel (HeadAnswers lead text) (Onward Next) one_head (one_onward Next (λ t. one_decides (AnswersWithin formula_text formula_limits (formula_of text)) (defined t) (one_within formula_text _ formulas formula_limits (formula_of text))))
 
-  one_rest : (f : Form) (r s : Answer) → ReadsRest f lead text r → ReadsRest f lead text s → r ≡ s
-  one_rest form.Cells r s a b = one_definition r s a b
-  one_rest (form.Names n) r s a b = one_naming n lead text r s a b
-  one_rest (form.Node a) r s p q = one_node a (behind_spaces (behind_word text)) r s p q
+  one_params : Unique (Parametrizes lead text)
+  one_params =
+      let Next = λ (t : Target). Decides (AnswersWithin params_text params_limits (formula_of text)) (parametrized t) in
+      one_sequel (HeadAnswers lead text) (Onward Next) one_head (one_onward Next (λ t. one_decides (AnswersWithin params_text params_limits (formula_of text)) (parametrized t) (one_within params_text _ space_parameters params_limits (formula_of text))))
 
-  one_by : (word : Option CommandWord) (r s : Answer) → ReadsBy word lead text r → ReadsBy word lead text s → r ≡ s
+  one_reference : (o : Owner) (r : Option Reference) → Unique (RefersBy r o lead text)
+  one_reference o (Some r) = one_part (phrase_text (phrase.Refers o r)) (λ n. line (worded (phrase_by (phrase.Refers o r) n))) (phrases (phrase.Refers o r)) false lead text
+  one_reference o None =
+      let Next = λ (t : Target). Decides (Answers literal_text (ref_value text)) (referred o t) in
+      one_sequel (RefHead o lead text) (Onward Next) (one_part (head_text (head.Reference o)) (λ m. line (head_by (head.Reference o))) (by_form (head.Reference o)) false lead (take (behind_equals text) text))
+      (one_onward Next (λ t. one_decides (Answers literal_text (ref_value text)) (referred o t) (one_answer literal_text _ literals (ref_value text))))
+
+  one_address : (name : List ℕ) (done : List Segment → Answer) → Unique (Sequel (AddressAnswers name lead text) (Onward (λ a answer. answer ≡ done a)))
+  one_address name done =
+      let Next : List Segment → Answer → Type 0 = λ a answer. answer ≡ done a in
+      one_sequel (AddressAnswers name lead text) (Onward Next) (one_part (address_text name) (λ n. line (worded (address_by name n))) (addresses name) true lead text) (one_onward Next (λ a r s p q. p ∙ sym q))
+
+  one_clearing : (c : Clearing) → Unique (ClearsBy c lead text)
+  one_clearing clearing.All = one_part (phrase_text phrase.ClearAll) (λ n. line (worded (phrase_by phrase.ClearAll n))) (phrases phrase.ClearAll) false lead text
+  one_clearing clearing.Space = one_address (codes "space") (λ a. Ok (command.Clear (scope.Space a)))
+  one_clearing clearing.Cells = one_address (codes "cells") (cells_at (lead + newline_of text))
+  one_clearing clearing.Node = one_asking asked.Clear (lead + place_behind text (cleared_of text)) (cleared_of text)
+
+  one_rest : (f : Form) → Unique (ReadsRest f lead text)
+  one_rest form.Cells = one_definition
+  one_rest form.Params = one_params
+  one_rest (form.Phrase p) = one_part (phrase_text p) (λ n. line (worded (phrase_by p n))) (phrases p) false lead text
+  one_rest (form.Node a) = one_asking a (lead + place_behind text (argument_of text)) (argument_of text)
+  one_rest form.Input = one_input (lead + place_behind text (argument_of text)) (argument_of text)
+  one_rest form.Clear = one_clearing (clearing_of (first_name (argument_of text)))
+  one_rest (form.Reference o) = one_reference o (reference_of (first_name (ref_value text)))
+
+  one_by : (word : Option CommandWord) → Unique (ReadsBy word lead text)
   one_by None r s a b = a ∙ sym b
   one_by (Some w) r s a b = one_rest (rest_of w).form r s a b
 

@@ -1,9 +1,9 @@
 -- The lines of a script, and its commands, whose words are given.
 use Rattle.std.specs.Prelude.{◌≡◌, ◌≢◌, ℕ, ◌+◌, ◌-◌, ◌==◌, ◌||◌, nat_eq, length, take, slice_index, map, Bool, true, List, [], ◌∷◌, ◌++◌, Option, None, Some, if◌then◌else◌, option_to_list, codes}
 use Rattle.std.specs.List.{concat, AllByRecursion}
-use Rattle.mx_script.specs.declared.table.CommandWord.{CommandWord}
-use Rattle.mx_script.specs.Texts.{behind_spaces}
-use Rattle.mx_script.specs.Words.{takes_lines}
+use Rattle.mx_words.specs.declared.table.CommandWord.{CommandWord}
+use Rattle.mx_words.specs.Texts.{behind_spaces}
+use Rattle.mx_words.specs.Words.{takes_lines}
 
 -- the lines that LF ends, and what stands after the last of them
 pub record Lines : Type 0 where

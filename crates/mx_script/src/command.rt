@@ -1,186 +1,63 @@
 //! What the text of a command says.
-ghost use Rattle.std.specs.Prelude.{◌≡◌, ◌≢◌, ◌+◌, ◌≤◌, length, Result, Ok, Err, IfOk, IfErr};
+ghost use Rattle.std.specs.Prelude.{◌≡◌, ◌≢◌, ◌∷◌, [], true, false, ◌+◌, ◌-◌, ◌≤◌, ℕ, length, drop, None, Result, Ok, Err, IfOk, IfErr, List as Many};
 ghost use Rattle.mx_lex.specs.declared.LexRefusal.{LexRefusal};
 ghost use Rattle.mx_lex.specs.Lexing.{tokens_of};
-ghost use Rattle.mx_grammar.specs.Reading.{Gives, parsed, line};
-ghost use Rattle.mx_grammar.specs.Spelling.{words_of, InText};
-ghost use Rattle.mx_script.specs.declared.command.Command.{Command};
-ghost use Rattle.mx_script.specs.declared.command.Command.TheVariants as command;
-ghost use Rattle.mx_edit.specs.declared.edit.Edit.TheVariants as edit;
+ghost use Rattle.mx_grammar.specs.Spelling.{words_of, InText, Answers, Unread};
+ghost use Rattle.mx_grammar.specs.Literals.{literal_text, space_of as main_of};
+ghost use Rattle.mx_words.specs.declared.command.Command.{Command};
 ghost use Rattle.mx_grammar.specs.declared.refusal.ParseRefusal.{ParseRefusal};
-ghost use Rattle.mx_script.specs.declared.command.FormRefusal.{FormRefusal};
-ghost use Rattle.mx_script.specs.Heads.{space_of, whole_of};
-ghost use Rattle.mx_script.specs.Parts.{Says, PartRefused, Misplaced, moved};
+ghost use Rattle.mx_words.specs.declared.command.FormRefusal.{FormRefusal};
+ghost use Rattle.mx_words.specs.Parts.{IsRead, Unreadable, PartAnswers, Misplaced, Decides, moved};
+ghost use Rattle.mx_edit.specs.declared.scope.Scope.TheVariants as scope;
+ghost use Rattle.mx_words.specs.declared.command.Command.TheVariants as command;
+ghost use Rattle.mx_words.specs.declared.table.Clearing.TheVariants as clearing;
+ghost use Rattle.mx_words.specs.Heads.{head_text};
+ghost use Rattle.mx_words.specs.Texts.{behind_equals};
+ghost use Rattle.mx_words.specs.Phrases.{phrase_text};
 ghost use Rattle.mx_script.specs.Commands as spec;
-ghost use Rattle.mx_script.specs.Commands.{head_form, HeadNames, HeadRefused, Defines, Names, Asks, ReadsAs, Unless};
-ghost use Rattle.mx_script.specs.HeadParsers.{head_by};
+ghost use Rattle.mx_script.specs.Commands.{AddressAnswers, ClearsBy, Clears, HeadAnswers, Defines, Parametrizes, Asks, Inputs, RefersBy, Refers, ReadsAs, Unless};
 
-use crate::head::{Target, head_in, opened_in};
 use crate::later::{is_later_formula, is_later_node};
-use crate::table::{Asked, CommandWord, Form, Named, rest_of, word_of};
-use crate::text::{head_length, spaces, strip_spaces, word_length};
 use mx_edit::edit::Edit;
-use mx_grammar::source::{Source, place};
-use mx_grammar::trouble::Trouble;
-use mx_grammar::word::Word;
-use mx_grammar::words::{label, words};
+use mx_edit::reference::RefValue;
+use mx_edit::scope::Scope;
+use mx_grammar::words::label;
 use mx_lex::{LexRefusal, Token, lex};
+use mx_list::items::Items;
 use mx_list::list::List;
-use mx_parse::{ParseRefusal, parse_formula, parse_node};
-use mx_syntax::stmt::Formula;
+use mx_list::shared::Shared;
+use mx_parse::{ParseRefusal, parse_formula, parse_literal, parse_node, parse_params};
+use mx_syntax::stmt::{Formula, Params};
+use mx_value::label::Label;
 use mx_value::node::{Node, Path};
+use mx_value::value::{Addr, Segment, Value};
+use mx_words::command::{Command, FormRefusal};
+use mx_words::head::{HeadForm, Target};
+use mx_words::part::{address, further, names_in, phrase};
+use mx_words::phrase::{set_ref, space_at, whole};
+use mx_words::scan::{node_length, strip_end};
+use mx_words::table::{
+    Asked, Clearing, CommandWord, Form, Owner, Phrase, Reference, rest_of, word_of,
+};
+use mx_words::text::{behind_equals, head_length, name_length, spaces, strip_spaces, word_length};
 use std::alloc::{AllocError, Global};
 
-/// A command of a script.
-#[derive(Drop)]
-pub enum Command {
-    /// Changes the model text.
-    Edit(Edit),
-    /// Evaluates a node.
-    Eval(Node),
-    /// What a node reads.
-    Precedents(Node),
-    /// Which held nodes ask a node.
-    Succs(Node),
-    /// The layers of a path.
-    Order(Path),
-}
-
-/// Why a text is no command. Of several causes the first in this order is given.
-#[derive(Clone, Copy, Debug, PartialEq, Eq)]
-pub enum FormRefusal {
-    /// No command has this first word.
-    UnknownWord,
-    /// The place of the first token that the command's form does not allow, in bytes from the start of the command.
-    BadForm(u32),
-    /// A formula or a node is refused, with places from its own start, or a head has no tokens, with places from the start
-    /// of the command.
-    Parse(ParseRefusal),
-    /// The formula or the node has a form that is not run yet.
-    NotBuilt,
-    NoMemory,
-}
-
-impl From<AllocError> for FormRefusal {
-    ghost use Rattle.std.specs.Prelude.{◌≡◌};
-    ghost use Rattle.mx_script.specs.declared.command.FormRefusal.TheVariants.{NoMemory};
-
-    ghost from_gives = { λ _ e. e ≡ NoMemory };
-
-    fn from(_error: AllocError) -> FormRefusal {
-        FormRefusal::NoMemory
-    }
-}
-
-/// The place with so many bytes in front of it.
-fn further(lead: usize, place: u32) -> Result<u32, AllocError>
-    ensures { IfOk result (λ p. p ≡ lead + place) }
-{
-    let Some(place) = lead.checked_add(place as usize) else {
-        return Err(AllocError);
-    };
-    if place > u32::MAX as usize {
-        return Err(AllocError);
-    }
-    Ok(place as u32)
-}
-
-/// A lexing trouble of a text with so many bytes in front of it.
-fn move_trouble(lead: usize, trouble: LexRefusal) -> Result<LexRefusal, AllocError>
-    ensures { IfOk result (λ m. m ≡ moved lead trouble) }
-{
-    match trouble {
-        LexRefusal::BadByte(place) => Ok(LexRefusal::BadByte(further(lead, place)?)),
-        LexRefusal::BadNumber(place) => Ok(LexRefusal::BadNumber(further(lead, place)?)),
-        LexRefusal::BadText(place) => Ok(LexRefusal::BadText(further(lead, place)?)),
-        LexRefusal::BadIndent(line) => Ok(LexRefusal::BadIndent(line)),
-        LexRefusal::TooLong => Ok(LexRefusal::TooLong),
-        LexRefusal::NoMemory => Ok(LexRefusal::NoMemory),
-    }
-}
-
-/// The tokens of a head.
-fn head_tokens(alloc: Global, head: &[u8]) -> Result<Source, LexRefusal>
-    ensures tokens { IfOk result (λ s. (tokens_of head.now ≡ Ok s.tokens) × (s.words ≡ words_of head.now s.tokens)) }
-    ensures trouble { IfErr result (λ e. e ≢ LexRefusal.NoMemory → tokens_of head.now ≡ Err e) }
-{
-    let tokens = lex(alloc, head)?;
-    let words = words(alloc, head, tokens.as_slice())?;
-    Ok(Source { tokens, words })
-}
-
-/// The refusal for a lexing trouble in a head.
-fn no_tokens(lead: usize, trouble: LexRefusal) -> FormRefusal
-    ensures { result ≢ FormRefusal.NoMemory → (trouble ≢ LexRefusal.NoMemory) × (result ≡ FormRefusal.Parse (ParseRefusal.Lex (moved lead trouble))) }
-{
-    match trouble {
-        LexRefusal::NoMemory => FormRefusal::NoMemory,
-        trouble => match move_trouble(lead, trouble) {
-            Ok(trouble) => FormRefusal::Parse(ParseRefusal::Lex(trouble)),
-            Err(_) => FormRefusal::NoMemory,
-        },
-    }
-}
-
-/// The refusal for a token that the form of a head does not allow.
-fn misplaced(lead: usize, tokens: &[Token], trouble: Trouble) -> FormRefusal
-    requires { InText (length tokens.now) trouble }
-    ensures { result ≢ FormRefusal.NoMemory → Misplaced lead tokens.now trouble result }
-{
-    match trouble {
-        Trouble::Unexpected(left) => match further(lead, place(tokens, left)) {
-            Ok(place) => FormRefusal::BadForm(place),
-            Err(_) => FormRefusal::NoMemory,
-        },
-        Trouble::NoMemory => FormRefusal::NoMemory,
-    }
-}
-
-/// The cells that the tokens of a head name, where an opening parenthesis stands behind it or not.
-fn named_in(alloc: Global, opens: bool, words: &[Word]) -> Result<Target, Trouble>
-    ensures { Gives (parsed (λ n. line (head_by opens)) words.now) result }
+/// The form of a head, where an opening parenthesis stands behind it or not.
+fn form_of(opens: bool) -> HeadForm
+    ensures { result ≡ spec.form_of opens }
 {
     if opens {
-        return head_in(alloc, words);
+        return HeadForm::Names;
     }
-    opened_in(alloc, words)
-}
-
-/// The cells that a part of a command names, or why it is refused. An opening parenthesis stands behind the part, or has to
-/// be in it.
-fn names_in(alloc: Global, lead: usize, opens: bool, part: &[u8]) -> Result<Target, FormRefusal>
-    ensures names { IfOk result (Says (head_form opens) part.now) }
-    ensures refused { IfErr result (λ e. e ≢ FormRefusal.NoMemory → PartRefused (head_form opens) lead part.now e) }
-{
-    let source = match head_tokens(alloc, part) {
-        Ok(source) => source,
-        Err(trouble) => return Err(no_tokens(lead, trouble)),
-    };
-    match named_in(alloc, opens, source.words.as_slice()) {
-        Ok(target) => Ok(target),
-        Err(trouble) => Err(misplaced(lead, source.tokens.as_slice(), trouble)),
-    }
+    HeadForm::Opened
 }
 
 /// The cells that the head of a text names, or why it is refused.
 fn head(alloc: Global, lead: usize, text: &[u8]) -> Result<Target, FormRefusal>
-    ensures names { IfOk result (HeadNames text.now) }
-    ensures refused { IfErr result (λ e. e ≢ FormRefusal.NoMemory → HeadRefused lead text.now e) }
+    ensures { result ≢ Err FormRefusal.NoMemory → HeadAnswers lead text.now result }
 {
     let end = head_length(text);
-    names_in(alloc, lead, end < text.len(), &text[..end])
-}
-
-/// The path of the space, or that of `Main` where there is none.
-fn space_at(alloc: Global, path: Path) -> Result<Path, AllocError>
-    ensures { IfOk result (λ p. p ≡ space_of path) }
-{
-    if path.is_empty() {
-        let mut names = Vec::new(alloc);
-        names.push(label(alloc, b"Main")?)?;
-        return List::from_vec(alloc, names);
-    }
-    Ok(path)
+    names_in(alloc, lead, form_of(end < text.len()), &text[..end])
 }
 
 /// A formula of cells as a command, where it has no form that is not run yet.
@@ -223,104 +100,450 @@ fn definition(alloc: Global, lead: usize, text: &[u8]) -> Result<Command, FormRe
     }
 }
 
-/// The path of all names.
-fn whole(alloc: Global, target: Target) -> Result<Path, AllocError>
-    ensures { IfOk result (λ p. p ≡ whole_of target) }
+/// The path of a space with its parameters as a command.
+fn parametrized(alloc: Global, target: Target, params: Params) -> Result<Command, AllocError>
+    ensures { IfOk result (λ c. Ok c ≡ spec.parametrized target (Ok params)) }
 {
-    let Target { path, name } = target;
-    let mut names = Vec::new(alloc);
-    for label in path.as_slice() {
-        names.push(label.copy()?)?;
-    }
-    names.push(name)?;
-    List::from_vec(alloc, names)
-}
-
-/// What a word does with the names behind it.
-fn named_command(alloc: Global, named: Named, target: Target) -> Result<Command, AllocError>
-    ensures { IfOk result (λ c. c ≡ spec.named_command named target) }
-{
-    match named {
-        Named::NewSpace => {
-            let Target { path, name } = target;
-            Ok(Command::Edit(Edit::NewSpace { parent: path, name }))
-        }
-        Named::DelSpace => Ok(Command::Edit(Edit::DelSpace {
-            path: whole(alloc, target)?,
-        })),
-        Named::DelParams => Ok(Command::Edit(Edit::SetParams {
-            path: whole(alloc, target)?,
-            params: None,
-        })),
-        Named::Order => Ok(Command::Order(whole(alloc, target)?)),
-        Named::DelCells => {
-            let Target { path, name } = target;
-            Ok(Command::Edit(Edit::DelCells {
-                path: space_at(alloc, path)?,
-                name,
-            }))
-        }
-        Named::Allow => allowed(alloc, target, true),
-        Named::Disallow => allowed(alloc, target, false),
-        Named::DelRef => {
-            let Target { path, name } = target;
-            Ok(Command::Edit(Edit::DelRef {
-                path: space_at(alloc, path)?,
-                name,
-            }))
-        }
-    }
-}
-
-/// Whether cells may give None, as a command.
-fn allowed(alloc: Global, target: Target, flag: bool) -> Result<Command, AllocError>
-    ensures { IfOk result (λ c. c ≡ command.Edit (edit.SetAllowNone (space_of target.path) target.name flag)) }
-{
-    let Target { path, name } = target;
-    Ok(Command::Edit(Edit::SetAllowNone {
-        path: space_at(alloc, path)?,
-        name,
-        flag,
+    Ok(Command::Edit(Edit::SetParams {
+        path: whole(alloc, target)?,
+        params: Some(params),
     }))
 }
 
-/// What a text says that is a word with names behind it.
-fn naming(alloc: Global, named: Named, lead: usize, text: &[u8]) -> Result<Command, FormRefusal>
-    ensures { result ≢ Err FormRefusal.NoMemory → Names named lead text.now result }
+/// What a text says that names a space and then has its parameters.
+fn parameters(alloc: Global, lead: usize, text: &[u8]) -> Result<Command, FormRefusal>
+    ensures { result ≢ Err FormRefusal.NoMemory → Parametrizes lead text.now result }
 {
-    match names_in(alloc, lead, true, text) {
-        Ok(target) => match named_command(alloc, named, target) {
+    let target = match head(alloc, lead, text) {
+        Ok(target) => target,
+        Err(refusal) => return Err(refusal),
+    };
+    let end = head_length(text);
+    match parse_params(alloc, &text[end..]) {
+        Ok(params) => match parametrized(alloc, target, params) {
             Ok(command) => Ok(command),
             Err(_) => Err(FormRefusal::NoMemory),
         },
+        Err(refusal) => Err(no_formula(refusal)),
+    }
+}
+
+/// The place of a line's end in the tokens of a text, or 0 where it has none.
+fn newline(alloc: Global, source: &[u8]) -> Result<u32, AllocError>
+    ensures { IfOk result (λ place. place ≡ spec.newline_of source.now) }
+{
+    match lex(alloc, source) {
+        Ok(tokens) => Ok(last_but_one(tokens.as_slice())),
+        Err(LexRefusal::NoMemory) => Err(AllocError),
+        Err(_) => Ok(0),
+    }
+}
+
+/// The place of the last token but one.
+fn last_but_one(tokens: &[Token]) -> u32
+    ensures { result ≡ spec.place_of (drop (length tokens.now - 2) tokens.now) }
+{
+    let last = tokens.len().saturating_sub(2);
+    match tokens.get(last) {
+        Some(token) => token.at,
+        None => 0,
+    }
+}
+
+/// Whether a text holds no token but its end.
+fn is_empty_text(alloc: Global, source: &[u8]) -> Result<bool, AllocError>
+    ensures { IfOk result (λ empty. empty ≡ spec.is_empty_text source.now) }
+{
+    match lex(alloc, source) {
+        Ok(tokens) => Ok(tokens.as_slice().len() == 1),
+        Err(LexRefusal::NoMemory) => Err(AllocError),
+        Err(_) => Ok(false),
+    }
+}
+
+/// The refusal for an item's node where a node of cells has to stand.
+fn no_cells(alloc: Global, start: usize, source: &[u8]) -> FormRefusal
+    ensures { result ≢ FormRefusal.NoMemory → result ≡ FormRefusal.BadForm (start + spec.newline_of source.now) }
+{
+    let Ok(place) = newline(alloc, source) else {
+        return FormRefusal::NoMemory;
+    };
+    match further(start, place) {
+        Ok(place) => FormRefusal::BadForm(place),
+        Err(_) => FormRefusal::NoMemory,
+    }
+}
+
+/// What is done with the node that a text spells, which begins at this place of the command.
+fn asking(alloc: Global, asked: Asked, start: usize, source: &[u8]) -> Result<Command, FormRefusal>
+    ensures { result ≢ Err FormRefusal.NoMemory → Asks asked start source.now result }
+{
+    match parse_node(alloc, source) {
+        Ok(node) => asked_command(alloc, asked, start, source, node),
+        Err(refusal) => asked_alone(alloc, asked, source, refusal),
+    }
+}
+
+/// Whether a word stands without a node, which only one word may.
+fn is_alone(alloc: Global, asked: Asked, source: &[u8]) -> Result<bool, AllocError>
+    ensures { IfOk result (λ alone. alone ≡ spec.is_alone asked source.now) }
+{
+    match asked {
+        Asked::Held => is_empty_text(alloc, source),
+        Asked::Value => Ok(false),
+        Asked::Precedents => Ok(false),
+        Asked::Successors => Ok(false),
+        Asked::DelInput => Ok(false),
+        Asked::Clear => Ok(false),
+    }
+}
+
+/// What a word says without a node, whose refusal is this one.
+fn asked_alone(
+    alloc: Global,
+    asked: Asked,
+    source: &[u8],
+    refusal: ParseRefusal,
+) -> Result<Command, FormRefusal>
+    ensures { result ≢ Err FormRefusal.NoMemory → (refusal ≢ ParseRefusal.NoMemory) × (result ≡ spec.unasked asked source.now refusal) }
+{
+    match refusal {
+        ParseRefusal::NoMemory => Err(FormRefusal::NoMemory),
+        refusal => {
+            if is_alone(alloc, asked, source)? {
+                return Ok(Command::Held(None));
+            }
+            Err(FormRefusal::Parse(refusal))
+        }
+    }
+}
+
+/// An evaluation, which is read where the node's arguments are of the kinds that are run so far.
+fn evaluated(node: Node) -> Result<Command, FormRefusal>
+    ensures { result ≡ spec.evaluated node }
+{
+    if is_later_node(&node) {
+        return Err(FormRefusal::NotBuilt);
+    }
+    Ok(Command::Eval(node))
+}
+
+/// The command that takes the input of a node out, which is a node of cells.
+fn uninput(alloc: Global, start: usize, source: &[u8], node: Node) -> Result<Command, FormRefusal>
+    ensures { result ≢ Err FormRefusal.NoMemory → result ≡ spec.uninput start source.now node }
+{
+    match node {
+        Node::Cell(space, name, args) => Ok(Command::Edit(Edit::DelInput { space, name, args })),
+        Node::Item(_, _) => Err(no_cells(alloc, start, source)),
+    }
+}
+
+/// What is done with a node.
+fn asked_command(
+    alloc: Global,
+    asked: Asked,
+    start: usize,
+    source: &[u8],
+    node: Node,
+) -> Result<Command, FormRefusal>
+    ensures { result ≢ Err FormRefusal.NoMemory → result ≡ spec.asked_command asked start source.now node }
+{
+    match asked {
+        Asked::Value => evaluated(node),
+        Asked::Precedents => Ok(Command::Precedents(node)),
+        Asked::Successors => Ok(Command::Succs(node)),
+        Asked::Held => Ok(Command::Held(Some(node))),
+        Asked::Clear => Ok(Command::Clear(Scope::One(node))),
+        Asked::DelInput => uninput(alloc, start, source, node),
+    }
+}
+
+/// Where `=` stands behind a node, or the line's end.
+fn behind_node(alloc: Global, source: &[u8]) -> Result<u32, AllocError>
+    ensures { IfOk result (λ place. place ≡ spec.behind_node source.now) }
+{
+    let count = node_length(source);
+    if count < source.len() {
+        return further(count, 0);
+    }
+    newline(alloc, source)
+}
+
+/// The refusal for what is no node of cells with `=` behind it.
+fn no_input(alloc: Global, start: usize, source: &[u8]) -> FormRefusal
+    ensures { result ≢ FormRefusal.NoMemory → result ≡ FormRefusal.BadForm (start + spec.behind_node source.now) }
+{
+    let Ok(place) = behind_node(alloc, source) else {
+        return FormRefusal::NoMemory;
+    };
+    match further(start, place) {
+        Ok(place) => FormRefusal::BadForm(place),
+        Err(_) => FormRefusal::NoMemory,
+    }
+}
+
+/// An input of cells: the literal behind `=`.
+fn set_input(
+    alloc: Global,
+    space: Addr,
+    name: Label,
+    args: Items<Value>,
+    literal: &[u8],
+) -> Result<Command, FormRefusal>
+    ensures { result ≢ Err FormRefusal.NoMemory → Decides (Answers literal_text literal.now) (spec.input_of space name args) result }
+{
+    match parse_literal(alloc, literal) {
+        Ok(value) => Ok(Command::Edit(Edit::SetInput {
+            space,
+            name,
+            args,
+            value,
+        })),
+        Err(refusal) => Err(no_formula(refusal)),
+    }
+}
+
+/// The literal behind the node of an input.
+fn literal_of(source: &[u8]) -> &[u8]
+    requires { spec.has_literal source.now ≡ true }
+    ensures { result.now ≡ spec.input_literal source.now }
+{
+    let count = node_length(source);
+    strip_spaces(&source[count + 1..])
+}
+
+/// What a node, `=` and a literal say, which begin at this place of the command.
+fn input(alloc: Global, start: usize, source: &[u8]) -> Result<Command, FormRefusal>
+    ensures { result ≢ Err FormRefusal.NoMemory → Inputs start source.now result }
+{
+    let count = node_length(source);
+    let node = match parse_node(alloc, strip_end(&source[..count])) {
+        Ok(node) => node,
+        Err(refusal) => return Err(no_formula(refusal)),
+    };
+    match node {
+        Node::Cell(space, name, args) => {
+            if count < source.len() {
+                return set_input(alloc, space, name, args, literal_of(source));
+            }
+            Err(no_input(alloc, start, source))
+        }
+        Node::Item(_, _) => Err(no_input(alloc, start, source)),
+    }
+}
+
+/// What stands behind a command's word.
+fn argument(text: &[u8]) -> &[u8]
+    ensures { result.now ≡ spec.argument_of text.now }
+{
+    let end = word_length(text);
+    strip_spaces(&text[end..])
+}
+
+/// Where a text begins in a command that ends with it and has so many spaces in front.
+fn start_of(lead: usize, text: &[u8], source: &[u8]) -> Result<usize, AllocError>
+    ensures { IfOk result (λ start. start ≡ lead + spec.place_behind text.now source.now) }
+{
+    let place = text.len().saturating_sub(source.len());
+    match lead.checked_add(place) {
+        Some(start) => Ok(start),
+        None => Err(AllocError),
+    }
+}
+
+/// What a value refers to, by the word that it begins with.
+fn reference_of(word: &[u8]) -> Option<Reference>
+    ensures { result ≡ spec.reference_of word.now }
+{
+    if word == b"table".as_slice() {
+        return Some(Reference::Table);
+    }
+    if word == b"to".as_slice() {
+        return Some(Reference::To);
+    }
+    if word == b"abs".as_slice() {
+        return Some(Reference::Abs);
+    }
+    None
+}
+
+/// A reference with a plain value as a command.
+fn referred(
+    alloc: Global,
+    owner: Owner,
+    target: Target,
+    value: Value,
+) -> Result<Command, AllocError>
+    ensures { IfOk result (λ c. Ok c ≡ spec.referred owner target (Ok value)) }
+{
+    let value = RefValue::Plain(Shared::new(alloc, value)?);
+    set_ref(alloc, owner, target, value)
+}
+
+/// What a reference says whose value is a literal, behind a head of so many bytes.
+fn literal_reference(
+    alloc: Global,
+    owner: Owner,
+    lead: usize,
+    text: &[u8],
+    end: usize,
+) -> Result<Command, FormRefusal>
+    requires within { end ≤ length text.now }
+    requires end { end ≡ behind_equals text.now }
+    ensures { result ≢ Err FormRefusal.NoMemory → RefersBy None owner lead text.now result }
+{
+    let target = match names_in(alloc, lead, HeadForm::Reference(owner), &text[..end]) {
+        Ok(target) => target,
+        Err(refusal) => return Err(refusal),
+    };
+    match parse_literal(alloc, strip_spaces(&text[end..])) {
+        Ok(value) => match referred(alloc, owner, target, value) {
+            Ok(command) => Ok(command),
+            Err(_) => Err(FormRefusal::NoMemory),
+        },
+        Err(refusal) => Err(no_formula(refusal)),
+    }
+}
+
+/// What a reference, `=` and its value say.
+fn refers(alloc: Global, owner: Owner, lead: usize, text: &[u8]) -> Result<Command, FormRefusal>
+    ensures { result ≢ Err FormRefusal.NoMemory → Refers owner lead text.now result }
+{
+    let Ok(end) = behind_equals(alloc, text) else {
+        return Err(FormRefusal::NoMemory);
+    };
+    let value = strip_spaces(&text[end..]);
+    let word = name_length(value);
+    match reference_of(&value[..word]) {
+        Some(kind) => phrase(alloc, Phrase::Refers(owner, kind), lead, text),
+        None => literal_reference(alloc, owner, lead, text, end),
+    }
+}
+
+/// What a clearing drops, by the name behind its word.
+fn clearing_of(name: &[u8]) -> Clearing
+    ensures { result ≡ spec.clearing_of name.now }
+{
+    if name == b"space".as_slice() {
+        return Clearing::Space;
+    }
+    if name == b"cells".as_slice() {
+        return Clearing::Cells;
+    }
+    if name == b"node".as_slice() {
+        return Clearing::Node;
+    }
+    Clearing::All
+}
+
+fn copied(alloc: Global, segments: &[Segment]) -> Result<Addr, AllocError>
+    ensures { IfOk result (λ a. a ≡ segments.now) }
+{
+    let mut copies = Vec::new(alloc);
+    for segment in segments {
+        copies.push(segment.copy(alloc)?)?;
+    }
+    List::from_vec(alloc, copies)
+}
+
+/// The segments in front of the last, or that of `Main` where there are none.
+fn main_of(alloc: Global, front: &[Segment]) -> Result<Addr, AllocError>
+    ensures { IfOk result (λ a. a ≡ main_of front.now) }
+{
+    if front.is_empty() {
+        let mut main = Vec::new(alloc);
+        main.push(Segment::Name(label(alloc, b"Main")?))?;
+        return List::from_vec(alloc, main);
+    }
+    copied(alloc, front)
+}
+
+/// The cells that the last segment of an address names, behind these, which is no item.
+fn cells_by(
+    alloc: Global,
+    lead: usize,
+    text: &[u8],
+    front: &[Segment],
+    last: &Segment,
+) -> Result<Command, FormRefusal>
+    ensures { result ≢ Err FormRefusal.NoMemory → result ≡ spec.cells_by (lead + spec.newline_of text.now) front.now (last.now ∷ []) }
+{
+    match last {
+        Segment::Name(name) => match named_cells(alloc, front, name) {
+            Ok(command) => Ok(command),
+            Err(_) => Err(FormRefusal::NoMemory),
+        },
+        Segment::Item(_) => Err(no_cells(alloc, lead, text)),
+    }
+}
+
+/// The cells at an address, which does not end with an item.
+fn cells_at(
+    alloc: Global,
+    lead: usize,
+    text: &[u8],
+    address: &[Segment],
+) -> Result<Command, FormRefusal>
+    ensures { result ≢ Err FormRefusal.NoMemory → result ≡ spec.cells_at (lead + spec.newline_of text.now) address.now }
+{
+    let last = address.len().saturating_sub(1);
+    match address.get(last) {
+        Some(segment) => cells_by(alloc, lead, text, &address[..last], segment),
+        None => Err(no_cells(alloc, lead, text)),
+    }
+}
+
+fn named_cells(alloc: Global, front: &[Segment], name: &Label) -> Result<Command, AllocError>
+    ensures { IfOk result (λ c. c ≡ command.Clear (scope.Cells (main_of front.now) name.now)) }
+{
+    let space = main_of(alloc, front)?;
+    Ok(Command::Clear(Scope::Cells(space, name.copy()?)))
+}
+
+/// A clearing of the nodes at an address.
+fn clear_space(alloc: Global, lead: usize, text: &[u8]) -> Result<Command, FormRefusal>
+    ensures { result ≢ Err FormRefusal.NoMemory → ClearsBy clearing.Space lead text.now result }
+{
+    match address(alloc, b"space", lead, text) {
+        Ok(address) => Ok(Command::Clear(Scope::Space(address))),
         Err(refusal) => Err(refusal),
     }
 }
 
-/// The node that a text spells, as a command.
-fn asking(alloc: Global, asked: Asked, source: &[u8]) -> Result<Command, FormRefusal>
-    ensures { result ≢ Err FormRefusal.NoMemory → Asks asked source.now result }
+/// A clearing of the nodes of cells.
+fn clear_cells(alloc: Global, lead: usize, text: &[u8]) -> Result<Command, FormRefusal>
+    ensures { result ≢ Err FormRefusal.NoMemory → ClearsBy clearing.Cells lead text.now result }
 {
-    match parse_node(alloc, source) {
-        Ok(node) => asked_command(asked, node),
-        Err(ParseRefusal::NoMemory) => Err(FormRefusal::NoMemory),
-        Err(refusal) => Err(FormRefusal::Parse(refusal)),
+    match address(alloc, b"cells", lead, text) {
+        Ok(address) => cells_at(alloc, lead, text, address.as_slice()),
+        Err(refusal) => Err(refusal),
     }
 }
 
-/// What is asked about a node. An evaluation is read where the node's arguments are of the kinds that are run so far.
-fn asked_command(asked: Asked, node: Node) -> Result<Command, FormRefusal>
-    ensures { result ≡ spec.asked_command asked node }
+/// A clearing of a node.
+fn clear_node(alloc: Global, lead: usize, text: &[u8]) -> Result<Command, FormRefusal>
+    ensures { result ≢ Err FormRefusal.NoMemory → ClearsBy clearing.Node lead text.now result }
 {
-    match asked {
-        Asked::Value => {
-            if is_later_node(&node) {
-                return Err(FormRefusal::NotBuilt);
-            }
-            Ok(Command::Eval(node))
-        }
-        Asked::Precedents => Ok(Command::Precedents(node)),
-        Asked::Successors => Ok(Command::Succs(node)),
+    let source = argument(text);
+    let word = name_length(source);
+    let source = strip_spaces(&source[word..]);
+    let Ok(start) = start_of(lead, text, source) else {
+        return Err(FormRefusal::NoMemory);
+    };
+    asking(alloc, Asked::Clear, start, source)
+}
+
+/// What a clearing says.
+fn clear(alloc: Global, lead: usize, text: &[u8]) -> Result<Command, FormRefusal>
+    ensures { result ≢ Err FormRefusal.NoMemory → Clears lead text.now result }
+{
+    let source = argument(text);
+    let word = name_length(source);
+    match clearing_of(&source[..word]) {
+        Clearing::All => phrase(alloc, Phrase::ClearAll, lead, text),
+        Clearing::Space => clear_space(alloc, lead, text),
+        Clearing::Cells => clear_cells(alloc, lead, text),
+        Clearing::Node => clear_node(alloc, lead, text),
     }
 }
 
@@ -342,11 +565,24 @@ fn rest(alloc: Global, form: Form, lead: usize, text: &[u8]) -> Result<Command, 
 {
     match form {
         Form::Cells => definition(alloc, lead, text),
-        Form::Names(named) => naming(alloc, named, lead, text),
+        Form::Params => parameters(alloc, lead, text),
+        Form::Phrase(form) => phrase(alloc, form, lead, text),
         Form::Node(asked) => {
-            let end = word_length(text);
-            asking(alloc, asked, strip_spaces(&text[end..]))
+            let source = argument(text);
+            let Ok(start) = start_of(lead, text, source) else {
+                return Err(FormRefusal::NoMemory);
+            };
+            asking(alloc, asked, start, source)
         }
+        Form::Input => {
+            let source = argument(text);
+            let Ok(start) = start_of(lead, text, source) else {
+                return Err(FormRefusal::NoMemory);
+            };
+            input(alloc, start, source)
+        }
+        Form::Clear => clear(alloc, lead, text),
+        Form::Reference(owner) => refers(alloc, owner, lead, text),
     }
 }
 

@@ -2,9 +2,7 @@
 #![tactic(auto)]
 
 mod command;
-mod head;
 mod later;
-pub mod table;
-pub mod text;
 
-pub use command::{Command, FormRefusal, read_command};
+pub use command::read_command;
+pub use mx_words::command::{Command, FormRefusal};

@@ -1,33 +1,45 @@
 //! The texts of commands with what they say, or with their refusals, worked out by hand from the rules.
 
 use mx_edit::edit::Edit;
+use mx_edit::reference::RefValue;
+use mx_edit::scope::Scope;
 use mx_lex::LexRefusal;
 use mx_parse::ParseRefusal;
-use mx_print::formula::print;
+use mx_print::formula::{print, print_params};
 use mx_print::value::push_value;
-use mx_script::table::{CommandWord, takes_lines};
 use mx_script::{Command, FormRefusal, read_command};
 use mx_value::label::Label;
 use mx_value::node::Node;
 use mx_value::value::{Segment, Value};
+use mx_words::table::{CommandWord, takes_lines};
 use std::alloc::{AllocError, Global};
 use std::process::Abort;
 use std::test::Fail;
 
 /// Every word that is read.
-const WORDS: [CommandWord; 13] = [
+const WORDS: [CommandWord; 23] = [
     CommandWord::Space,
     CommandWord::Unspace,
+    CommandWord::Bases,
     CommandWord::Cells,
     CommandWord::Def,
     CommandWord::Uncells,
     CommandWord::Allow,
     CommandWord::Disallow,
+    CommandWord::Ref,
     CommandWord::Unref,
+    CommandWord::Global,
+    CommandWord::Unglobal,
+    CommandWord::Params,
     CommandWord::Unparams,
+    CommandWord::Input,
+    CommandWord::Uninput,
     CommandWord::Eval,
     CommandWord::Precedents,
     CommandWord::Succs,
+    CommandWord::Held,
+    CommandWord::Clear,
+    CommandWord::Limit,
     CommandWord::Order,
 ];
 
@@ -95,13 +107,164 @@ const NAMED: [(&str, &str); 24] = [
     ("succs f", "unexpected 1"),
 ];
 
+/// The model's references, nodes with a word of their own, and numbers.
+const SMALL: [(&str, &str); 26] = [
+    ("unglobal k", "del ref .k"),
+    (" unglobal k # a note", "del ref .k"),
+    ("unglobal", "bad form 8"),
+    ("unglobal A.k", "bad form 10"),
+    ("unglobal 'k", "bad text 9"),
+    ("held", "held"),
+    ("  held  ", "held"),
+    ("held # note", "held"),
+    ("held #\u{1}", "bad byte 1"),
+    ("held f(1)", "held Main.f(1)"),
+    ("held A[1].f('a') # note", "held A[1].f(\"a\")"),
+    ("held A[2]", "held A[2]"),
+    (" held f", "unexpected 1"),
+    ("held $", "bad byte 0"),
+    ("uninput f(1)", "del input Main.f(1)"),
+    ("uninput A[1].f(1, None)", "del input A[1].f(1, None)"),
+    ("uninput S[1]", "bad form 12"),
+    ("  uninput   S[1]  # x", "bad form 18"),
+    ("uninput S[1] $", "bad byte 5"),
+    ("uninput", "unexpected 0"),
+    ("limit 0", "limit 0"),
+    ("limit 4294967295", "limit 4294967295"),
+    ("limit 4294967296", "bad form 6"),
+    (" limit -1", "bad form 7"),
+    ("limit 1.0", "bad form 6"),
+    ("limit 1 2", "bad form 8"),
+];
+
+/// The parameters of spaces.
+const PARAMETERS: [(&str, &str); 13] = [
+    ("params S(x)", "params S. (x)\n"),
+    ("params A.B (x, k=2)", "params A.B. (x, k=2)\n"),
+    (
+        "params S(x) = {'base': A}",
+        "params S. (x) = {\"base\": A}\n",
+    ),
+    ("params S(x):\n  return {}", "params S. (x) = {}\n"),
+    ("params S # n\n (x)", "params S. (x)\n"),
+    ("params S()", "unexpected 1"),
+    ("params S(x) = ", "unexpected 6"),
+    ("params S(x", "unexpected 2"),
+    ("params S", "bad form 8"),
+    ("params (x)", "bad form 7"),
+    (" params S.(x) = $", "bad form 10"),
+    ("params S$(x)", "bad byte 8"),
+    ("params S[1](x)", "bad form 8"),
+];
+
+/// Inputs: a node, `=` and a literal.
+const INPUTS: [(&str, &str); 20] = [
+    ("input f(1) = 3", "input Main.f(1) = 3"),
+    (
+        "input A.f('=', (1, 2)) = ('a', -0.5)",
+        "input A.f(\"=\", (1, 2)) = (\"a\", -0.5)",
+    ),
+    ("input f(1)=None # note", "input Main.f(1) = None"),
+    ("input f(\"a\\\"=\")  =  1", "input Main.f(\"a\\\"=\") = 1"),
+    ("input f(1) == 3", "unexpected 0"),
+    ("input f(1) =", "unexpected 0"),
+    ("input f(1) = 3 4", "unexpected 2"),
+    ("input f(1) = $", "bad byte 0"),
+    ("input f(1) = x", "unexpected 0"),
+    ("input = 3", "unexpected 0"),
+    ("input", "unexpected 0"),
+    ("input f = 3", "unexpected 1"),
+    ("input f(1 = 3", "unexpected 4"),
+    ("input f(1) 2 = $", "unexpected 5"),
+    ("input f('1 = 3", "bad text 2"),
+    ("input f(1)", "bad form 10"),
+    ("  input f(1) # n", "bad form 13"),
+    ("input S[1] = 1", "bad form 11"),
+    (" input  S[1]  = $", "bad form 14"),
+    ("input S[1]", "bad form 10"),
+];
+
+/// References of spaces and of the model, and bases.
+const REFERENCES: [(&str, &str); 40] = [
+    ("ref k = 3", "ref Main..k = 3"),
+    ("ref A.B.k=-1.5", "ref A.B..k = -1.5"),
+    ("ref k = ('a', None) # n", "ref Main..k = (\"a\", None)"),
+    ("ref k = table mort", "ref Main..k = table mort"),
+    ("ref A.k = to B.C", "ref A..k = to B.C."),
+    ("ref A.k = abs B # n", "ref A..k = abs B."),
+    ("ref k = to . B", "bad form 11"),
+    ("ref k = to", "bad form 10"),
+    ("ref k = to#x", "bad form 10"),
+    ("ref k = table A.b", "bad form 15"),
+    ("ref k = to B C", "bad form 13"),
+    ("ref k = to B[1]", "bad form 12"),
+    ("ref k = totals", "unexpected 0"),
+    ("ref k = 3 4", "unexpected 2"),
+    ("ref k =", "unexpected 0"),
+    ("ref k == 1", "bad form 6"),
+    ("  ref k.", "bad form 8"),
+    ("ref k", "bad form 5"),
+    ("ref", "bad form 3"),
+    ("ref = 3", "bad form 4"),
+    ("ref k[1] = 3", "bad form 5"),
+    ("ref A..k = $", "bad form 6"),
+    ("ref A..k = to $", "bad byte 14"),
+    ("ref A$k = 1", "bad byte 5"),
+    ("ref k = $", "bad byte 0"),
+    ("ref k = 'a", "bad text 0"),
+    ("ref (k = 1", "bad form 4"),
+    ("global k = 3", "ref .k = 3"),
+    ("global k = table t", "ref .k = table t"),
+    ("global k = to A", "ref .k = to A."),
+    (" global A.k = 3", "bad form 9"),
+    ("global = 3", "bad form 7"),
+    ("global k = x", "unexpected 0"),
+    ("bases A", "bases A. <-"),
+    ("bases A.B: C", "bases A.B. <- C."),
+    ("bases A : B.C,D , E # n", "bases A. <- B.C. D. E."),
+    ("bases A:", "bad form 8"),
+    ("bases A: B,", "bad form 11"),
+    ("bases A B", "bad form 8"),
+    ("bases A: B: $", "bad byte 12"),
+];
+
+/// Clearings of all, of spaces, of cells and of nodes.
+const CLEARINGS: [(&str, &str); 26] = [
+    ("clear all", "clear all"),
+    ("  clear  all # n", "clear all"),
+    ("clear", "bad form 5"),
+    ("clear some", "bad form 6"),
+    ("clear all x", "bad form 10"),
+    ("clear 'a", "bad text 6"),
+    ("clear # node f(1)", "bad form 6"),
+    ("clear nodes f(1)", "bad form 6"),
+    ("clear space A", "clear space A"),
+    ("clear space A[1, (2,)].B", "clear space A[1, (2,)].B"),
+    ("clear space", "bad form 11"),
+    (" clear space A.", "bad form 15"),
+    ("clear space A[x]", "bad form 14"),
+    ("clear space A[", "bad form 14"),
+    ("clear space A b $", "bad byte 16"),
+    ("clear cells f", "clear cells Main f"),
+    ("clear cells A[1].B.f", "clear cells A[1].B f"),
+    ("clear cells A[1]", "bad form 16"),
+    ("  clear cells A[1] # n", "bad form 19"),
+    ("clear cells f(1)", "bad form 13"),
+    ("clear node f(1)", "clear node Main.f(1)"),
+    ("clear node  S[1] # n", "clear node S[1]"),
+    (" clear node f", "unexpected 1"),
+    ("clear node", "unexpected 0"),
+    ("clear node(1)", "unexpected 0"),
+    ("clear node $", "bad byte 0"),
+];
+
 /// Unknown words, and tokens that no form of a head allows.
 const MISPLACED: [(&str, &str); 20] = [
     ("", "unknown word"),
     ("evall f(1)", "unknown word"),
     ("eval(f)", "unknown word"),
     ("Eval f(1)", "unknown word"),
-    ("  held", "unknown word"),
+    ("held#x", "unknown word"),
     ("cells(x) = x", "unknown word"),
     ("cells", "bad form 5"),
     ("cells f", "bad form 7"),
@@ -208,15 +371,43 @@ fn write_address(out: &mut Vec<u8>, address: &[Segment]) -> Result<(), AllocErro
     Ok(())
 }
 
+fn write_call(
+    out: &mut Vec<u8>,
+    address: &[Segment],
+    name: &Label,
+    arguments: &[Value],
+) -> Result<(), AllocError> {
+    write_address(out, address)?;
+    write(out, b".")?;
+    write(out, name.as_slice())?;
+    write(out, b"(")?;
+    write_values(out, arguments)?;
+    write(out, b")")
+}
+
+/// What a reference holds.
+fn write_reference(out: &mut Vec<u8>, value: &RefValue) -> Result<(), AllocError> {
+    match value {
+        RefValue::Plain(value) => push_value(out, value.get()),
+        RefValue::Table(name) => {
+            write(out, b"table ")?;
+            write(out, name.as_slice())
+        }
+        RefValue::Target { path, fixed } => {
+            let word = if *fixed {
+                b"abs ".as_slice()
+            } else {
+                b"to ".as_slice()
+            };
+            write_named_path(out, word, path.as_slice())
+        }
+    }
+}
+
 fn write_node(out: &mut Vec<u8>, node: &Node) -> Result<(), AllocError> {
     match node {
         Node::Cell(address, name, arguments) => {
-            write_address(out, address.as_slice())?;
-            write(out, b".")?;
-            write(out, name.as_slice())?;
-            write(out, b"(")?;
-            write_values(out, arguments.as_slice())?;
-            write(out, b")")
+            write_call(out, address.as_slice(), name, arguments.as_slice())
         }
         Node::Item(address, arguments) => {
             write_address(out, address.as_slice())?;
@@ -299,6 +490,42 @@ fn write_edit(alloc: Global, out: &mut Vec<u8>, edit: &Edit) -> Result<(), Alloc
             write_named(out, word, path.as_slice(), name)
         }
         Edit::DelRef { path, name } => write_named(out, b"del ref ", path.as_slice(), name),
+        Edit::SetRef { path, name, value } => {
+            write_named(out, b"ref ", path.as_slice(), name)?;
+            write(out, b" = ")?;
+            write_reference(out, value)
+        }
+        Edit::SetBases { path, bases } => {
+            write_named_path(out, b"bases ", path.as_slice())?;
+            write(out, b" <-")?;
+            for base in bases.as_slice() {
+                write_named_path(out, b" ", base.as_slice())?;
+            }
+            Ok(())
+        }
+        Edit::SetParams {
+            path,
+            params: Some(params),
+        } => {
+            write_named_path(out, b"params ", path.as_slice())?;
+            write(out, b" ")?;
+            write(out, print_params(alloc, params)?.as_slice())
+        }
+        Edit::SetInput {
+            space,
+            name,
+            args,
+            value,
+        } => {
+            write(out, b"input ")?;
+            write_call(out, space.as_slice(), name, args.as_slice())?;
+            write(out, b" = ")?;
+            push_value(out, value)
+        }
+        Edit::DelInput { space, name, args } => {
+            write(out, b"del input ")?;
+            write_call(out, space.as_slice(), name, args.as_slice())
+        }
         _ => write(out, b"another edit"),
     }
 }
@@ -309,6 +536,23 @@ fn write_question(out: &mut Vec<u8>, word: &[u8], node: &Node) -> Result<(), All
     write_node(out, node)
 }
 
+fn write_scope(out: &mut Vec<u8>, scope: &Scope) -> Result<(), AllocError> {
+    match scope {
+        Scope::All => write(out, b"clear all"),
+        Scope::Space(address) => {
+            write(out, b"clear space ")?;
+            write_address(out, address.as_slice())
+        }
+        Scope::Cells(address, name) => {
+            write(out, b"clear cells ")?;
+            write_address(out, address.as_slice())?;
+            write(out, b" ")?;
+            write(out, name.as_slice())
+        }
+        Scope::One(node) => write_question(out, b"clear node ", node),
+    }
+}
+
 fn write_command(alloc: Global, out: &mut Vec<u8>, command: &Command) -> Result<(), AllocError> {
     match command {
         Command::Edit(edit) => write_edit(alloc, out, edit),
@@ -316,6 +560,10 @@ fn write_command(alloc: Global, out: &mut Vec<u8>, command: &Command) -> Result<
         Command::Precedents(node) => write_question(out, b"precedents ", node),
         Command::Succs(node) => write_question(out, b"succs ", node),
         Command::Order(path) => write_named_path(out, b"order ", path.as_slice()),
+        Command::Held(None) => write(out, b"held"),
+        Command::Held(Some(node)) => write_question(out, b"held ", node),
+        Command::Clear(scope) => write_scope(out, scope),
+        Command::Limit(limit) => write(out, format!(in alloc; "limit {limit}")?.as_bytes()),
     }
 }
 
@@ -357,6 +605,15 @@ fn in_parentheses(alloc: Global, depth: usize) -> Result<Vec<u8>, AllocError> {
     Ok(text)
 }
 
+/// A text with so many bytes behind it.
+fn behind(alloc: Global, front: &[u8], byte: u8, count: usize) -> Result<Vec<u8>, AllocError> {
+    let mut text = front.to_vec(alloc)?;
+    for _ in 0..count {
+        text.push(byte)?;
+    }
+    Ok(text)
+}
+
 fn compare(rt: &impl Abort, alloc: Global, rows: &[(&str, &str)]) -> Result<(), Fail> {
     for (text, wanted) in rows {
         let found = said(alloc, text.as_bytes())?;
@@ -376,6 +633,45 @@ fn names_and_nodes_stand_behind_their_words(rt: HostRuntime) -> Result<(), Fail>
 }
 
 #[test]
+fn small_forms_stand_behind_their_words(rt: HostRuntime) -> Result<(), Fail> {
+    compare(&rt, rt.alloc(), SMALL.as_slice())
+}
+
+#[test]
+fn spaces_get_parameters(rt: HostRuntime) -> Result<(), Fail> {
+    compare(&rt, rt.alloc(), PARAMETERS.as_slice())
+}
+
+#[test]
+fn an_input_is_a_node_and_a_literal(rt: HostRuntime) -> Result<(), Fail> {
+    compare(&rt, rt.alloc(), INPUTS.as_slice())
+}
+
+#[test]
+fn references_and_bases_name_their_targets(rt: HostRuntime) -> Result<(), Fail> {
+    compare(&rt, rt.alloc(), REFERENCES.as_slice())
+}
+
+#[test]
+fn clearings_name_what_they_drop(rt: HostRuntime) -> Result<(), Fail> {
+    compare(&rt, rt.alloc(), CLEARINGS.as_slice())
+}
+
+#[test]
+fn brackets_count_in_an_address_alone(rt: HostRuntime) -> Result<(), Fail> {
+    let alloc = rt.alloc();
+    let deep = said(alloc, &behind(alloc, b"clear space A[", b'(', 64)?)?;
+    assert!(rt; deep.as_slice() == b"too nested 77".as_slice());
+    let fits = said(alloc, &behind(alloc, b"clear space A[", b'(', 63)?)?;
+    assert!(rt; fits.as_slice() == b"bad form 77".as_slice());
+    let cells = said(alloc, &behind(alloc, b"clear cells x ", b'(', 65)?)?;
+    assert!(rt; cells.as_slice() == b"too nested 78".as_slice());
+    let path = said(alloc, &behind(alloc, b"space ", b'(', 65)?)?;
+    assert!(rt; path.as_slice() == b"bad form 6".as_slice());
+    Ok(())
+}
+
+#[test]
 fn a_reader_takes_its_own_words_alone(rt: HostRuntime) -> Result<(), Fail> {
     let words = [CommandWord::Eval, CommandWord::Def];
     assert!(rt; read_command(rt.alloc(), &words, b"def f(x) = x").is_ok());
@@ -388,6 +684,7 @@ fn a_reader_takes_its_own_words_alone(rt: HostRuntime) -> Result<(), Fail> {
     assert!(rt; takes_lines(&words, b"def"));
     assert!(rt; !takes_lines(&words, b"cells f(x) ="));
     assert!(rt; !takes_lines(&words, b"eval f(1)"));
+    assert!(rt; takes_lines(&[CommandWord::Params], b"params S(x)"));
     Ok(())
 }
 

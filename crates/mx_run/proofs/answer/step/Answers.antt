@@ -1,5 +1,5 @@
 use Rattle.std.proofs.Common.{◌≡◌, refl}
-use Rattle.mx_script.specs.declared.command.FormRefusal.TheVariants.{NoMemory}
+use Rattle.mx_words.specs.declared.command.FormRefusal.TheVariants.{NoMemory}
 use Rattle.mx_run.specs.Answer.{refused, carried}
 use Rattle.mx_run.proofs.Known.{known}
 use Rattle.mx_run.proofs.answer.step.Goals as goal

@@ -1,15 +1,11 @@
-use Rattle.std.proofs.Common.{◌≢◌, ℕ, nat_lt, length, take, subst}
-use Rattle.std.specs.Prelude.{IfOk, IfErr}
-use Rattle.mx_script.specs.declared.command.FormRefusal.{FormRefusal}
-use Rattle.mx_script.specs.declared.command.FormRefusal.TheVariants.{NoMemory}
-use Rattle.mx_script.specs.Commands.{head_form}
-use Rattle.mx_script.specs.Parts.{Says, PartRefused}
+use Rattle.std.proofs.Common.{ℕ, nat_lt, false, length, take, subst}
+use Rattle.mx_words.specs.declared.head.HeadForm.{HeadForm}
+use Rattle.mx_words.specs.Heads.{head_text}
+use Rattle.mx_script.specs.Commands.{form_of}
+use Rattle.mx_words.specs.Parts.{PartAnswers}
 use Rattle.mx_script.proofs.command.head.Goals as goal
 
-pub returns-clause-names : goal.returns-clause-names
-returns-clause-names c =
-    subst (λ (n : ℕ). IfOk c.names_in.result (Says (head_form (nat_lt n (length c.args.text.now))) (take n c.args.text.now))) c.head_length-end.ensures.count c.names_in.ensures.names
-
-pub returns-clause-refused : goal.returns-clause-refused
-returns-clause-refused c =
-    subst (λ (n : ℕ). IfErr c.names_in.result (λ (e : FormRefusal). e ≢ NoMemory → PartRefused (head_form (nat_lt n (length c.args.text.now))) c.args.lead (take n c.args.text.now) e)) c.head_length-end.ensures.count c.names_in.ensures.refused
+pub returns : goal.returns
+returns c = λ ne.
+    subst (λ (n : ℕ). PartAnswers (head_text (form_of (nat_lt n (length c.args.text.now)))) false c.args.lead (take n c.args.text.now) c.names_in.result) c.head_length-end.ensures.count
+    (subst (λ (f : HeadForm). PartAnswers (head_text f) false c.args.lead (take c.head_length-end.result c.args.text.now) c.names_in.result) c.form_of.ensures (c.names_in.ensures ne))

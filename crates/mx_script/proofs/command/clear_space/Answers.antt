@@ -1,0 +1,11 @@
+use Rattle.std.proofs.Common.{◌≡◌, refl, ap}
+use Rattle.mx_words.specs.declared.command.FormRefusal.TheVariants as form
+use Rattle.mx_words.proofs.PartAnswers.{failed}
+use Rattle.mx_script.proofs.Sequels.{stops, goes_on}
+use Rattle.mx_script.proofs.command.clear_space.Goals as goal
+
+pub returns-in-Ok : goal.returns-in-Ok
+returns-in-Ok c = λ ne. goes_on c.in-Ok.address _ (c.in-Ok.ensures (λ e. absurd cc)) refl
+
+pub returns-in-Err : goal.returns-in-Err
+returns-in-Err c = λ ne. stops c.in-Err.refusal (c.in-Err.ensures (λ e. ne (let same : c.in-Err.refusal ≡ form.NoMemory = cc in ap failed same)))

@@ -1,6 +1,0 @@
-use Rattle.std.proofs.Common.{◌≡◌, ◌+◌, drop}
-use Rattle.mx_script.specs.Texts.{spaces}
-use Rattle.mx_script.proofs.text.spaces.Given as goal
-
-abbrev pub invariant-loop-byte : goal.invariant-loop-byte
-invariant-loop-byte l = (l.count ≡ l.byte-index) × (l.count + spaces (drop l.byte-index l.text) ≡ spaces l.text)

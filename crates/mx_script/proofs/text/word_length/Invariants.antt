@@ -1,6 +1,0 @@
-use Rattle.std.proofs.Common.{◌≡◌, ◌+◌, drop}
-use Rattle.mx_script.specs.Texts.{word_length}
-use Rattle.mx_script.proofs.text.word_length.Given as goal
-
-abbrev pub invariant-loop-byte : goal.invariant-loop-byte
-invariant-loop-byte l = (l.count ≡ l.byte-index) × (l.count + word_length (drop l.byte-index l.text) ≡ word_length l.text)
