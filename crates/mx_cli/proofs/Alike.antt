@@ -12,9 +12,9 @@ use Rattle.mx_meaning.specs.State.{most_held}
 use Rattle.mx_meaning.proofs.Alike.{one_step}
 use Rattle.mx_edit.specs.declared.edit.Edit.{Edit as ScriptEdit}
 use Rattle.mx_edit.specs.declared.edit.Edit.TheVariants as script
-use Rattle.mx_script.specs.declared.command.Command.{Command as ScriptCommand}
-use Rattle.mx_script.specs.declared.command.Command.TheVariants as command
-use Rattle.mx_script.specs.declared.command.FormRefusal.{FormRefusal}
+use Rattle.mx_words.specs.declared.command.Command.{Command as ScriptCommand}
+use Rattle.mx_words.specs.declared.command.Command.TheVariants as command
+use Rattle.mx_words.specs.declared.command.FormRefusal.{FormRefusal}
 use Rattle.mx_script.specs.Script.{Command}
 use Rattle.mx_script.proofs.OneCommand.{only_command}
 use Rattle.mx_engine.specs.declared.edit.Edit.{Edit}

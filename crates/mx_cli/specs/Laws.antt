@@ -1,7 +1,7 @@
 -- Laws of what the commands of a script write.
 use Rattle.std.specs.Prelude.{◌≡◌, ℕ, List, [], ◌∷◌}
-use Rattle.mx_script.specs.declared.command.Command.{Command as ScriptCommand}
-use Rattle.mx_script.specs.declared.command.Command.TheVariants as command
+use Rattle.mx_words.specs.declared.command.Command.{Command as ScriptCommand}
+use Rattle.mx_words.specs.declared.command.Command.TheVariants as command
 use Rattle.mx_script.specs.Script.{Command}
 use Rattle.mx_meaning.specs.Held.{HoldAlike}
 use Rattle.mx_meaning.specs.Laws.{IsSaid}
