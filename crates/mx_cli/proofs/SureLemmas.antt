@@ -41,7 +41,7 @@ whole_script script left (Some rest) taken new_taken is empty t end =
     (t.written, rw empty at t.taken, subst (λ (s : List ℕ). Transcript s t.written) (sym same) t.holds.1)
 
 pub whole_run : (script : List ℕ) (status : ℕ) (old new : Outside) (ending : Result (Unit {0}) Stop) → status ≡ status_of ending → HasRun ending old new → old.left ≡ Some script → old.taken ≡ Some [] → status ≡ 0 → WholeOutput script new.taken
-whole_run script status old new (Ok u) told run is empty zero = whole_script script old.left new.left old.taken new.taken is empty run.output run.cause.1.1
+whole_run script status old new (Ok u) told run is empty zero = whole_script script old.left new.left old.taken new.taken is empty run.output run.cause.2
 whole_run script status old new (Err ReadFault) told run is empty zero = absurd (omega (arith, told, zero))
 whole_run script status old new (Err WriteFault) told run is empty zero = absurd (omega (arith, told, zero))
 whole_run script status old new (Err NoMemory) told run is empty zero = absurd (omega (arith, told, zero))
