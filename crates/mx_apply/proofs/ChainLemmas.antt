@@ -1,6 +1,6 @@
 -- What edits keep, so that others can follow them.
-use Rattle.std.proofs.Common.{◌≡◌, Bool, true, false, not, List, [], ◌∷◌, ◌++◌, length, map, Option, Some, None, ◌+◌, ◌⊎◌, inl, inr, refl, sym, ◌∙◌, ap, subst, arith}
-use Rattle.std.specs.Prelude.{if◌then◌else◌, ◌||◌}
+use Rattle.std.proofs.Common.{◌≡◌, Bool, true, false, not, List, [], ◌∷◌, ◌++◌, length, Option, Some, None, ◌+◌, ◌⊎◌, inl, inr, refl, sym, ◌∙◌, ap, subst, arith}
+use Rattle.std.specs.Prelude.{codes, if◌then◌else◌, ◌||◌}
 use Rattle.std.specs.List.{filter, list_any}
 use Rattle.std.proofs.lemmas.List.{length-append}
 use Rattle.mx_value.specs.Name.{same_path, same_name}
@@ -10,22 +10,21 @@ use Rattle.mx_c3.proofs.ListLemmas.{has_push_cases}
 use Rattle.mx_edit.specs.declared.edit.Edit.{Edit}
 use Rattle.mx_edit.specs.declared.edit.Edit.TheVariants as edit
 use Rattle.mx_edit.specs.declared.reference.RefValue.{RefValue}
-use Rattle.mx_model.specs.Records.{Name, Path, SpaceRecord, ModelRecord, empty_space}
-use Rattle.mx_model.specs.Layers.{paths_of}
-use Rattle.mx_model.specs.Paths.{split_last, is_defined}
+use Rattle.mx_model.specs.Records.{Name, Path, SpaceRecord, ModelRecord, beginning, empty_space}
+use Rattle.mx_model.specs.Paths.{split_last}
 use Rattle.mx_model.specs.Parents.{HasParent}
 use Rattle.mx_model.specs.Rings.{IsDefined, HasBase, HasChild, Leads, LeadsThrough}
 use Rattle.mx_model.specs.Kept.{StaysInPlace}
 use Rattle.mx_model.specs.Change.{is_within, at_space, set_reference, remove_reference, define, without, define_cells, set_allow, change, bound_edit}
 use Rattle.mx_model.specs.Refused.{has_double, record_trouble}
 use Rattle.mx_model.specs.Indexed.{Kinds, ArePlaced}
-use Rattle.mx_model.specs.Sound.{IsSound}
 use Rattle.mx_model.proofs.Filtered.{map_has}
 use Rattle.mx_model.proofs.Places.{space_defined, defined_space, bases_sound}
-use Rattle.mx_model.proofs.Defined.{some_not, split_push, defined_has}
+use Rattle.mx_model.proofs.SoundLemmas.{valid_sound}
+use Rattle.mx_model.proofs.Defined.{some_not, split_push, same_ends, defined_has}
 use Rattle.mx_changes.proofs.Free.{either, new_free, free_of}
 use Rattle.mx_changes.proofs.NewSpaces.{grown}
-use Rattle.mx_apply.specs.Chain.{IsRingless, MakesNoRing, CanGoOn}
+use Rattle.mx_apply.specs.Chain.{IsRingless, MakesNoRing, CanGoOn, ValidGoesOn}
 
 -- ---- spaces that were there
 
@@ -269,3 +268,44 @@ goes_on text made tables tables' e placed placed' none is r m =
     let Q : ModelRecord → Type 0 = λ z. IsRingless z in
     let kept = subst Q (sym is) (changed_ringless text tables e placed none r (subst P is m)) in
     record { ringless = kept; sound = record { bases = bases_sound made kept.bases kept.no_ring; paths = placed'.once } }
+
+-- ---- texts that edits can begin from
+
+abbrev main : Path
+main = codes "Main" ∷ []
+
+begin_path : (path : Path) → IsDefined beginning path → main ≡ path
+begin_path path d =
+    let s = defined_space beginning path d in
+    elim s.among [ inl e ↦ ap (λ (z : SpaceRecord). z.path) e ∙ s.is | inr n ↦ absurd n ]
+
+begin_child : (path child : Path) → IsDefined beginning path → HasChild beginning path child → ⊥
+begin_child path child d c =
+    let ends = same_ends [] path (codes "Main") c.name (begin_path child c.defined ∙ c.at) in
+    let e : [] ≡ main = ends.0 ∙ sym (begin_path path d) in cc
+
+begin_stops : (from to : Path) → Leads beginning from to → ⊥
+begin_stops from to l =
+    elim l.1 [
+      | inl c ↦ begin_child from to l.0 c
+      | inr b ↦ elim b.has [ inl e ↦ let P : SpaceRecord → Type 0 = λ z. Has z.bases to in subst P (sym e) b.among | inr n ↦ n ]
+    ]
+
+begin_no_ring : (path : Path) (paths : List Path) → LeadsThrough beginning path paths path → ⊥
+begin_no_ring path [] l = begin_stops path path l
+begin_no_ring path (next ∷ paths) l = begin_stops path next l.0
+
+begin_bases : (s : SpaceRecord) → Has beginning.spaces s → Distinct s.bases
+begin_bases s h = elim h [ inl e ↦ let P : SpaceRecord → Type 0 = λ z. Distinct z.bases in subst P e tt | inr n ↦ absurd n ]
+
+pub begins : CanGoOn beginning
+begins = record {
+  ringless = record { bases = begin_bases; no_ring = begin_no_ring };
+  sound = record { bases = bases_sound beginning begin_bases begin_no_ring; paths = (λ h. h, tt) };
+}
+
+pub valid_goes_on : ValidGoesOn
+valid_goes_on text valid = record {
+  ringless = record { bases = λ s h. (valid.bases s h).0; no_ring = valid.no_ring };
+  sound = valid_sound text valid;
+}

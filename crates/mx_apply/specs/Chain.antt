@@ -7,6 +7,7 @@ use Rattle.mx_edit.specs.declared.refusal.EditRefusal.{EditRefusal}
 use Rattle.mx_model.specs.Records.{SpaceRecord, ModelRecord}
 use Rattle.mx_model.specs.Rings.{HasNoRing}
 use Rattle.mx_model.specs.Sound.{IsSound}
+use Rattle.mx_model.specs.Valid.{Valid}
 
 -- no space has a base twice, and there is no ring
 pub record IsRingless (text : ModelRecord) : Type 0 where
@@ -27,3 +28,7 @@ pub record CanGoOn (text : ModelRecord) : Type 0 where
 abbrev pub GoesOn : ModelRecord → Edit → Result ModelRecord EditRefusal → Type 0
 GoesOn text e (Ok made) = IsRingless text → MakesNoRing e made → CanGoOn made
 GoesOn text e (Err why) = Unit {0}
+
+-- from a valid text another edit can follow
+abbrev pub ValidGoesOn : Type 0
+ValidGoesOn = (text : ModelRecord) → Valid text → CanGoOn text
