@@ -1,3 +1,4 @@
+pub mod ChainLemmas
 pub mod DisplayLemmas
 pub mod StaticLemmas
 pub mod ValueLemmas

@@ -4,6 +4,7 @@ ghost use Rattle.mx_model.specs.Sound.{IsSound};
 ghost use Rattle.mx_model.specs.Change.{change, bound_edit, set_reference, remove_reference};
 ghost use Rattle.mx_model.specs.Refused.{is_holder, record_trouble};
 ghost use Rattle.mx_apply.specs.Made.{IsMade};
+ghost use Rattle.mx_apply.specs.Chain.{IsRingless, MakesNoRing, CanGoOn, GoesOn};
 
 use crate::bound::bound_args;
 use crate::refusals::record_trouble;
@@ -25,7 +26,8 @@ use std::alloc::{AllocError, Global};
 /// the walk over static paths are not looked at, and inputs that no longer fit stay.
 pub fn with_edit(alloc: Global, text: &ModelText, edit: &Edit) -> Result<ModelText, EditRefusal>
     requires { IsSound text.now }
-    ensures { IsMade text.now edit.now result }
+    ensures made { IsMade text.now edit.now result }
+    ensures next { GoesOn text.now edit.now result }
 {
     match record_trouble(alloc, text, edit) {
         Ok(Some(why)) => return Err(why),
@@ -33,9 +35,22 @@ pub fn with_edit(alloc: Global, text: &ModelText, edit: &Edit) -> Result<ModelTe
         Err(_) => return Err(EditRefusal::NoMemory),
     }
     match changed(alloc, text, edit) {
-        Ok(made) => return Ok(made),
+        Ok(made) => {
+            keep_on(text, edit, &made);
+            return Ok(made);
+        }
         Err(_) => return Err(EditRefusal::NoMemory),
     }
+}
+
+/// From what stands beside both texts, other edits can follow. Does nothing when it runs.
+fn keep_on(text: &ModelText, edit: &Edit, made: &ModelText)
+    requires free { record_trouble text.now edit.now ≡ None }
+    requires is { made.now ≡ change text.now (bound_edit text.now edit.now) }
+    ensures { IsRingless text.now → MakesNoRing edit.now made.now → CanGoOn made.now }
+{
+    let _ = text.kinds();
+    let _ = made.kinds();
 }
 
 /// The change of an edit to which no refusal applies.

@@ -5,6 +5,7 @@ mod bound;
 pub mod counts;
 mod displays;
 pub mod edits;
+pub mod laws;
 mod own;
 mod refusals;
 mod statics;

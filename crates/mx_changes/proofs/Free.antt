@@ -47,6 +47,7 @@ pub record IsFree (text : ModelRecord) (e : Edit) : Type 0 where
   pub members : no_such_member text e ≡ false
   pub names : name_taken text e ≡ false
   pub count : wrong_count text e ≡ false
+  pub values : bad_value text e ≡ false
 
 unless : (b : Bool) (why : EditRefusal) (rest : Option EditRefusal) → (if b then Some why else rest) ≡ None → (b ≡ false) × (rest ≡ None)
 unless true why rest e = absurd (let f : Some why ≡ None = e in cc)
@@ -59,7 +60,9 @@ free_of text e none =
     let c = unless (no_such_member text e) refusal.NoSuchMember (from_taken text e) b.1 in
     let d = unless (name_taken text e) refusal.NameTaken (from_count text e) c.1 in
     let f = unless (wrong_count text e) refusal.WrongCount (from_address text e) d.1 in
-    record { spaces = b.0; members = c.0; names = d.0; count = f.0 }
+    let g = unless (item_address e) refusal.ItemAddress (from_value text e) f.1 in
+    let h = unless (bad_value text e) refusal.BadValue (in_use text e) g.1 in
+    record { spaces = b.0; members = c.0; names = d.0; count = f.0; values = h.0 }
 
 pub free_at : (text : ModelRecord) (e e' : Edit) → record_trouble text e ≡ None → e ≡ e' → IsFree text e'
 free_at text e e' none is = free_of text e' (ap (record_trouble text) (sym is) ∙ none)
