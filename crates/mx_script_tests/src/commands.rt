@@ -8,8 +8,9 @@ use mx_parse::ParseRefusal;
 use mx_print::formula::{print, print_params};
 use mx_print::value::push_value;
 use mx_script::{Command, FormRefusal, read_command};
+use mx_syntax::stmt::{Formula, Params};
 use mx_value::label::Label;
-use mx_value::node::Node;
+use mx_value::node::{Node, Path};
 use mx_value::value::{Segment, Value};
 use mx_words::table::{CommandWord, takes_lines};
 use std::alloc::{AllocError, Global};
@@ -463,68 +464,119 @@ fn write_named(
     write(out, name.as_slice())
 }
 
+fn write_cells(
+    alloc: Global,
+    out: &mut Vec<u8>,
+    path: &[Label],
+    name: &Label,
+    formula: &Formula,
+) -> Result<(), AllocError> {
+    write_path(out, path)?;
+    write(out, name.as_slice())?;
+    write(out, b" ")?;
+    write(out, print(alloc, formula)?.as_slice())
+}
+
+fn write_setting(
+    out: &mut Vec<u8>,
+    path: &[Label],
+    name: &Label,
+    flag: bool,
+) -> Result<(), AllocError> {
+    if flag {
+        return write_named(out, b"allow ", path, name);
+    }
+    write_named(out, b"disallow ", path, name)
+}
+
+fn write_set_reference(
+    out: &mut Vec<u8>,
+    path: &[Label],
+    name: &Label,
+    value: &RefValue,
+) -> Result<(), AllocError> {
+    write_named(out, b"ref ", path, name)?;
+    write(out, b" = ")?;
+    write_reference(out, value)
+}
+
+fn write_bases(out: &mut Vec<u8>, path: &[Label], bases: &[Path]) -> Result<(), AllocError> {
+    write_named_path(out, b"bases ", path)?;
+    write(out, b" <-")?;
+    for base in bases {
+        write_named_path(out, b" ", base.as_slice())?;
+    }
+    Ok(())
+}
+
+fn write_params(
+    alloc: Global,
+    out: &mut Vec<u8>,
+    path: &[Label],
+    params: &Option<Params>,
+) -> Result<(), AllocError> {
+    let Some(params) = params else {
+        return write_named_path(out, b"no params ", path);
+    };
+    write_named_path(out, b"params ", path)?;
+    write(out, b" ")?;
+    write(out, print_params(alloc, params)?.as_slice())
+}
+
+fn write_call_behind(
+    out: &mut Vec<u8>,
+    word: &[u8],
+    space: &[Segment],
+    name: &Label,
+    args: &[Value],
+) -> Result<(), AllocError> {
+    write(out, word)?;
+    write_call(out, space, name, args)
+}
+
+fn write_input(
+    out: &mut Vec<u8>,
+    space: &[Segment],
+    name: &Label,
+    args: &[Value],
+    value: &Value,
+) -> Result<(), AllocError> {
+    write_call_behind(out, b"input ", space, name, args)?;
+    write(out, b" = ")?;
+    push_value(out, value)
+}
+
 fn write_edit(alloc: Global, out: &mut Vec<u8>, edit: &Edit) -> Result<(), AllocError> {
     match edit {
         Edit::SetCells {
             path,
             name,
             formula,
-        } => {
-            write_path(out, path.as_slice())?;
-            write(out, name.as_slice())?;
-            write(out, b" ")?;
-            write(out, print(alloc, formula)?.as_slice())
-        }
+        } => write_cells(alloc, out, path.as_slice(), name, formula),
         Edit::NewSpace { parent, name } => write_named(out, b"new space ", parent.as_slice(), name),
         Edit::DelSpace { path } => write_named_path(out, b"del space ", path.as_slice()),
-        Edit::SetParams { path, params: None } => {
-            write_named_path(out, b"no params ", path.as_slice())
-        }
+        Edit::SetParams { path, params } => write_params(alloc, out, path.as_slice(), params),
         Edit::DelCells { path, name } => write_named(out, b"del cells ", path.as_slice(), name),
-        Edit::SetAllowNone { path, name, flag } => {
-            let word = if *flag {
-                b"allow ".as_slice()
-            } else {
-                b"disallow ".as_slice()
-            };
-            write_named(out, word, path.as_slice(), name)
-        }
+        Edit::SetAllowNone { path, name, flag } => write_setting(out, path.as_slice(), name, *flag),
+        _ => write_other_edit(out, edit),
+    }
+}
+
+fn write_other_edit(out: &mut Vec<u8>, edit: &Edit) -> Result<(), AllocError> {
+    match edit {
         Edit::DelRef { path, name } => write_named(out, b"del ref ", path.as_slice(), name),
         Edit::SetRef { path, name, value } => {
-            write_named(out, b"ref ", path.as_slice(), name)?;
-            write(out, b" = ")?;
-            write_reference(out, value)
+            write_set_reference(out, path.as_slice(), name, value)
         }
-        Edit::SetBases { path, bases } => {
-            write_named_path(out, b"bases ", path.as_slice())?;
-            write(out, b" <-")?;
-            for base in bases.as_slice() {
-                write_named_path(out, b" ", base.as_slice())?;
-            }
-            Ok(())
-        }
-        Edit::SetParams {
-            path,
-            params: Some(params),
-        } => {
-            write_named_path(out, b"params ", path.as_slice())?;
-            write(out, b" ")?;
-            write(out, print_params(alloc, params)?.as_slice())
-        }
+        Edit::SetBases { path, bases } => write_bases(out, path.as_slice(), bases.as_slice()),
         Edit::SetInput {
             space,
             name,
             args,
             value,
-        } => {
-            write(out, b"input ")?;
-            write_call(out, space.as_slice(), name, args.as_slice())?;
-            write(out, b" = ")?;
-            push_value(out, value)
-        }
+        } => write_input(out, space.as_slice(), name, args.as_slice(), value),
         Edit::DelInput { space, name, args } => {
-            write(out, b"del input ")?;
-            write_call(out, space.as_slice(), name, args.as_slice())
+            write_call_behind(out, b"del input ", space.as_slice(), name, args.as_slice())
         }
         _ => write(out, b"another edit"),
     }
