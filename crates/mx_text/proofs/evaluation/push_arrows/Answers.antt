@@ -2,8 +2,8 @@ use Rattle.std.proofs.Common.{◌≡◌, arith}
 use Rattle.std.specs.Prelude.{codes}
 use Rattle.mx_print.specs.Values.{node_text}
 use Rattle.mx_print.proofs.TextLemmas.{separated_first, separated_more}
-use Rattle.mx_run.proofs.text.push_arrows.Goals as goal
-use Rattle.mx_run.proofs.text.push_arrows.Goals.{then-i-gt0+in_ok-push, else-i-gt0}
+use Rattle.mx_text.proofs.evaluation.push_arrows.Goals as goal
+use Rattle.mx_text.proofs.evaluation.push_arrows.Goals.{then-i-gt0+in_ok-push, else-i-gt0}
 
 pub loop-i-preserved : goal.loop-i-preserved
 loop-i-preserved c = elim c.if-i-gt0.branch [

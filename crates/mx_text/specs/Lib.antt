@@ -1,0 +1,4 @@
+pub mod Edit
+pub mod Evaluation
+pub mod Parsing
+pub mod Table
