@@ -1,5 +1,5 @@
 -- From states that are alike a command writes one block.
-use Rattle.std.proofs.Common.{◌≡◌, ◌≢◌, ℕ, ◌-◌, List, [], ◌∷◌, ◌++◌, codes, length, Option, None, Some, Result, Ok, Err, refl, sym, ◌∙◌, ap, subst}
+use Rattle.std.proofs.Common.{◌≡◌, ◌≢◌, ℕ, ◌-◌, List, [], ◌∷◌, ◌++◌, length, Option, None, Some, Result, Ok, Err, refl, sym, ◌∙◌, ap, subst}
 use Rattle.mx_value.specs.declared.value.Value.{Value}
 use Rattle.mx_value.specs.declared.refusal.EvalRefusal.{EvalRefusal}
 use Rattle.mx_value.specs.declared.node.Node.{Node}
@@ -15,19 +15,17 @@ use Rattle.mx_edit.specs.declared.edit.Edit.TheVariants as script
 use Rattle.mx_words.specs.declared.command.Command.{Command as ScriptCommand}
 use Rattle.mx_words.specs.declared.command.Command.TheVariants as command
 use Rattle.mx_words.specs.declared.command.FormRefusal.{FormRefusal}
-use Rattle.mx_script.specs.Script.{Command}
 use Rattle.mx_script.proofs.OneCommand.{only_command}
 use Rattle.mx_engine.specs.declared.edit.Edit.{Edit}
 use Rattle.mx_engine.specs.declared.edit.Edit.TheVariants.{SetCells}
 use Rattle.mx_engine.specs.declared.edit.EditRefusal.{EditRefusal}
 use Rattle.mx_engine.specs.declared.edit.EditRefusal.TheVariants as edit
 use Rattle.mx_engine.specs.Edits.{applied, refusal_of, IsRefusedBy}
-use Rattle.mx_run.specs.Answer.{State, Step, refused, carried, CarriesOut, EditsAs, Edits, Evaluates, after_edit, first_state}
-use Rattle.mx_run.specs.Laws.{AreAlike, Says, StepSays, RunsSay, OneBlock, OneOutput, OneTranscript}
+use Rattle.mx_run.specs.Answer.{State, refused, carried, CarriesOut, EditsAs, Edits, Evaluates, after_edit, first_state}
+use Rattle.mx_run.specs.Laws.{AreAlike, Says, OneBlock, OneOutput, OneTranscript}
 use Rattle.mx_run.specs.Refusals.{refused_block}
 use Rattle.mx_run.specs.Script.{program_words, commands}
-use Rattle.mx_run.specs.Text.{edit_block, edit_refusal_text, eval_block}
-use Rattle.mx_run.specs.Transcript.{Runs}
+use Rattle.mx_run.specs.Text.{edit_block, eval_block}
 
 none_alike : HoldAlike [] []
 none_alike = record { nodes = λ x. ((λ h. h), (λ h. h)); replies = λ d e h k i. absurd h; many = refl }

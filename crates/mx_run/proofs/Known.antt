@@ -1,5 +1,5 @@
 -- What a text says is a command of a word that this program knows.
-use Rattle.std.proofs.Common.{◌≡◌, ℕ, ◌+◌, List, Bool, true, false, Option, Some, None, Result, Ok, Err, if◌then◌else◌, refl, sym, subst}
+use Rattle.std.proofs.Common.{◌≡◌, ℕ, ◌+◌, List, Bool, true, false, Some, None, Result, Ok, Err, if◌then◌else◌, sym, subst}
 use Rattle.mx_value.specs.declared.node.Node.{Node}
 use Rattle.mx_syntax.specs.declared.stmt.Formula.{Formula}
 use Rattle.mx_grammar.specs.declared.refusal.ParseRefusal.{ParseRefusal}

@@ -4,7 +4,6 @@ use Rattle.mx_value.specs.declared.value.Value.{Value}
 use Rattle.mx_value.specs.declared.node.Node.{Node}
 use Rattle.mx_value.specs.declared.refusal.EvalRefusal.{EvalRefusal}
 use Rattle.mx_value.specs.declared.refusal.EvalRefusal.TheVariants as refusal
-use Rattle.mx_syntax.specs.declared.stmt.Formula.{Formula}
 use Rattle.mx_edit.specs.declared.edit.Edit.{Edit as ScriptEdit}
 use Rattle.mx_edit.specs.declared.edit.Edit.TheVariants as script
 use Rattle.mx_words.specs.declared.command.Command.{Command as ScriptCommand}

@@ -1,5 +1,5 @@
 -- The texts of commands that are refused.
-use Rattle.std.specs.Prelude.{ℕ, List, [], ◌∷◌, ◌++◌, codes}
+use Rattle.std.specs.Prelude.{ℕ, [], ◌∷◌, ◌++◌, codes}
 use Rattle.std.specs.Fmt.{decimal}
 use Rattle.mx_print.specs.Texts.{Text}
 use Rattle.mx_text.specs.Parsing.{parse_refusal_text}
