@@ -14,10 +14,12 @@ use Rattle.mx_runs.specs.Runs.{Run, Ends, Tests, NoSuch}
 use Rattle.mx_formulas.specs.Namespaces.{ends_with_name}
 use Rattle.mx_formulas.specs.Walks.{walked, bound_or_refused}
 
+-- by what the cells are: their formula has the parameters
 abbrev pub cell_bound : Namespace → Label → List Value → (Node → Run) → KeyResult → Run
 cell_bound ns name args go (found.Formula f allow) = bound_or_refused f.params args (λ vs. go (Cell ns.at name vs))
 cell_bound ns name args go other = Ends NoSuch
 
+-- by what the space is: one with parameters, or no such node
 abbrev pub item_bound : Namespace → List Value → (Node → Run) → KeyResult → Run
 item_bound ns args go (found.Params ps) = bound_or_refused ps.params args (λ vs. go (Item ns.at vs))
 item_bound ns args go other = Ends NoSuch

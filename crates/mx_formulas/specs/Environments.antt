@@ -47,6 +47,7 @@ abbrev pub set_in : Locals → Label → Value → Locals
 set_in [] name v = (name, Some v) ∷ []
 set_in (l ∷ ls) name v = if same_name l.0 name then (l.0, Some v) ∷ ls else l ∷ set_in ls name v
 
+-- with this value of a local
 abbrev pub with_local : Label → Value → Env → Env
 with_local name v env = record env { locals = set_in env.locals name v }
 

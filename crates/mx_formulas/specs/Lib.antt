@@ -4,3 +4,8 @@ pub mod Environments
 pub mod References
 pub mod Lookup
 pub mod Binding
+pub mod Calls
+pub mod Operations
+pub mod Expressions
+pub mod Statements
+pub mod Nodes

@@ -37,6 +37,7 @@ abbrev pub overlaid_by : Overlay → Overlay → Overlay
 overlaid_by under [] = under
 overlaid_by under (o ∷ os) = overlaid_by (overlaid under o.0 o.1) os
 
+-- the value of a name, where there is one
 abbrev pub value_in : Overlay → Label → Option Value
 value_in [] name = None
 value_in (o ∷ os) name = if same_name o.0 name then Some o.1 else value_in os name
@@ -47,6 +48,7 @@ value_in (o ∷ os) name = if same_name o.0 name then Some o.1 else value_in os 
 abbrev pub Step : Type 0
 Step = Segment-F Segment Value CellsAt
 
+-- the segment is a name, and no item
 abbrev pub is_name : Step → Bool
 is_name (Segment-F.Name name) = true
 is_name (Segment-F.Item items) = false
@@ -70,6 +72,7 @@ is_short at = nat_le (length at) 64
 abbrev pub is_allowed : List Segment → Bool
 is_allowed at = is_short at && nat_le (size_of (Space at)) 1_000_000
 
+-- with the name of a segment in front, where it is no item
 abbrev pub with_name : Step → Option (List Label) → Option (List Label)
 with_name (Segment-F.Name name) (Some names) = Some (name ∷ names)
 with_name s names = None

@@ -44,6 +44,7 @@ relative owner true path = None
 relative [] false path = None
 relative (n ∷ ns) false path = behind (n ∷ ns) path
 
+-- an address with more names
 abbrev pub names_added : List Segment → List Label → List Segment
 names_added at names = at ++ map segment.Name names
 
@@ -65,6 +66,7 @@ member_of (n ∷ []) = None
 member_of (n ∷ m ∷ []) = Some m
 member_of (n ∷ m ∷ ns) = member_of (m ∷ ns)
 
+-- where the name is bound to cells, those of the space at the address without its last segment
 abbrev pub member_found : Target → Label → Env → (Value → Run) → KeyResult → Run
 member_found target name env go found.CellsHere = cells_read (parent_of target.at) name env go
 member_found target name env go other = fault NoName env
@@ -74,6 +76,7 @@ abbrev pub member_read : Target → Option Label → Reading
 member_read target (Some name) env go = Looks (key.Name (parent_of target.path) name) (member_found target name env go)
 member_read target None env go = fault NoName env
 
+-- by what is at the path: the space, or what its last name stands for
 abbrev pub target_found : Target → Env → (Value → Run) → KeyResult → Run
 target_found target env go found.There = space_read target.at env go
 target_found target env go other = member_read target (member_of target.path) env go
