@@ -1,6 +1,6 @@
 -- Namespaces, where names are looked up: the address of a space, the path whose bindings hold there, and the names with
 -- values that the item spaces on the way add. And what an address may be.
-use Rattle.std.specs.Prelude.{Bool, true, false, ◌&&◌, nat_le, if◌then◌else◌, List, [], ◌∷◌, ◌++◌, length, Option, Some, None}
+use Rattle.std.specs.Prelude.{Bool, false, ◌&&◌, nat_le, if◌then◌else◌, List, [], ◌∷◌, ◌++◌, length, Option, Some, None}
 use Rattle.mx_value.specs.Name.{same_name}
 use Rattle.mx_value.specs.Size.{size_of}
 use Rattle.mx_value.specs.declared.label.Label.{Label}
@@ -11,6 +11,7 @@ use Rattle.mx_value.specs.declared.value.Segment.{Segment, out-Segment}
 use Rattle.mx_value.specs.declared.value.Segment.TheOpen.{Segment-F}
 use Rattle.mx_value.specs.declared.value.Segment.TheVariants as segment
 use Rattle.mx_value.specs.declared.namespace.Namespace.{Namespace}
+use Rattle.mx_runs.specs.Inputs.{is_name}
 
 -- ---- namespaces
 
@@ -48,21 +49,11 @@ value_in (o ∷ os) name = if same_name o.0 name then Some o.1 else value_in os 
 abbrev pub Step : Type 0
 Step = Segment-F Segment Value CellsAt
 
--- the segment is a name, and no item
-abbrev pub is_name : Step → Bool
-is_name (Segment-F.Name name) = true
-is_name (Segment-F.Item items) = false
-
 -- An item can follow: the address ends with a name. One that is empty or ends with an item has no parameters.
 abbrev pub ends_with_name : List Segment → Bool
 ends_with_name [] = false
 ends_with_name (s ∷ []) = is_name (out-Segment s)
 ends_with_name (s ∷ more) = ends_with_name more
-
--- no segment is an item
-abbrev pub is_of_names : List Segment → Bool
-is_of_names [] = true
-is_of_names (s ∷ more) = is_name (out-Segment s) && is_of_names more
 
 -- at most 64 segments
 abbrev pub is_short : List Segment → Bool

@@ -18,7 +18,8 @@ use Rattle.mx_edit.specs.declared.key.KeyResult.{KeyResult}
 use Rattle.mx_edit.specs.declared.key.KeyResult.TheVariants as found
 use Rattle.mx_ops.specs.Kinds.{Content}
 use Rattle.mx_runs.specs.Runs.{Run, Ends, Looks, Gives, Faults, NoSuch}
-use Rattle.mx_formulas.specs.Namespaces.{Overlay, overlaid_by, ends_with_name, is_of_names, is_allowed, names_of, item_at}
+use Rattle.mx_runs.specs.Inputs.{is_static}
+use Rattle.mx_formulas.specs.Namespaces.{Overlay, overlaid_by, ends_with_name, is_allowed, names_of, item_at}
 use Rattle.mx_formulas.specs.Walks.{walked, bound_or_refused}
 use Rattle.mx_formulas.specs.Environments.{Env, Locals}
 use Rattle.mx_formulas.specs.Statements.{Returned, Plain, Display, body_done}
@@ -74,7 +75,7 @@ input_or run other = run
 
 -- an address without items can have an input, which is looked up before all else
 abbrev pub unless_input : Node → List Segment → Run → Run
-unless_input n at run = if is_of_names at then Looks (key.Input n) (input_or run) else run
+unless_input n at run = if is_static at then Looks (key.Input n) (input_or run) else run
 
 -- ---- items
 
