@@ -9,3 +9,4 @@ pub mod Operations
 pub mod Expressions
 pub mod Statements
 pub mod Nodes
+pub mod Laws
