@@ -1,0 +1,7 @@
+mod Keeping
+mod Forms
+mod Bodies
+mod Bound
+mod Walking
+mod Items
+mod Sound

@@ -1,0 +1,45 @@
+-- Laws of the runs of formulas, over any way of looking keys up.
+use Rattle.std.specs.Prelude.{◌≡◌, List, Some}
+use Rattle.mx_value.specs.declared.value.Value.TheVariants.{Space}
+use Rattle.mx_value.specs.declared.value.Segment.{Segment}
+use Rattle.mx_value.specs.declared.namespace.Namespace.{Namespace}
+use Rattle.mx_value.specs.declared.node.Node.{Node}
+use Rattle.mx_edit.specs.declared.key.Key.{Key}
+use Rattle.mx_edit.specs.declared.key.KeyResult.{KeyResult}
+use Rattle.mx_edit.specs.declared.reply.Reply.{Reply}
+use Rattle.mx_runs.specs.Runs.{Model, Run, Event}
+use Rattle.mx_runs.specs.Meaning.{Leads}
+use Rattle.mx_runs.specs.Chains.{DoesAsk}
+use Rattle.mx_runs.specs.Inputs.{InputsEnd}
+use Rattle.mx_runs.specs.Support.{TestsAreCovered}
+use Rattle.mx_formulas.specs.Binding.{binding}
+use Rattle.mx_formulas.specs.Nodes.{body}
+
+-- formulas over a text, of which is known what its keys lead to
+abbrev pub model_of : (Key → KeyResult) → Model
+model_of look = record { look = look; body = body }
+
+-- b is the bound form of n: by these events the binding of n comes to go on with b, whatever comes then
+pub record BindsTo (model : Model) (n b : Node) : Type 0 where
+  pub events : List Event
+  pub leads : (go : Node → Run) → Leads model (binding n go) events (go b)
+
+-- a reply with the space at this address, and with it a namespace of the same address
+pub record IsSpaceAt (at : List Segment) (r : Reply) : Type 0 where
+  pub space : Namespace
+  pub is : r ≡ record { value = Space at; namespace = Some space }
+  pub address : space.at ≡ at
+
+-- ---- laws
+
+-- the run of an input looks its value up and ends with it
+abbrev pub InputsEndRuns : Type 0
+InputsEndRuns = (look : Key → KeyResult) → InputsEnd (model_of look)
+
+-- each node that a run asks is its own bound form
+abbrev pub AskedIsBound : Type 0
+AskedIsBound = (look : Key → KeyResult) (n m : Node) → DoesAsk (model_of look) n m → BindsTo (model_of look) m m
+
+-- a key that a run with a value tests is looked up by a node that it asks
+abbrev pub TestsAreOfAsked : Type 0
+TestsAreOfAsked = (look : Key → KeyResult) → TestsAreCovered (model_of look)

@@ -1,0 +1,12 @@
+pub mod Namespaces
+pub mod Walks
+pub mod Environments
+pub mod References
+pub mod Lookup
+pub mod Binding
+pub mod Calls
+pub mod Operations
+pub mod Expressions
+pub mod Statements
+pub mod Nodes
+pub mod Laws

@@ -1,0 +1,9 @@
+pub mod Lists
+pub mod Levels
+pub mod Runs
+pub mod Events
+pub mod Meanings
+pub mod Reach
+pub mod Agreement
+pub mod Inputs
+pub mod Rings
