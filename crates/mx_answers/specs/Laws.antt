@@ -34,7 +34,7 @@ pub record EndAlike (a b : Result Value EvalRefusal) (after last : List Entry) (
 
 -- Two evaluations of a node from what is held alike end alike, where one is settled and the other had memory.
 abbrev pub OneStep : Type 0
-OneStep = (model : Model) (ev fv : Evaluation) (a b : Result Value EvalRefusal) (after last : List Entry) (ticks runs : ℕ) → ev.node ≡ fv.node → ev.limit ≡ fv.limit → HoldAlike ev.held fv.held → Answer model ev a after ticks → Answer model fv b last runs → IsSettled a → (b ≡ Err refusal.NoMemory → ⊥) → EndAlike a b after last ticks runs
+OneStep = (model : Model) (ev : Evaluation) (others : List Entry) (a b : Result Value EvalRefusal) (after last : List Entry) (ticks runs : ℕ) → HoldAlike ev.held others → Answer model ev a after ticks → Answer model (record ev { held = others }) b last runs → IsSettled a → (b ≡ Err refusal.NoMemory → ⊥) → EndAlike a b after last ticks runs
 
 -- what is right is held alike with itself: two evaluations from one right state are such
 abbrev pub RightIsAlike : Type 0
