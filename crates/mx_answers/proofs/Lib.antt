@@ -1,3 +1,5 @@
 pub mod Held
 pub mod Unique
 pub mod Alike
+pub mod Steps
+pub mod Records
