@@ -1,5 +1,5 @@
 -- Two evaluations from what is held alike end alike.
-use Rattle.std.proofs.Common.{◌≡◌, ℕ, ◌+◌, ◌≤◌, List, ◌++◌, length, Result, Ok, Err, inl, inr, refl, sym, ◌∙◌, ap, subst, arith, length-append}
+use Rattle.std.proofs.Common.{◌≡◌, ℕ, ◌+◌, ◌≤◌, List, ◌++◌, length, Result, Ok, Err, inl, inr, refl, sym, ap, subst, arith, length-append}
 use Rattle.std.proofs.lemmas.List.{length-map}
 use Rattle.mx_value.specs.declared.node.Node.{Node}
 use Rattle.mx_value.specs.declared.value.Value.{Value as Values}
@@ -12,7 +12,7 @@ use Rattle.mx_runs.specs.Meaning.{Means}
 use Rattle.mx_runs.proofs.Lists.{has_cases, no_more}
 use Rattle.mx_runs.proofs.Levels.{same_value}
 use Rattle.mx_answers.specs.Held.{nodes_of, IsKnown, HoldsMore, HoldAlike}
-use Rattle.mx_answers.specs.Answers.{Evaluation, Answer, AreLost, AtMost, DeepChain, HasRoom, Completes, IsSettled}
+use Rattle.mx_answers.specs.Answers.{Evaluation, Answer, AreLost, HasRoom, Completes, IsSettled}
 use Rattle.mx_answers.specs.Laws.{EndAlike, OneStep, RightIsAlike}
 use Rattle.mx_answers.proofs.Held.{nodes_grow, nodes_added, nodes_cases, named}
 use Rattle.mx_answers.proofs.Unique.{rests, with_room, same_answer}

@@ -1,16 +1,15 @@
 -- What is held, and more behind it.
-use Rattle.std.proofs.Common.{◌≡◌, Bool, true, false, List, [], ◌∷◌, ◌++◌, ◌⊎◌, inl, inr, refl, sym, ◌∙◌, ap, subst}
+use Rattle.std.proofs.Common.{◌≡◌, true, false, List, ◌++◌, ◌⊎◌, inl, inr, refl, sym, ◌∙◌, ap, subst}
 use Rattle.std.proofs.lemmas.List.{map-append}
 use Rattle.mx_value.specs.declared.node.Node.{Node}
 use Rattle.mx_edit.specs.Entry.{Entry}
-use Rattle.mx_edit.specs.declared.reply.Reply.{Reply}
 use Rattle.mx_runs.specs.Lists.{Has}
 use Rattle.mx_runs.specs.Runs.{Model, Gives}
 use Rattle.mx_runs.specs.Inputs.{is_input}
 use Rattle.mx_runs.specs.Meaning.{Means}
 use Rattle.mx_runs.specs.Chains.{HasValue}
 use Rattle.mx_runs.proofs.Lists.{has_left, has_right, has_cases, has_map, From, has_map_from}
-use Rattle.mx_answers.specs.Held.{nodes_of, Counts, IsRight}
+use Rattle.mx_answers.specs.Held.{nodes_of, IsRight}
 
 pub nodes_append : (xs ys : List Entry) → nodes_of (xs ++ ys) ≡ nodes_of xs ++ nodes_of ys
 nodes_append xs ys = map-append (λ (e : Entry). e.node) xs ys

@@ -1,5 +1,5 @@
 -- What a record says of the run of its node.
-use Rattle.std.proofs.Common.{◌≡◌, ℕ, suc, ◌+◌, ◌<◌, ◌≤◌, Bool, true, false, if◌then◌else◌, List, [], ◌∷◌, ◌++◌, length, ◌⊎◌, inl, inr, refl, sym, ◌∙◌, ap, subst, arith, length-append}
+use Rattle.std.proofs.Common.{◌≡◌, true, false, if◌then◌else◌, List, [], ◌∷◌, ◌++◌, ◌⊎◌, inl, inr, refl, sym, ◌∙◌, ap, subst}
 use Rattle.std.proofs.lemmas.List.{append-nil}
 use Rattle.mx_value.specs.declared.node.Node.{Node}
 use Rattle.mx_value.specs.declared.read.Read.{Read}
@@ -7,7 +7,7 @@ use Rattle.mx_edit.specs.Entry.{Entry}
 use Rattle.mx_edit.specs.declared.key.Key.{Key}
 use Rattle.mx_edit.specs.declared.key.Key.TheVariants.{Input}
 use Rattle.mx_edit.specs.declared.reply.Reply.{Reply}
-use Rattle.mx_runs.specs.Lists.{Has, Distinct, FirstEach}
+use Rattle.mx_runs.specs.Lists.{Has, FirstEach}
 use Rattle.mx_runs.specs.Runs.{Model, Run, Ends, Gives, Event, Looked, Tested, Asked, Noted}
 use Rattle.mx_runs.specs.Inputs.{is_input, InputsEnd}
 use Rattle.mx_runs.specs.Meaning.{Means, Leads}

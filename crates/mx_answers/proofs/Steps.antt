@@ -1,9 +1,7 @@
 -- What is held after a right answer is right.
-use Rattle.std.proofs.Common.{◌≡◌, ℕ, zero, ◌+◌, ◌≤◌, false, List, [], ◌∷◌, ◌++◌, length, ◌⊎◌, Result, Ok, Err, inl, inr, refl, sym, ◌∙◌, ap, subst, arith, length-append}
+use Rattle.std.proofs.Common.{◌≡◌, ℕ, ◌+◌, ◌≤◌, false, List, [], ◌∷◌, ◌++◌, length, Ok, Err, inl, inr, refl, sym, ◌∙◌, ap, subst, arith}
 use Rattle.std.proofs.lemmas.List.{length-map}
 use Rattle.mx_value.specs.declared.node.Node.{Node}
-use Rattle.mx_value.specs.declared.value.Value.{Value as Values}
-use Rattle.mx_value.specs.declared.refusal.EvalRefusal.{EvalRefusal}
 use Rattle.mx_value.specs.declared.refusal.EvalRefusal.TheVariants as refusal
 use Rattle.mx_edit.specs.Entry.{Entry}
 use Rattle.mx_runs.specs.Lists.{Has, Distinct}
@@ -11,11 +9,11 @@ use Rattle.mx_runs.specs.Runs.{Model, Gives}
 use Rattle.mx_runs.specs.Inputs.{is_input}
 use Rattle.mx_runs.specs.Meaning.{Means}
 use Rattle.mx_runs.specs.Chains.{DoesAsk}
-use Rattle.mx_runs.proofs.Lists.{has_cases, has_right, among_or_not, distinct_join, no_more}
+use Rattle.mx_runs.proofs.Lists.{has_cases, among_or_not, distinct_join, no_more}
 use Rattle.mx_runs.proofs.Meanings.{ask_has_value}
 use Rattle.mx_runs.proofs.Reach.{reach_ask, reach_has_value}
 use Rattle.mx_answers.specs.Held.{most_held, nodes_of, Counts, IsKnown, IsRight}
-use Rattle.mx_answers.specs.Answers.{Evaluation, Answer, Completes}
+use Rattle.mx_answers.specs.Answers.{Evaluation, Completes}
 use Rattle.mx_answers.specs.Laws.{StaysRight, ValueTicks}
 use Rattle.mx_answers.proofs.Held.{nodes_append, nodes_grow, nodes_added, nodes_cases, input_or_not}
 

@@ -1,5 +1,5 @@
 -- One answer.
-use Rattle.std.proofs.Common.{◌≡◌, ℕ, suc, ◌≤◌, List, length, Result, Ok, Err, refl, sym, ◌∙◌, ap, subst, arith}
+use Rattle.std.proofs.Common.{◌≡◌, ℕ, suc, ◌≤◌, List, length, Result, Ok, Err, refl, sym, ◌∙◌, ap, arith}
 use Rattle.mx_value.specs.declared.node.Node.{Node}
 use Rattle.mx_value.specs.declared.value.Value.{Value as Values}
 use Rattle.mx_value.specs.declared.refusal.EvalRefusal.{EvalRefusal}

@@ -50,7 +50,7 @@ module _ (model : Model) (n : Node) (ends : InputsEnd model) (i : is_input model
   pub input_asks_none : (m : Node) → DoesAsk model n m → ⊥
   input_asks_none m a = asked_by_end model (model.body n) m a.go gives a.events (Looked (Input n) ∷ []) a.leads whole
 
-  its_key : (k : Key) → LooksUp model n k → k ≡ Input n
+  pub its_key : (k : Key) → LooksUp model n k → k ≡ Input n
   its_key k l = elim (looked_by_end model (model.body n) k l.go gives l.events (Looked (Input n) ∷ []) l.leads whole) [ inl e ↦ sym e | inr h ↦ absurd h ]
 
   pub looks_input_up : LooksUp model n (Input n)
