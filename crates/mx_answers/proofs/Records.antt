@@ -1,26 +1,30 @@
 -- What a record says of the run of its node.
-use Rattle.std.proofs.Common.{◌≡◌, true, false, if◌then◌else◌, List, [], ◌∷◌, ◌++◌, ◌⊎◌, inl, inr, refl, sym, ◌∙◌, ap, subst}
+use Rattle.std.proofs.Common.{None, ◌≡◌, true, false, if◌then◌else◌, List, [], ◌∷◌, ◌++◌, ◌⊎◌, inl, inr, refl, sym, ◌∙◌, ap, subst}
 use Rattle.std.proofs.lemmas.List.{append-nil}
 use Rattle.mx_value.specs.declared.node.Node.{Node}
 use Rattle.mx_value.specs.declared.read.Read.{Read}
+use Rattle.mx_value.specs.Equality.{node_eq, read_eq}
+use Rattle.mx_value.proofs.NodeSames.{node_decides, read_decides}
+use Rattle.mx_edit.specs.Equality.{key_eq}
+use Rattle.mx_edit.proofs.Keys.{key_decides}
 use Rattle.mx_edit.specs.Entry.{Entry}
 use Rattle.mx_edit.specs.declared.key.Key.{Key}
 use Rattle.mx_edit.specs.declared.key.Key.TheVariants.{Input}
 use Rattle.mx_edit.specs.declared.reply.Reply.{Reply}
-use Rattle.mx_runs.specs.Lists.{Has, FirstEach}
+use Rattle.mx_runs.specs.Lists.{Has, FirstEach, Done, First}
 use Rattle.mx_runs.specs.Runs.{Model, Run, Ends, Gives, Event, Looked, Tested, Asked, Noted}
 use Rattle.mx_runs.specs.Inputs.{is_input, InputsEnd}
 use Rattle.mx_runs.specs.Meaning.{Means, Leads}
 use Rattle.mx_runs.specs.Chains.{asks_of, keys_of, DoesAsk, Itself, Through}
 use Rattle.mx_runs.specs.Support.{LooksUp, KeySupports}
-use Rattle.mx_runs.proofs.Lists.{each_is_among, each_has_all, each_is_one}
+use Rattle.mx_runs.proofs.Lists.{each_is_among, each_has_all, each_is_one, each_of}
 use Rattle.mx_runs.proofs.Levels.{ends_only}
 use Rattle.mx_runs.proofs.Runs.{comparable, asked_by_end}
 use Rattle.mx_runs.proofs.Events.{looked_is_look, asked_is_ask, looked_by_end}
-use Rattle.mx_runs.proofs.Meanings.{finished}
-use Rattle.mx_runs.proofs.Inputs.{looks_input_up}
+use Rattle.mx_runs.proofs.Meanings.{finished, whole_at}
+use Rattle.mx_runs.proofs.Inputs.{input_value, whole, looks_input_up}
 use Rattle.mx_answers.specs.Records.{recorded_keys, recorded_asks, reads_of, IsRecordOf}
-use Rattle.mx_answers.specs.Laws.{OneRecord}
+use Rattle.mx_answers.specs.Laws.{ValueIsRecorded, OneRecord, OneReads, InputReadsNone}
 use Rattle.mx_answers.proofs.Held.{input_or_not}
 
 -- an input was asked, and the key is its own
@@ -192,3 +196,30 @@ one_record model d e r s i =
     let q : d.reads ≡ e.reads = each_is_one [] (reads_of s.events) d.reads e.reads (subst (λ es. FirstEach [] (reads_of es) d.reads) o.0 r.reads) s.reads in
     let make : Node → Reply → List Key → List Node → List Read → Entry = λ n v ks ms rs. record { node = n; reply = v; keys = ks; asks = ms; reads = rs } in
     same_fields make d.node e.node d.reply e.reply d.keys e.keys d.asks e.asks d.reads e.reads i o.1 k a q
+
+pub value_is_recorded : ValueIsRecorded
+value_is_recorded model n h =
+    let w = whole_at model n h.reply h.means.at h.means.gives in
+    let ks = each_of key_eq key_decides [] (recorded_keys model w.events) in
+    let ms = each_of node_eq node_decides [] (recorded_asks model w.events) in
+    let rs = each_of read_eq read_decides [] (reads_of w.events) in
+    record {
+      entry = record { node = n; reply = h.reply; keys = ks.0; asks = ms.0; reads = rs.0 };
+      of = refl;
+      is = record { events = w.events; leads = w.leads; keys = ks.1; asks = ms.1; reads = rs.1 };
+    }
+
+pub one_reads : OneReads
+one_reads model n xs ys a b =
+    let e : a.entry ≡ b.entry = one_record model a.entry b.entry a.is b.is (a.of ∙ sym b.of) in
+    sym a.read ∙ ap (λ (d : Entry). d.reads) e ∙ b.read
+
+pub input_reads_none : InputReadsNone
+input_reads_none model n ends i =
+    let v = (input_value model n i).value in
+    record {
+      entry = record { node = n; reply = record { value = v; namespace = None }; keys = Input n ∷ []; asks = []; reads = [] };
+      of = refl;
+      is = record { events = Looked (Input n) ∷ []; leads = whole model n ends i; keys = First (Input n) (λ z. z) Done; asks = Done; reads = Done };
+      read = refl;
+    }

@@ -9,7 +9,7 @@ use Rattle.mx_edit.specs.declared.key.KeyResult.{KeyResult}
 use Rattle.mx_runs.specs.Lists.{Has, FirstEach}
 use Rattle.mx_runs.specs.Runs.{Model, Ends, Asks, Gives}
 use Rattle.mx_runs.specs.Inputs.{is_input, is_static, is_value, InputsEnd}
-use Rattle.mx_runs.specs.Meaning.{Means, Leads}
+use Rattle.mx_runs.specs.Meaning.{Leads}
 use Rattle.mx_runs.specs.Chains.{asks_of, DoesAsk, Reaches, Itself, Through}
 use Rattle.mx_runs.specs.Support.{with_look, LooksUp, KeySupports, IsUnchanged, HasSameKeys, TestsAreCovered}
 use Rattle.mx_runs.specs.Laws.{Agrees}
@@ -19,9 +19,9 @@ use Rattle.mx_runs.proofs.Inputs.{input_reaches, its_key, looks_input_up}
 use Rattle.mx_answers.specs.Held.{nodes_of, IsKnown, IsRight}
 use Rattle.mx_answers.specs.Records.{IsRecordOf, IsRightMemo}
 use Rattle.mx_answers.specs.Retention.{Retains, HasChanged, IsTouched, Here, ByAsk}
-use Rattle.mx_answers.specs.Laws.{RetainedIsRight, SiftedByKeys}
+use Rattle.mx_answers.specs.Laws.{RecordStays, RetainedIsRight, SiftedByKeys}
 use Rattle.mx_answers.proofs.Held.{entry_of, named, input_or_not}
-use Rattle.mx_answers.proofs.Records.{same_keys, same_asks, looked_recorded, input_recorded, asked_recorded, recorded_ask, recorded_key}
+use Rattle.mx_answers.proofs.Records.{record_means, same_keys, same_asks, looked_recorded, input_recorded, asked_recorded, recorded_ask, recorded_key}
 use Rattle.mx_answers.proofs.Sifting.{asks_held, sift_only, sift_whole, sift_once, sift_memo, fewer_room}
 
 input_by_look : (model : Model) (other : Key → KeyResult) (n : Node) → other (Input n) ≡ model.look (Input n) → is_input (with_look model other) n ≡ is_input model n
@@ -52,9 +52,9 @@ module _ (model : Model) (other : Key → KeyResult) (ends : InputsEnd model) (o
   same_keys_ask n m h a k s = h k (record { by = s.by; reaches = Through m a s.reaches; looks = s.looks })
 
   -- a record of a node whose keys lead to the same is one after the edit
-  record_retained : TestsAreCovered model → (e : Entry) → Means model e.node (Gives e.reply) → HasSameKeys model other e.node → IsRecordOf model e → IsRecordOf (with_look model other) e
-  record_retained covered e m h r =
-      let u : IsUnchanged model other e.node = keys_unchanged model other e.node e.reply covered m h in
+  record_retained : TestsAreCovered model → (e : Entry) → HasSameKeys model other e.node → IsRecordOf model e → IsRecordOf (with_look model other) e
+  record_retained covered e h r =
+      let u : IsUnchanged model other e.node = keys_unchanged model other e.node e.reply covered (record_means model e r) h in
       let i : (x : Node) → Has (asks_of r.events) x → is_input (with_look model other) x ≡ is_input model x
       = λ x k. same_input x (same_keys_ask e.node x h (asked_is_ask model e.node (Ends (Gives e.reply)) r.events r.leads x k)) in
       record {
@@ -102,6 +102,9 @@ module _ (model : Model) (other : Key → KeyResult) (ends : InputsEnd model) (o
       room = fewer_room held kept t.once retained_named right.room;
     }
 
+pub record_stays : RecordStays
+record_stays model other e ends others covered r h = record_retained model other ends others covered e h r
+
 pub retained_is_right : RetainedIsRight
 retained_is_right model other held kept ends others covered right t = retained model other ends others covered held kept right t
 
@@ -146,7 +149,7 @@ sifted_by_keys model other changed held kept ends others covered tells m s =
     let still : (e : Entry) → Has kept e → Has held e × HasSameKeys model other e.node
     = λ e h. let q = sift_only Out held kept s e h in (q.0, λ k p. tells.same k (untouched_reached model ends changed held m e.node p.by p.reaches e q.0 refl q.1 k p.looks)) in
     let records : (e : Entry) → Has kept e → IsRecordOf (with_look model other) e
-    = λ e h. let q = still e h in record_retained model other ends others covered e (m.right.means e q.0) q.1 (m.records e q.0) in
+    = λ e h. let q = still e h in record_retained model other ends others covered e q.1 (m.records e q.0) in
     let own : (e : Entry) → Has kept e → is_input (with_look model other) e.node ≡ false
     = λ e h. let q = still e h in same_input model other ends others e.node q.1 ∙ m.right.own e.node (named held e q.0) in
     record {

@@ -36,13 +36,13 @@ input_value model (Cell at name arguments) h =
 input_value model (Item at arguments) h = absurd (cc)
 
 module _ (model : Model) (n : Node) (ends : InputsEnd model) (i : is_input model n ≡ true) where
-  abbrev v : LeadsToValue (model.look (Input n))
+  abbrev pub v : LeadsToValue (model.look (Input n))
   v = input_value model n i
 
-  abbrev gives : Outcome
+  abbrev pub gives : Outcome
   gives = Gives (record { value = v.value; namespace = None })
 
-  whole : Leads model (model.body n) (Looked (Input n) ∷ []) (Ends gives)
+  pub whole : Leads model (model.body n) (Looked (Input n) ∷ []) (Ends gives)
   whole =
       let e = ends n i in
       subst (λ run. Leads model run (Looked (Input n) ∷ []) (Ends gives)) (sym e.starts) (refl, ap e.go v.is ∙ e.ends v.value)
