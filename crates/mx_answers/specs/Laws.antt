@@ -1,6 +1,7 @@
 -- Laws of answers and of what is held.
 use Rattle.std.specs.Prelude.{◌≡◌, ℕ, ◌+◌, ◌<◌, Bool, true, false, List, [], ◌∷◌, ◌++◌, Result, Ok, Err, length}
 use Rattle.mx_value.specs.declared.node.Node.{Node}
+use Rattle.mx_value.specs.declared.read.Read.{Read}
 use Rattle.mx_value.specs.declared.value.Value.{Value}
 use Rattle.mx_value.specs.declared.refusal.EvalRefusal.{EvalRefusal}
 use Rattle.mx_value.specs.declared.refusal.EvalRefusal.TheVariants as refusal
@@ -11,9 +12,10 @@ use Rattle.mx_edit.specs.declared.scope.Scope.{Scope}
 use Rattle.mx_runs.specs.Lists.{Has}
 use Rattle.mx_runs.specs.Runs.{Model}
 use Rattle.mx_runs.specs.Inputs.{is_input, InputsEnd}
-use Rattle.mx_runs.specs.Support.{with_look, TestsAreCovered}
+use Rattle.mx_runs.specs.Chains.{HasValue}
+use Rattle.mx_runs.specs.Support.{with_look, HasSameKeys, TestsAreCovered}
 use Rattle.mx_answers.specs.Held.{most_held, nodes_of, IsRight, HoldAlike}
-use Rattle.mx_answers.specs.Records.{IsRecordOf, IsRightMemo}
+use Rattle.mx_answers.specs.Records.{IsRecordOf, HasReads, IsRightMemo}
 use Rattle.mx_answers.specs.Answers.{Evaluation, Answer, IsSettled}
 use Rattle.mx_answers.specs.Retention.{Retains, IsInScope, Clears, Tells, HasChanged, IsTouched, Sifts}
 
@@ -34,7 +36,7 @@ pub record EndAlike (a b : Result Value EvalRefusal) (after last : List Entry) (
 
 -- Two evaluations of a node from what is held alike end alike, where one is settled and the other had memory.
 abbrev pub OneStep : Type 0
-OneStep = (model : Model) (ev fv : Evaluation) (a b : Result Value EvalRefusal) (after last : List Entry) (ticks runs : ℕ) → ev.node ≡ fv.node → ev.limit ≡ fv.limit → HoldAlike ev.held fv.held → Answer model ev a after ticks → Answer model fv b last runs → IsSettled a → (b ≡ Err refusal.NoMemory → ⊥) → EndAlike a b after last ticks runs
+OneStep = (model : Model) (ev : Evaluation) (others : List Entry) (a b : Result Value EvalRefusal) (after last : List Entry) (ticks runs : ℕ) → HoldAlike ev.held others → Answer model ev a after ticks → Answer model (record ev { held = others }) b last runs → IsSettled a → (b ≡ Err refusal.NoMemory → ⊥) → EndAlike a b after last ticks runs
 
 -- what is right is held alike with itself: two evaluations from one right state are such
 abbrev pub RightIsAlike : Type 0
@@ -55,9 +57,29 @@ RetainedIsRight = (model : Model) (other : Key → KeyResult) (held kept : List 
 abbrev pub ClearedIsRight : Type 0
 ClearedIsRight = (model : Model) (scope : Scope) (held kept : List Entry) → IsRight model held → Clears model (IsInScope scope) held kept → IsRight model kept
 
+-- a node with a value has a record
+pub record IsRecorded (model : Model) (n : Node) : Type 0 where
+  pub entry : Entry
+  pub of : entry.node ≡ n
+  pub is : IsRecordOf model entry
+
+abbrev pub ValueIsRecorded : Type 0
+ValueIsRecorded = (model : Model) (n : Node) → HasValue model n → IsRecorded model n
+
 -- one node has one record
 abbrev pub OneRecord : Type 0
 OneRecord = (model : Model) (d e : Entry) → IsRecordOf model d → IsRecordOf model e → d.node ≡ e.node → d ≡ e
+
+-- the record of a node of which no supporting key is changed is its record after the edit
+abbrev pub RecordStays : Type 0
+RecordStays = (model : Model) (other : Key → KeyResult) (e : Entry) → InputsEnd model → InputsEnd (with_look model other) → TestsAreCovered model → IsRecordOf model e → HasSameKeys model other e.node → IsRecordOf (with_look model other) e
+
+-- the reads of a node are one; an input has none
+abbrev pub OneReads : Type 0
+OneReads = (model : Model) (n : Node) (xs ys : List Read) → HasReads model n xs → HasReads model n ys → xs ≡ ys
+
+abbrev pub InputReadsNone : Type 0
+InputReadsNone = (model : Model) (n : Node) → InputsEnd model → is_input model n ≡ true → HasReads model n []
 
 -- a right memo stays right where a record is held behind what it asked
 abbrev pub Holding : Type 0

@@ -1,5 +1,5 @@
 -- What is recorded of the runs that gave what is held.
-use Rattle.std.specs.Prelude.{List, [], ◌∷◌, if◌then◌else◌}
+use Rattle.std.specs.Prelude.{◌≡◌, List, [], ◌∷◌, if◌then◌else◌}
 use Rattle.mx_value.specs.declared.node.Node.{Node}
 use Rattle.mx_value.specs.declared.read.Read.{Read}
 use Rattle.mx_value.specs.declared.read.Read.TheVariants as read
@@ -43,6 +43,13 @@ pub record IsRecordOf (model : Model) (e : Entry) : Type 0 where
   pub keys : FirstEach [] (recorded_keys model events) e.keys
   pub asks : FirstEach [] (recorded_asks model events) e.asks
   pub reads : FirstEach [] (reads_of events) e.reads
+
+-- the node means a value, and its run read these, each once, in order of first occurrence
+pub record HasReads (model : Model) (n : Node) (reads : List Read) : Type 0 where
+  pub entry : Entry
+  pub of : entry.node ≡ n
+  pub is : IsRecordOf model entry
+  pub read : entry.reads ≡ reads
 
 -- each asks none but nodes before it
 abbrev pub AskBefore : List Node → List Entry → Type 0

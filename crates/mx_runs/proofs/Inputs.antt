@@ -36,13 +36,13 @@ input_value model (Cell at name arguments) h =
 input_value model (Item at arguments) h = absurd (cc)
 
 module _ (model : Model) (n : Node) (ends : InputsEnd model) (i : is_input model n ≡ true) where
-  abbrev v : LeadsToValue (model.look (Input n))
+  abbrev pub v : LeadsToValue (model.look (Input n))
   v = input_value model n i
 
-  abbrev gives : Outcome
+  abbrev pub gives : Outcome
   gives = Gives (record { value = v.value; namespace = None })
 
-  whole : Leads model (model.body n) (Looked (Input n) ∷ []) (Ends gives)
+  pub whole : Leads model (model.body n) (Looked (Input n) ∷ []) (Ends gives)
   whole =
       let e = ends n i in
       subst (λ run. Leads model run (Looked (Input n) ∷ []) (Ends gives)) (sym e.starts) (refl, ap e.go v.is ∙ e.ends v.value)
@@ -50,7 +50,7 @@ module _ (model : Model) (n : Node) (ends : InputsEnd model) (i : is_input model
   pub input_asks_none : (m : Node) → DoesAsk model n m → ⊥
   input_asks_none m a = asked_by_end model (model.body n) m a.go gives a.events (Looked (Input n) ∷ []) a.leads whole
 
-  its_key : (k : Key) → LooksUp model n k → k ≡ Input n
+  pub its_key : (k : Key) → LooksUp model n k → k ≡ Input n
   its_key k l = elim (looked_by_end model (model.body n) k l.go gives l.events (Looked (Input n) ∷ []) l.leads whole) [ inl e ↦ sym e | inr h ↦ absurd h ]
 
   pub looks_input_up : LooksUp model n (Input n)

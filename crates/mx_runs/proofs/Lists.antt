@@ -1,6 +1,7 @@
 -- Laws of what is among a list.
 use Rattle.std.proofs.Common.{suc, ◌≤◌, length, arith, Bool, true, false, ◌≡◌, List, [], ◌∷◌, ◌++◌, map, reverse, ◌⊎◌, inl, inr, refl, sym, ◌∙◌, ap, subst}
 use Rattle.std.proofs.lemmas.List.{reverse-append, reverse-reverse, append-nil, append_assoc, map-append}
+use Rattle.std.specs.Bool.{Decides}
 use Rattle.mx_value.specs.declared.node.Node.{Node}
 use Rattle.mx_value.specs.Equality.{node_eq}
 use Rattle.mx_value.proofs.NodeSames.{node_decides}
@@ -92,22 +93,34 @@ distinct_apart (y ∷ xs) ys d = λ x h k.
       | inr r ↦ distinct_apart xs ys d.1 x r k
     ]
 
--- a node is among a list, or it is not
-module _ (n : Node) where
-  among_by : (b : Bool) (m : Node) (ns : List Node) → node_eq m n ≡ b → Has ns n ⊎ (Has ns n → ⊥) → Has (m ∷ ns) n ⊎ (Has (m ∷ ns) n → ⊥)
-  among_by true m ns q h = inl (inl ((node_decides m n).0 q))
-  among_by false m ns q h =
+-- what a test of equality tells: something is among a list, or it is not
+module _ {X : Type 0} (eq : X → X → Bool) (told : (x y : X) → Decides (eq x y) (x ≡ y)) where
+  among_by : (b : Bool) (x y : X) (ys : List X) → eq y x ≡ b → Has ys x ⊎ (Has ys x → ⊥) → Has (y ∷ ys) x ⊎ (Has (y ∷ ys) x → ⊥)
+  among_by true x y ys q h = inl (inl ((told y x).0 q))
+  among_by false x y ys q h =
       elim h [
         | inl i ↦ inl (inr i)
         | inr k ↦ inr (λ i. elim i [
-          | inl e ↦ let t : node_eq m n ≡ true = (node_decides m n).1 e in let c : true ≡ false = sym t ∙ q in absurd (cc)
+          | inl e ↦ let t : eq y x ≡ true = (told y x).1 e in let c : true ≡ false = sym t ∙ q in absurd (cc)
           | inr r ↦ k r
         ])
       ]
 
-  pub among_or_not : (ns : List Node) → Has ns n ⊎ (Has ns n → ⊥)
-  among_or_not [] = inr (λ z. z)
-  among_or_not (m ∷ ns) = among_by (node_eq m n) m ns refl (among_or_not ns)
+  pub is_among : (x : X) (ys : List X) → Has ys x ⊎ (Has ys x → ⊥)
+  is_among x [] = inr (λ z. z)
+  is_among x (y ∷ ys) = among_by (eq y x) x y ys refl (is_among x ys)
+
+  -- a list has its items each once
+  pub each_of : (seen xs : List X) → (ys : List X) × FirstEach seen xs ys
+  each_of seen [] = ([], Done)
+  each_of seen (x ∷ xs) =
+      elim (is_among x seen) [
+        | inl h ↦ let q = each_of seen xs in (q.0, Again x h q.1)
+        | inr n ↦ let q = each_of (x ∷ seen) xs in (x ∷ q.0, First x n q.1)
+      ]
+
+pub among_or_not : (n : Node) (ns : List Node) → Has ns n ⊎ (Has ns n → ⊥)
+among_or_not n ns = is_among node_eq node_decides n ns
 
 -- distinct nodes that are all in a list are no more than it has
 remove_one : {X : Type 0} (ys : List X) (x : X) → Has ys x → (zs : List X) × (length ys ≡ suc (length zs)) × ((z : X) → Has ys z → (x ≡ z → ⊥) → Has zs z)
