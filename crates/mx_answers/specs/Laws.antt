@@ -15,7 +15,7 @@ use Rattle.mx_runs.specs.Inputs.{is_input, InputsEnd}
 use Rattle.mx_runs.specs.Chains.{HasValue}
 use Rattle.mx_runs.specs.Support.{with_look, HasSameKeys, TestsAreCovered}
 use Rattle.mx_answers.specs.Held.{most_held, nodes_of, IsRight, HoldAlike}
-use Rattle.mx_answers.specs.Records.{IsRecordOf, HasReads, IsRightMemo}
+use Rattle.mx_answers.specs.Records.{IsRecordOf, HasRecord, HasReads, IsRightMemo}
 use Rattle.mx_answers.specs.Answers.{Evaluation, Answer, IsSettled}
 use Rattle.mx_answers.specs.Retention.{Retains, IsInScope, Clears, Tells, HasChanged, IsTouched, Sifts}
 
@@ -58,13 +58,8 @@ abbrev pub ClearedIsRight : Type 0
 ClearedIsRight = (model : Model) (scope : Scope) (held kept : List Entry) → IsRight model held → Clears model (IsInScope scope) held kept → IsRight model kept
 
 -- a node with a value has a record
-pub record IsRecorded (model : Model) (n : Node) : Type 0 where
-  pub entry : Entry
-  pub of : entry.node ≡ n
-  pub is : IsRecordOf model entry
-
 abbrev pub ValueIsRecorded : Type 0
-ValueIsRecorded = (model : Model) (n : Node) → HasValue model n → IsRecorded model n
+ValueIsRecorded = (model : Model) (n : Node) → HasValue model n → HasRecord model n
 
 -- one node has one record
 abbrev pub OneRecord : Type 0
