@@ -211,15 +211,19 @@ value_is_recorded model n h =
 
 pub one_reads : OneReads
 one_reads model n xs ys a b =
-    let e : a.entry ≡ b.entry = one_record model a.entry b.entry a.is b.is (a.of ∙ sym b.of) in
+    let p = a.recorded in
+    let q = b.recorded in
+    let e : p.entry ≡ q.entry = one_record model p.entry q.entry p.is q.is (p.of ∙ sym q.of) in
     sym a.read ∙ ap (λ (d : Entry). d.reads) e ∙ b.read
 
 pub input_reads_none : InputReadsNone
 input_reads_none model n ends i =
     let v = (input_value model n i).value in
     record {
-      entry = record { node = n; reply = record { value = v; namespace = None }; keys = Input n ∷ []; asks = []; reads = [] };
-      of = refl;
-      is = record { events = Looked (Input n) ∷ []; leads = whole model n ends i; keys = First (Input n) (λ z. z) Done; asks = Done; reads = Done };
+      recorded = record {
+        entry = record { node = n; reply = record { value = v; namespace = None }; keys = Input n ∷ []; asks = []; reads = [] };
+        of = refl;
+        is = record { events = Looked (Input n) ∷ []; leads = whole model n ends i; keys = First (Input n) (λ z. z) Done; asks = Done; reads = Done };
+      };
       read = refl;
     }

@@ -12,10 +12,11 @@ use Rattle.mx_runs.specs.Meaning.{Means}
 use Rattle.mx_runs.specs.Chains.{Reaches, HasValue, IsFirstChain, IsRing, MeansNothing, first_or}
 use Rattle.mx_answers.specs.Held.{most_held, nodes_of, Counts, IsKnown, HoldsMore}
 
--- a chain may be limited to no more nodes
+-- the greatest limit on the nodes of a chain
 abbrev pub greatest_limit : ℕ
 greatest_limit = 100000
 
+-- a limit within its bounds
 pub record IsLimit (limit : ℕ) : Type 0 where
   pub least : 1 ≤ limit
   pub greatest : limit ≤ greatest_limit
@@ -38,6 +39,7 @@ pub record DeepChain (model : Model) (held : List Entry) (limit : ℕ) (n m : No
   pub first : IsFirstChain model (chain ++ m ∷ [])
   pub unknown : (x : Node) → Has (chain ++ m ∷ []) x → IsKnown model (nodes_of held) x → ⊥
 
+-- no chain from n is too deep
 abbrev pub NoDeepChain : Model → List Entry → ℕ → Node → Type 0
 NoDeepChain model held limit n = (m : Node) → DeepChain model held limit n m → ⊥
 

@@ -8,10 +8,11 @@ use Rattle.mx_runs.specs.Inputs.{is_input}
 use Rattle.mx_runs.specs.Meaning.{Means}
 use Rattle.mx_runs.specs.Chains.{DoesAsk, Reaches, HasValue}
 
--- no more nodes are held than may be
+-- the greatest number of nodes that are held
 abbrev pub most_held : ℕ
 most_held = 4000000
 
+-- the held nodes, in order
 abbrev pub nodes_of : List Entry → List Node
 nodes_of held = map (λ (e : Entry). e.node) held
 

@@ -15,7 +15,7 @@ use Rattle.mx_runs.specs.Inputs.{is_input, InputsEnd}
 use Rattle.mx_runs.specs.Chains.{HasValue}
 use Rattle.mx_runs.specs.Support.{with_look, HasSameKeys, TestsAreCovered}
 use Rattle.mx_answers.specs.Held.{most_held, nodes_of, IsRight, HoldAlike}
-use Rattle.mx_answers.specs.Records.{IsRecordOf, HasReads, IsRightMemo}
+use Rattle.mx_answers.specs.Records.{IsRecordOf, HasRecord, HasReads, IsRightMemo}
 use Rattle.mx_answers.specs.Answers.{Evaluation, Answer, IsSettled}
 use Rattle.mx_answers.specs.Retention.{Retains, IsInScope, Clears, Tells, HasChanged, IsTouched, Sifts}
 
@@ -54,17 +54,13 @@ ValueTicks = (model : Model) (ev : Evaluation) (v : Value) (after : List Entry) 
 abbrev pub RetainedIsRight : Type 0
 RetainedIsRight = (model : Model) (other : Key → KeyResult) (held kept : List Entry) → InputsEnd model → InputsEnd (with_look model other) → TestsAreCovered model → IsRight model held → Retains model other held kept → IsRight (with_look model other) kept
 
+-- what a clearing keeps is right
 abbrev pub ClearedIsRight : Type 0
 ClearedIsRight = (model : Model) (scope : Scope) (held kept : List Entry) → IsRight model held → Clears model (IsInScope scope) held kept → IsRight model kept
 
 -- a node with a value has a record
-pub record IsRecorded (model : Model) (n : Node) : Type 0 where
-  pub entry : Entry
-  pub of : entry.node ≡ n
-  pub is : IsRecordOf model entry
-
 abbrev pub ValueIsRecorded : Type 0
-ValueIsRecorded = (model : Model) (n : Node) → HasValue model n → IsRecorded model n
+ValueIsRecorded = (model : Model) (n : Node) → HasValue model n → HasRecord model n
 
 -- one node has one record
 abbrev pub OneRecord : Type 0
@@ -74,10 +70,11 @@ OneRecord = (model : Model) (d e : Entry) → IsRecordOf model d → IsRecordOf 
 abbrev pub RecordStays : Type 0
 RecordStays = (model : Model) (other : Key → KeyResult) (e : Entry) → InputsEnd model → InputsEnd (with_look model other) → TestsAreCovered model → IsRecordOf model e → HasSameKeys model other e.node → IsRecordOf (with_look model other) e
 
--- the reads of a node are one; an input has none
+-- a node has at most one list of reads
 abbrev pub OneReads : Type 0
 OneReads = (model : Model) (n : Node) (xs ys : List Read) → HasReads model n xs → HasReads model n ys → xs ≡ ys
 
+-- an input reads nothing
 abbrev pub InputReadsNone : Type 0
 InputReadsNone = (model : Model) (n : Node) → InputsEnd model → is_input model n ≡ true → HasReads model n []
 
@@ -95,6 +92,7 @@ pub record IsRetained (model : Model) (other : Key → KeyResult) (held kept : L
   pub memo : IsRightMemo (with_look model other) kept
   pub retains : Retains model other held kept
 
+-- what is left without what is touched by a changed key is such a memo
 abbrev pub SiftedByKeys : Type 0
 SiftedByKeys = (model : Model) (other : Key → KeyResult) (changed : Key → Bool) (held kept : List Entry) → InputsEnd model → InputsEnd (with_look model other) → TestsAreCovered model → Tells model.look other changed → IsRightMemo model held → Sifts (IsTouched (HasChanged changed) held) held kept → IsRetained model other held kept
 
@@ -104,6 +102,7 @@ pub record IsCleared (model : Model) (In : Entry → Type 0) (held kept : List E
   pub memo : IsRightMemo model kept
   pub clears : Clears model In held kept
 
+-- what is left without what is touched by a scope is such a memo
 abbrev pub SiftedByScope : Type 0
 SiftedByScope = (model : Model) (scope : Scope) (held kept : List Entry) → InputsEnd model → IsRightMemo model held → Sifts (IsTouched (IsInScope scope) held) held kept → IsCleared model (IsInScope scope) held kept
 

@@ -6,7 +6,7 @@ use Rattle.mx_value.specs.declared.read.Read.TheVariants as read
 use Rattle.mx_edit.specs.Entry.{Entry}
 use Rattle.mx_edit.specs.declared.key.Key.{Key}
 use Rattle.mx_edit.specs.declared.key.Key.TheVariants.{Input}
-use Rattle.mx_runs.specs.Lists.{Has, FirstEach}
+use Rattle.mx_runs.specs.Lists.{Has, EachOnce}
 use Rattle.mx_runs.specs.Runs.{Model, Ends, Gives, Event, Looked, Tested, Asked, Noted}
 use Rattle.mx_runs.specs.Inputs.{is_input}
 use Rattle.mx_runs.specs.Meaning.{Leads}
@@ -40,16 +40,20 @@ reads_of (Noted r ∷ es) = r ∷ reads_of es
 pub record IsRecordOf (model : Model) (e : Entry) : Type 0 where
   pub events : List Event
   pub leads : Leads model (model.body e.node) events (Ends (Gives e.reply))
-  pub keys : FirstEach [] (recorded_keys model events) e.keys
-  pub asks : FirstEach [] (recorded_asks model events) e.asks
-  pub reads : FirstEach [] (reads_of events) e.reads
+  pub keys : EachOnce (recorded_keys model events) e.keys
+  pub asks : EachOnce (recorded_asks model events) e.asks
+  pub reads : EachOnce (reads_of events) e.reads
 
--- the node means a value, and its run read these, each once, in order of first occurrence
-pub record HasReads (model : Model) (n : Node) (reads : List Read) : Type 0 where
+-- there is a record of the node: it means a value
+pub record HasRecord (model : Model) (n : Node) : Type 0 where
   pub entry : Entry
   pub of : entry.node ≡ n
   pub is : IsRecordOf model entry
-  pub read : entry.reads ≡ reads
+
+-- these are the reads of the node, each once, in order of first occurrence
+pub record HasReads (model : Model) (n : Node) (reads : List Read) : Type 0 where
+  pub recorded : HasRecord model n
+  pub read : recorded.entry.reads ≡ reads
 
 -- each asks none but nodes before it
 abbrev pub AskBefore : List Node → List Entry → Type 0

@@ -1,5 +1,5 @@
 -- The examples, proved.
-use Rattle.std.proofs.Common.{◌≡◌, ℕ, ◌≤◌, true, false, List, [], ◌∷◌, ◌++◌, length, inl, inr, refl, sym, ◌∙◌, subst, arith}
+use Rattle.std.proofs.Common.{Ok, ◌≡◌, ℕ, ◌≤◌, true, false, List, [], ◌∷◌, ◌++◌, length, inl, inr, refl, sym, ◌∙◌, subst, arith}
 use Rattle.mx_value.specs.declared.value.Value.{Value}
 use Rattle.mx_value.specs.declared.value.Segment.{Segment}
 use Rattle.mx_value.specs.declared.node.Node.{Node}
@@ -22,8 +22,9 @@ use Rattle.mx_answers.specs.Held.{nodes_of, Counts, IsKnown}
 use Rattle.mx_answers.specs.Records.{IsRecordOf, AskBefore}
 use Rattle.mx_answers.specs.Answers.{DeepChain, NoDeepChain, AreLost, Completes}
 use Rattle.mx_answers.proofs.Sifting.{records_right}
+use Rattle.mx_answers.proofs.Alike.{one_step}
 use Rattle.mx_answers_examples.specs.Small.{put, asker, circle, look, small, asked, plain, input_or, formula, body}
-use Rattle.mx_answers_examples.specs.Examples.{RunsMeetPremises, AskerGivesTheInput, InputIsNotHeld, CircleIsARing, NoRunIsAllowed, HeldIsRight, ChangeDrops, SameChangeKeeps}
+use Rattle.mx_answers_examples.specs.Examples.{RunsMeetPremises, AskerGivesTheInput, AskerEndsOnlySo, InputIsNotHeld, CircleIsARing, NoRunIsAllowed, HeldIsRight, ChangeDrops, SameChangeKeeps}
 use Rattle.mx_answers_examples.proofs.Small.{inputs_end, put_means, asker_means, run_of_asker, asker_runs, asker_asks, does_ask, put_reaches, asker_reaches, circle_asks_itself, circle_lost, circle_asks, circle_reaches}
 
 -- a run that has ended tests no key
@@ -203,6 +204,12 @@ module _ (v : Value) where
 
 pub asker_gives_the_input : AskerGivesTheInput
 asker_gives_the_input v limit least = (record { reply = plain v; means = asker_means v; value = refl }, asker_completes v limit least)
+
+pub asker_ends_only_so : AskerEndsOnlySo
+asker_ends_only_so v limit b last runs least x k =
+    one_step (small v) (record { node = asker; held = []; limit = limit }) [] (Ok v) b (asked v ∷ []) last 1 runs
+    (record { nodes = λ y. ((λ z. z), (λ z. z)); replies = λ d e z. absurd z; many = refl })
+    (asker_gives_the_input v limit least) x tt k
 
 pub input_is_not_held : InputIsNotHeld
 input_is_not_held v limit = (record { reply = plain v; means = put_means v; value = refl }, put_completes v limit)

@@ -1,12 +1,15 @@
 -- What the definitions say of the small model.
-use Rattle.std.specs.Prelude.{◌≡◌, ℕ, ◌≤◌, [], ◌∷◌, Ok, Err}
+use Rattle.std.specs.Prelude.{◌≡◌, ℕ, ◌≤◌, List, [], ◌∷◌, Result, Ok, Err}
 use Rattle.mx_value.specs.declared.value.Value.{Value}
-use Rattle.mx_value.specs.declared.refusal.EvalRefusal.TheVariants.{Ring, TooDeep}
+use Rattle.mx_value.specs.declared.refusal.EvalRefusal.{EvalRefusal}
+use Rattle.mx_value.specs.declared.refusal.EvalRefusal.TheVariants.{Ring, TooDeep, NoMemory}
+use Rattle.mx_edit.specs.Entry.{Entry}
 use Rattle.mx_runs.specs.Inputs.{InputsEnd}
 use Rattle.mx_runs.specs.Support.{TestsAreCovered}
 use Rattle.mx_answers.specs.Records.{IsRightMemo}
 use Rattle.mx_answers.specs.Answers.{Answer}
 use Rattle.mx_answers.specs.Retention.{Retains}
+use Rattle.mx_answers.specs.Laws.{EndAlike}
 use Rattle.mx_answers_examples.specs.Small.{put, asker, circle, look, small, asked}
 
 -- the runs of the small model are such as the laws are proved of
@@ -20,6 +23,10 @@ RunsMeetPremises = (v : Value) → AreRuns v
 -- the node that asks the input gives its value, by one run, in which it recorded the input's key and no ask
 abbrev pub AskerGivesTheInput : Type 0
 AskerGivesTheInput = (v : Value) (limit : ℕ) → 1 ≤ limit → Answer (small v) (record { node = asker; held = []; limit = limit }) (Ok v) (asked v ∷ []) 1
+
+-- and no other right answer is settled: the node is held once, and not run twice
+abbrev pub AskerEndsOnlySo : Type 0
+AskerEndsOnlySo = (v : Value) (limit : ℕ) (b : Result Value EvalRefusal) (last : List Entry) (runs : ℕ) → 1 ≤ limit → Answer (small v) (record { node = asker; held = []; limit = limit }) b last runs → (b ≡ Err NoMemory → ⊥) → EndAlike (Ok v) b (asked v ∷ []) last 1 runs
 
 abbrev pub InputIsNotHeld : Type 0
 InputIsNotHeld = (v : Value) (limit : ℕ) → Answer (small v) (record { node = put; held = []; limit = limit }) (Ok v) [] 0

@@ -40,10 +40,12 @@ pub record ReachedFrom (model : Model) (ns : List Node) (x : Node) : Type 0 wher
   pub among : Has ns from
   pub reaches : Reaches model from x
 
+-- n means a value
 pub record HasValue (model : Model) (n : Node) : Type 0 where
   pub reply : Reply
   pub means : Means model n (Gives reply)
 
+-- no level gives n an end
 abbrev pub MeansNothing : Model → Node → Type 0
 MeansNothing model n = (o : Outcome) → Means model n o → ⊥
 
@@ -54,12 +56,13 @@ pub record AsksFirst (model : Model) (a b : Node) (rest : List Node) : Type 0 wh
   pub leads : Leads model (model.body a) events (Asks b go)
   pub fresh : (x : Node) → Has (b ∷ rest) x → ReachedFrom model (asks_of events) x → ⊥
 
+-- each asks the next in this way
 abbrev pub AskInTurn : Model → List Node → Type 0
 AskInTurn model [] = Unit {0}
 AskInTurn model (a ∷ []) = Unit {0}
 AskInTurn model (a ∷ b ∷ rest) = AsksFirst model a b rest × AskInTurn model (b ∷ rest)
 
--- distinct nodes of which each asks the next, before it asks one that reaches it or one behind it
+-- Distinct nodes of which each asks the next, and before that none that reaches the next or one behind it.
 abbrev pub IsFirstChain : Model → List Node → Type 0
 IsFirstChain model ns = Distinct ns × AskInTurn model ns
 
@@ -68,6 +71,7 @@ pub record LastAsk (model : Model) (n m : Node) : Type 0 where
   pub asks : DoesAsk model n m
   pub lost : MeansNothing model m
 
+-- the first of these, or m where there is none
 abbrev pub first_or : Node → List Node → Node
 first_or m [] = m
 first_or m (n ∷ ns) = n

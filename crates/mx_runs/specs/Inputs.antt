@@ -10,6 +10,7 @@ use Rattle.mx_edit.specs.declared.key.KeyResult.{KeyResult}
 use Rattle.mx_edit.specs.declared.key.KeyResult.TheVariants as found
 use Rattle.mx_runs.specs.Runs.{Model, Run, Looks, Ends, Gives}
 
+-- the segment is a name, and no item
 abbrev pub is_name : {X Y Z : Type 0} → Segment-F X Y Z → Bool
 is_name (Segment-F.Name name) = true
 is_name (Segment-F.Item items) = false
@@ -19,6 +20,7 @@ abbrev pub is_static : List Segment → Bool
 is_static [] = true
 is_static (s ∷ at) = is_name (out-Segment s) && is_static at
 
+-- the key leads to a value that was put in
 abbrev pub is_value : KeyResult → Bool
 is_value (found.Value v) = true
 is_value r = false

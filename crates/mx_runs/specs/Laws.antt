@@ -17,7 +17,7 @@ use Rattle.mx_runs.specs.Support.{with_look, LooksUp, Supports, KeySupports, IsU
 abbrev pub OneMeaning : Type 0
 OneMeaning = (model : Model) (n : Node) (o p : Outcome) → Means model n o → Means model n p → o ≡ p
 
--- the value that was put in is what the node means, and its run does nothing but look it up
+-- The value that was put in is what the node means, and its run does nothing but look it up.
 pub record IsItsInput (model : Model) (n : Node) : Type 0 where
   pub value : Value
   pub put_in : model.look (Input n) ≡ found.Value value
@@ -25,6 +25,7 @@ pub record IsItsInput (model : Model) (n : Node) : Type 0 where
   pub looks : (key : Key) → LooksUp model n key ↔ (key ≡ Input n)
   pub asks_none : (m : Node) → DoesAsk model n m → ⊥
 
+-- an input is such a node
 abbrev pub InputIsItsValue : Type 0
 InputIsItsValue = (model : Model) (n : Node) → InputsEnd model → is_input model n ≡ true → IsItsInput model n
 
@@ -46,9 +47,11 @@ KeysSupport = (model : Model) (n : Node) (r : Reply) (key : Key) → TestsAreCov
 abbrev pub KeyAgreement : Type 0
 KeyAgreement = (model : Model) (other : Key → KeyResult) (n : Node) (r : Reply) → TestsAreCovered model → Means model n (Gives r) → HasSameKeys model other n → Agrees model other n r
 
+-- a run that comes to no end has at most one last ask
 abbrev pub OneLastAsk : Type 0
 OneLastAsk = (model : Model) (n m k : Node) → LastAsk model n m → LastAsk model n k → m ≡ k
 
+-- a node has at most one ring
 abbrev pub OneRing : Type 0
 OneRing = (model : Model) (n : Node) (xs ys : List Node) → IsRing model n xs → IsRing model n ys → xs ≡ ys
 

@@ -20,3 +20,7 @@ pub data FirstEach {X : Type 0} : List X → List X → List X → Type 0 where
   Done : {seen : List X} → FirstEach seen [] []
   Again : {seen xs ys : List X} (x : X) → Has seen x → FirstEach seen xs ys → FirstEach seen (x ∷ xs) ys
   First : {seen xs ys : List X} (x : X) → (Has seen x → ⊥) → FirstEach (x ∷ seen) xs ys → FirstEach seen (x ∷ xs) (x ∷ ys)
+
+-- the second is the first, each once, in order of first occurrence
+abbrev pub EachOnce : {X : Type 0} → List X → List X → Type 0
+EachOnce xs ys = FirstEach [] xs ys

@@ -27,6 +27,7 @@ abbrev pub level : Model → ℕ → Node → Outcome
 level model zero n = NoLevel
 level model (suc k) n = ending model.look (level model k) (model.body n)
 
+-- the run came to an end at this level
 abbrev pub IsReached : Outcome → Type 0
 IsReached (Gives r) = Unit {0}
 IsReached (Faults k n line) = Unit {0}
