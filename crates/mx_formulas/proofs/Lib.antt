@@ -5,3 +5,6 @@ mod Bound
 mod Walking
 mod Items
 mod Sound
+mod Equations
+mod Rules
+mod NodeRules
