@@ -1,5 +1,5 @@
 -- What each fold gives at a constructor: how each form of expression is read and each form of statement is done.
-use Rattle.std.proofs.Common.{◌≡◌, refl, rules, Some, None, List, [], ◌∷◌, ◌++◌, ℕ, ℤ, ap, sym, ◌∙◌, Option, Bool, true, false, if◌then◌else◌, map, option_map}
+use Rattle.std.proofs.Common.{◌≡◌, rules, Some, None, List, [], ◌∷◌, ℤ, ap, sym, ◌∙◌, Option, Bool, true, if◌then◌else◌, map}
 use Rattle.std.specs.Prelude.{◌+◌, sum}
 use Rattle.mx_value.specs.declared.label.Label.{Label}
 use Rattle.mx_value.specs.declared.value.Value.{Value, out-Value, the_lemmas as values}
@@ -23,20 +23,18 @@ use Rattle.mx_syntax.specs.declared.expr.SumOp.{SumOp}
 use Rattle.mx_syntax.specs.declared.expr.ProductPart.{ProductPart, roll-ProductPart}
 use Rattle.mx_syntax.specs.declared.expr.ProductOp.{ProductOp}
 use Rattle.mx_syntax.specs.declared.stmt.ItemEntry.{ItemEntry}
-use Rattle.mx_syntax.specs.declared.stmt.Stmt.{Stmt, fold-roll-Stmt}
+use Rattle.mx_syntax.specs.declared.stmt.Stmt.{fold-roll-Stmt}
 use Rattle.mx_syntax.specs.declared.stmt.Stmt.TheVariants as stmt
 use Rattle.mx_syntax.specs.declared.stmt.Stmt.TheOpen.{Stmt-F}
 use Rattle.mx_syntax.specs.declared.stmt.Stmt.TheFolds.{para-roll-Stmt}
 use Rattle.mx_syntax.specs.Heights.{first_line, returns, returns_step, any_arm}
 use Rattle.mx_syntax.specs.Locals.{bound_by, stmt_step as bound_step, arm_step as bound_arm}
-use Rattle.mx_ops.specs.declared.op.Op.{Op}
-use Rattle.mx_ops.specs.Answers.{made}
 use Rattle.mx_runs.specs.Runs.{Run}
-use Rattle.mx_formulas.specs.Environments.{Env, Reading, computed}
+use Rattle.mx_formulas.specs.Environments.{Env}
 use Rattle.mx_formulas.specs.Lookup.{Callee, Called, named, valued}
 use Rattle.mx_formulas.specs.Operations.{adding, multiplying}
-use Rattle.mx_formulas.specs.Expressions.{Behind, Call, Index, Attr, values_from, joined_from, applied_from, part_read, reading}
-use Rattle.mx_formulas.specs.Statements.{Doing, ArmDoing, Returned, Plain, doing, stmt_step, arm_step, displayed_from}
+use Rattle.mx_formulas.specs.Expressions.{Call, Index, Attr, joined_from, applied_from, part_read, reading}
+use Rattle.mx_formulas.specs.Statements.{Doing, ArmDoing, Plain, doing, stmt_step, arm_step, displayed_from}
 use Rattle.mx_formulas.proofs.Forms.{trailer_read, sum_read, product_read}
 
 -- ---- values and addresses

@@ -8,3 +8,4 @@ mod Sound
 mod Equations
 mod Rules
 mod NodeRules
+mod Worked

@@ -1,20 +1,19 @@
 -- By which events the parts of a formula, the walk of an address and the run of a node come to what they give: a rule for
 -- each form.
-use Rattle.std.proofs.Common.{◌≡◌, refl, None, Some, Ok, Result, List, [], ◌∷◌, ◌++◌, ℕ, ℤ, ap, sym, ◌∙◌, subst, length, Option, Bool, true, false, nat_le, if◌then◌else◌, map}
+use Rattle.std.proofs.Common.{◌≡◌, refl, None, Some, Ok, List, [], ◌∷◌, ◌++◌, ap, sym, ◌∙◌, subst, length, Option, Bool, true, false, nat_le, if◌then◌else◌, map}
 use Rattle.std.proofs.lemmas.List.{append-nil, append_assoc}
 use Rattle.std.specs.List.{list_all}
 use Rattle.mx_value.specs.Plain.{is_plain}
 use Rattle.mx_value.specs.declared.label.Label.{Label}
-use Rattle.mx_value.specs.declared.value.Value.{Value, out-Value}
+use Rattle.mx_value.specs.declared.value.Value.{Value}
 use Rattle.mx_value.specs.declared.value.Value.TheVariants as value
-use Rattle.mx_value.specs.declared.value.CellsAt.{CellsAt, out-CellsAt, roll-CellsAt, out-roll-CellsAt}
+use Rattle.mx_value.specs.declared.value.CellsAt.{CellsAt, roll-CellsAt, out-roll-CellsAt}
 use Rattle.mx_value.specs.declared.value.Segment.{Segment, out-Segment}
-use Rattle.mx_value.specs.declared.value.Segment.TheOpen.{Segment-F, Value-F, CellsAt-F}
+use Rattle.mx_value.specs.declared.value.Segment.TheOpen.{CellsAt-F}
 use Rattle.mx_value.specs.declared.value.Segment.TheVariants as segment
 use Rattle.mx_value.specs.declared.namespace.Namespace.{Namespace}
-use Rattle.mx_value.specs.declared.fault.FaultKind.TheVariants.{TypeMismatch, WrongCountInside, NotCallable, TooLarge, NoIndex, NoName}
+use Rattle.mx_value.specs.declared.fault.FaultKind.TheVariants.{TypeMismatch, WrongCountInside, NotCallable, TooLarge, NoName}
 use Rattle.mx_value.specs.declared.read.Read.TheVariants as read
-use Rattle.mx_value.specs.declared.node.Node.{Node}
 use Rattle.mx_value.specs.declared.node.Node.TheVariants.{Cell, Item}
 use Rattle.mx_syntax.specs.declared.expr.Expr.{Expr}
 use Rattle.mx_syntax.specs.declared.expr.Expr.TheVariants as expr
@@ -25,19 +24,10 @@ use Rattle.mx_syntax.specs.declared.expr.ProductOp.{ProductOp}
 use Rattle.mx_syntax.specs.declared.expr.Trailer.{Trailer}
 use Rattle.mx_syntax.specs.declared.expr.Trailer.TheVariants as trailer
 use Rattle.mx_syntax.specs.declared.expr.Args.TheVariants as arguments
-use Rattle.mx_syntax.specs.declared.stmt.Stmt.{Stmt}
-use Rattle.mx_syntax.specs.declared.stmt.Stmt.TheVariants as stmt
-use Rattle.mx_syntax.specs.declared.stmt.Param.{Param}
 use Rattle.mx_syntax.specs.declared.stmt.Params.{Params}
 use Rattle.mx_syntax.specs.declared.stmt.Formula.{Formula}
-use Rattle.mx_syntax.specs.declared.stmt.ItemEntry.{ItemEntry}
-use Rattle.mx_syntax.specs.declared.stmt.ItemEntry.TheVariants as entry
-use Rattle.mx_syntax.specs.Heights.{first_line}
-use Rattle.mx_syntax.specs.Lists.{flat}
-use Rattle.mx_syntax.specs.Locals.{bound_by, add_all}
 use Rattle.mx_syntax.specs.Binding.{bound, is_wrong_count}
 use Rattle.mx_edit.specs.Rows.{TableRows}
-use Rattle.mx_edit.specs.declared.reference.RefValue.{RefValue}
 use Rattle.mx_edit.specs.declared.reference.RefValue.TheVariants as reference
 use Rattle.mx_edit.specs.declared.key.Key.{Key}
 use Rattle.mx_edit.specs.declared.key.Key.TheVariants as key
@@ -45,26 +35,21 @@ use Rattle.mx_edit.specs.declared.key.KeyResult.{KeyResult}
 use Rattle.mx_edit.specs.declared.key.KeyResult.TheVariants as found
 use Rattle.mx_edit.specs.declared.reply.Reply.{Reply}
 use Rattle.mx_ops.specs.declared.op.Op.{Op}
-use Rattle.mx_ops.specs.Kinds.{Content}
-use Rattle.mx_runs.specs.Runs.{Run, Ends, Looks, Tests, Asks, Notes, Gives, NoSuch, WrongCount, Event, Looked, Tested, Asked, Noted, Outcome}
+use Rattle.mx_runs.specs.Runs.{Run, Ends, Looks, Tests, Asks, Notes, Gives, NoSuch, WrongCount, Event, Looked, Tested, Asked, Noted}
 use Rattle.mx_runs.specs.Meaning.{Means, Leads}
-use Rattle.mx_runs.specs.Inputs.{is_static}
 use Rattle.mx_runs.proofs.Levels.{leads_append}
-use Rattle.mx_runs.proofs.Meanings.{finished}
-use Rattle.mx_formulas.specs.Namespaces.{Step, Overlay, root, child, value_in, overlaid_by, ends_with_name, is_short, is_allowed, item_at}
-use Rattle.mx_formulas.specs.Walks.{entered, item_entered, bound_or_refused, stepped, walked_from, walked}
-use Rattle.mx_formulas.specs.Environments.{Env, Locals, Reading, fault, computed, local_of}
+use Rattle.mx_formulas.specs.Namespaces.{Step, root, child, value_in, ends_with_name, is_short, is_allowed, item_at}
+use Rattle.mx_formulas.specs.Walks.{entered, item_entered, stepped, walked_from, walked}
+use Rattle.mx_formulas.specs.Environments.{Env, Reading, fault, computed, local_of}
 use Rattle.mx_formulas.specs.References.{Target, target_of, relative, target_found, target_read}
-use Rattle.mx_formulas.specs.Lookup.{Callee, Called, Function, bound_name, overlaid_or, sought_in, sought, local_or, global_found, as_value, valued, attribute_in, attribute}
+use Rattle.mx_formulas.specs.Lookup.{Callee, Called, bound_name, overlaid_or, sought_in, sought, local_or, global_found, as_value, valued, attribute_in}
 use Rattle.mx_formulas.specs.Calls.{cells_asked, item_asked, space_asked, space_sought, entry_of, table_found, value_called, called, content_indexed, indexed}
 use Rattle.mx_formulas.specs.Operations.{adding, multiplying, of_two}
-use Rattle.mx_formulas.specs.Expressions.{Behind, Call, Index, Attr, values_from, values_beside, joined_from, applied, applied_from, part_read, reading}
-use Rattle.mx_formulas.specs.Statements.{Returned, Plain, Display, Doing, named_reading, displayed_from, done_from, done_by, body_done}
-use Rattle.mx_formulas.specs.Nodes.{arguments_of, set_locals, unset_locals, first_env, value_given, cells_returned, cells_found, cells_run, input_or, item_returned, item_done, item_made, item_found, item_run, body}
+use Rattle.mx_formulas.specs.Expressions.{Behind, Call, Index, Attr, values_from, joined_from, applied, applied_from, part_read, reading}
 use Rattle.mx_formulas.specs.Laws.{model_of}
-use Rattle.mx_formulas.proofs.Walking.{out_name, out_item, walked_push, further, name_steps}
+use Rattle.mx_formulas.proofs.Walking.{out_item, walked_push, further, name_steps}
 use Rattle.mx_formulas.proofs.Forms.{trailer_read, sum_read, product_read}
-use Rattle.mx_formulas.proofs.Equations.{out_space, out_cells, out_table, part-lit, part-name, part-sum, sum-part, part-product, product-part, part-post, trailer-call, trailer-index, trailer-attr, doing-return, bound-return, first_line-return, doing-display, bound-display, first_line-display}
+use Rattle.mx_formulas.proofs.Equations.{out_space, out_cells, out_table, part-lit, part-name, part-sum, sum-part, part-product, product-part, part-post, trailer-call, trailer-index, trailer-attr}
 
 pub from : (look : Key → KeyResult) (run other rest : Run) (es : List Event) → run ≡ other → Leads (model_of look) other es rest → Leads (model_of look) run es rest
 from look run other rest es e l = subst (λ r. Leads (model_of look) r es rest) (sym e) l
@@ -88,7 +73,8 @@ on look ns next s es fs w few h e =
     record {
       way = record { leads = λ go. subst (λ at. Leads (model_of look) (walked_from at root go) (es ++ fs) (go next)) (sym e) (l go) };
       leads = λ go. subst (λ at. Leads (model_of look) (walked at go) (es ++ fs) (go next)) (sym e)
-        (subst (λ run. Leads (model_of look) run (es ++ fs) (go next)) (sym (walked_push ns.at s go)) (l go)) }
+          (subst (λ run. Leads (model_of look) run (es ++ fs) (go next)) (sym (walked_push ns.at s go)) (l go));
+    }
 
 pub top : {look : Key → KeyResult} (name : Label) → Walks look (child name root) []
 top {look = look} name = on look root (child name root) (segment.Name name) [] [] (record { leads = λ go. refl }) refl (name_steps look root name) refl
@@ -158,14 +144,16 @@ pub in_source : {look : Key → KeyResult} {ns : Namespace} {name : Label} {env 
 in_source {look = look} {ns = ns} {name = name} {env = env} {es = es} {v = v} r h e p = record {
   leads = λ go other.
       from look _ (Looks (key.Name ns.source name) (bound_name ns name env go other)) (go v) (Looked (key.Name ns.source name) ∷ es) (ap (λ (o : Option Value). overlaid_or o ns name env go other) h)
-      (refl, from look _ (bound_name ns name env go other r) (go v) es (ap (bound_name ns name env go other) e) (p.leads go other)) }
+      (refl, from look _ (bound_name ns name env go other r) (go v) es (ap (bound_name ns name env go other) e) (p.leads go other));
+}
 
 -- a name in a formula that is no local
 pub name_sought : {look : Key → KeyResult} {env : Env} {name : Label} {es : List Event} {v : Value} → local_of env.locals name ≡ None → SoughtComes look env.space name env es v → Comes look env (expr.Name name) es v
 name_sought {look = look} {env = env} {name = name} {es = es} {v = v} free p = record {
   leads = λ go.
       from look _ (sought name env go) (go (Called v)) es (part-name name env go ∙ ap (λ (o : Option (Option Value)). local_or o name env go) free)
-      (p.leads (λ w. go (Called w)) (Looks (key.Global name) (global_found name env go))) }
+      (p.leads (λ w. go (Called w)) (Looks (key.Global name) (global_found name env go)));
+}
 
 pub plain_reference : {look : Key → KeyResult} {ns : Namespace} {name : Label} {env : Env} {v : Value} {owner : List Label} → NameComes look ns name env (found.Ref (reference.Plain v) owner) (Noted (read.Ref ns.at name) ∷ []) v
 plain_reference = record { leads = λ go other. (refl, refl) }
@@ -178,8 +166,12 @@ pub target_reference : {look : Key → KeyResult} {ns : Namespace} {name : Label
     → look (key.Exists target.path) ≡ found.There → is_short target.at ≡ true
     → NameComes look ns name env (found.Ref (reference.Target path fixed) owner) (Noted (read.Ref ns.at name) ∷ Looked (key.Exists target.path) ∷ []) (value.Space target.at)
 target_reference {look = look} {ns = ns} {name = name} {env = env} {path = path} {fixed = fixed} {owner = owner} target is e short = record {
-  leads = λ go other. (refl, from look _ (target_read target env go) (go (value.Space target.at)) (Looked (key.Exists target.path) ∷ []) (ap (λ t. target_read t env go) is)
-      (refl, ap (target_found target env go) e ∙ ap (λ (b : Bool). if b then go (value.Space target.at) else fault TooLarge env) short)) }
+  leads = λ go other. (
+    refl,
+    from look _ (target_read target env go) (go (value.Space target.at)) (Looked (key.Exists target.path) ∷ []) (ap (λ t. target_read t env go) is)
+        (refl, ap (target_found target env go) e ∙ ap (λ (b : Bool). if b then go (value.Space target.at) else fault TooLarge env) short),
+  );
+}
 
 pub cells_here : {look : Key → KeyResult} {ns : Namespace} {name : Label} {env : Env} → is_short ns.at ≡ true → NameComes look ns name env found.CellsHere [] (value.Cells (roll-CellsAt (record { space = ns.at; name = name })))
 cells_here {ns = ns} {name = name} {env = env} short = record { leads = λ go other. ap (λ (b : Bool). if b then go (value.Cells (roll-CellsAt (record { space = ns.at; name = name }))) else fault TooLarge env) short }
@@ -202,21 +194,24 @@ joined_more {look = look} {env = env} {parts = parts} {x = x} {y = y} {s = s} {v
       let more : Value → Run = λ next. joined_from parts next env go in
       let one : Value → Run = λ w. computed (of_two op x w) env more in
       leads_append (model_of look) (reading e env one) (one y) (go v) es fs (with_value look env e es y p one)
-      (from look (one y) (more s) (go v) fs (ap (λ r. computed r env more) h) (q.leads go)) }
+      (from look (one y) (more s) (go v) fs (ap (λ r. computed r env more) h) (q.leads go));
+}
 
 pub sum : {look : Key → KeyResult} {env : Env} {a : Expr} {x v : Value} {es fs : List Event} (rest : List SumPart) → Comes look env a es x → JoinedComes look env (map sum_read rest) x fs v → Comes look env (expr.Sum a rest) (es ++ fs) v
 sum {look = look} {env = env} {a = a} {x = x} {v = v} {es = es} {fs = fs} rest p q = record {
   leads = λ go.
       let one : Value → Run = λ w. joined_from (map sum_read rest) w env (λ u. go (Called u)) in
       from look _ (reading a env one) (go (Called v)) (es ++ fs) (part-sum a rest env go)
-      (leads_append (model_of look) (reading a env one) (one x) (go (Called v)) es fs (with_value look env a es x p one) (q.leads (λ u. go (Called u)))) }
+      (leads_append (model_of look) (reading a env one) (one x) (go (Called v)) es fs (with_value look env a es x p one) (q.leads (λ u. go (Called u))));
+}
 
 pub product : {look : Key → KeyResult} {env : Env} {a : Expr} {x v : Value} {es fs : List Event} (rest : List ProductPart) → Comes look env a es x → JoinedComes look env (map product_read rest) x fs v → Comes look env (expr.Product a rest) (es ++ fs) v
 product {look = look} {env = env} {a = a} {x = x} {v = v} {es = es} {fs = fs} rest p q = record {
   leads = λ go.
       let one : Value → Run = λ w. joined_from (map product_read rest) w env (λ u. go (Called u)) in
       from look _ (reading a env one) (go (Called v)) (es ++ fs) (part-product a rest env go)
-      (leads_append (model_of look) (reading a env one) (one x) (go (Called v)) es fs (with_value look env a es x p one) (q.leads (λ u. go (Called u)))) }
+      (leads_append (model_of look) (reading a env one) (one x) (go (Called v)) es fs (with_value look env a es x p one) (q.leads (λ u. go (Called u))));
+}
 
 pub plus : {look : Key → KeyResult} {env : Env} {parts : List (Op × Reading)} {x v : Value} {es : List Event} (op : SumOp) (e : Expr) → JoinedComes look env ((adding op, reading e) ∷ parts) x es v → JoinedComes look env (sum_read (roll-SumPart (record { op = op; of = e })) ∷ parts) x es v
 plus {look = look} {env = env} {parts = parts} {x = x} {v = v} {es = es} op e p = subst (λ (part : Op × Reading). JoinedComes look env (part ∷ parts) x es v) (sym (sum-part op e)) p
@@ -240,14 +235,16 @@ trail_more look env c d t ts b es fs v is p q = record {
   leads = λ go.
       let more : Value → Run = λ w. applied_from (map trailer_read ts) (Called w) env go in
       from look _ (applied b c env more) (go d) (es ++ fs) (ap (λ (x : Behind). applied x c env more) is)
-      (leads_append (model_of look) (applied b c env more) (more v) (go d) es fs (p.leads more) (q.leads go)) }
+      (leads_append (model_of look) (applied b c env more) (more v) (go d) es fs (p.leads more) (q.leads go));
+}
 
 pub post : {look : Key → KeyResult} {env : Env} {first : Expr} {ts : List Trailer} {c d : Callee} {es fs : List Event} → Stands look env first es c → TrailComes look env c ts fs d → Stands look env (expr.Post first ts) (es ++ fs) d
 post {look = look} {env = env} {first = first} {ts = ts} {c = c} {d = d} {es = es} {fs = fs} p q = record {
   leads = λ go.
       let one : Callee → Run = λ x. applied_from (map trailer_read ts) x env go in
       from look _ (part_read first env one) (go d) (es ++ fs) (part-post first ts env go)
-      (leads_append (model_of look) (part_read first env one) (one c) (go d) es fs (p.leads one) (q.leads go)) }
+      (leads_append (model_of look) (part_read first env one) (one c) (go d) es fs (p.leads one) (q.leads go));
+}
 
 -- arguments, from the left
 pub record AllCome (look : Key → KeyResult) (env : Env) (args : List Expr) (es : List Event) (vs : List Value) : Type 0 where
@@ -261,7 +258,8 @@ more {look = look} {env = env} {a = a} {args = args} {es = es} {fs = fs} {v = v}
   leads = λ done go.
       let one : Value → Run = λ u. values_from (map valued (map part_read args)) (done ++ u ∷ []) env go in
       leads_append (model_of look) (reading a env one) (one v) (go (done ++ v ∷ vs)) es fs (with_value look env a es v p one)
-      (subst (λ r. Leads (model_of look) (one v) fs r) (ap go (append_assoc done (v ∷ []) vs)) (q.leads (done ++ v ∷ []) go)) }
+      (subst (λ r. Leads (model_of look) (one v) fs r) (ap go (append_assoc done (v ∷ []) vs)) (q.leads (done ++ v ∷ []) go));
+}
 
 pub record CallComes (look : Key → KeyResult) (env : Env) (c : Callee) (vs : List Value) (es : List Event) (v : Value) : Type 0 where
   pub leads : (go : Value → Run) → Leads (model_of look) (called c vs env go) es (go v)
@@ -286,10 +284,12 @@ pub attribute_of : {look : Key → KeyResult} {env : Env} {ns : Namespace} {name
     → TrailComes look env (Called (value.Space ns.at)) (trailer.Attr name ∷ ts) ((es ++ fs) ++ gs) d
 attribute_of {look = look} {env = env} {ns = ns} {name = name} {d = d} {ts = ts} {es = es} {fs = fs} {gs = gs} {v = v} w p r =
     trail_more look env (Called (value.Space ns.at)) d (trailer.Attr name) ts (Attr name) (es ++ fs) gs v (trailer-attr name)
-    (record { leads = λ go.
-      let through : Namespace → Run = λ m. sought_in m name env go (fault NoName env) in
-      from look _ (walked ns.at through) (go v) (es ++ fs) (ap (λ content. attribute_in content name env go) (out_space ns.at))
-      (leads_append (model_of look) (walked ns.at through) (through ns) (go v) es fs (w.leads through) (p.leads go _)) }) r
+    (record {
+      leads = λ go.
+          let through : Namespace → Run = λ m. sought_in m name env go (fault NoName env) in
+          from look _ (walked ns.at through) (go v) (es ++ fs) (ap (λ content. attribute_in content name env go) (out_space ns.at))
+          (leads_append (model_of look) (walked ns.at through) (through ns) (go v) es fs (w.leads through) (p.leads go _));
+    }) r
 
 -- ---- calls
 
@@ -328,7 +328,8 @@ call_of_cells {look = look} {env = env} {ns = ns} {name = name} {f = f} {allow =
       let k : Namespace → Run = λ n. Looks (key.Cells n.source name) (cells_asked n name vs env go) in
       from look _ (walked ns.at k) (go r.value) (es ++ cells_events ns name us r) (as_walk look env ns name f allow vs us e plain count binds go)
       (leads_append (model_of look) (walked ns.at k) (k ns) (go r.value) es (cells_events ns name us r) (w.leads k)
-      (refl, from look _ (Asks (Cell ns.at name us) (λ x. go x.value)) (go r.value) (Asked (Cell ns.at name us) r ∷ []) (asking look env ns name f allow vs us e plain count binds go) (refl, m, refl))) }
+      (refl, from look _ (Asks (Cell ns.at name us) (λ x. go x.value)) (go r.value) (Asked (Cell ns.at name us) r ∷ []) (asking look env ns name f allow vs us e plain count binds go) (refl, m, refl)));
+}
 
 -- what a call of a space does behind the walk
 abbrev pub space_events : Namespace → List Value → Reply → List Event
@@ -359,17 +360,20 @@ pub call_of_space : {look : Key → KeyResult} {env : Env} {ns : Namespace} {ps 
     → CallComes look env (Called (value.Space ns.at)) vs (es ++ space_events ns us r) r.value
 call_of_space {look = look} {env = env} {ns = ns} {ps = ps} {vs = vs} {us = us} {es = es} {r = r} w n e plain count binds allowed m = record {
   leads = λ go. from look _ (walked ns.at (space_sought vs env go)) (go r.value) (es ++ space_events ns us r) (ap (λ content. value_called content vs env go) (out_space ns.at))
-      (space_leads look env ns ps vs us n e plain count binds allowed go es r w m) }
+      (space_leads look env ns ps vs us n e plain count binds allowed go es r w m);
+}
 
 pub index_of_space : {look : Key → KeyResult} {env : Env} {ns : Namespace} {ps : Params} {vs us : List Value} {es : List Event} {r : Reply} → Walks look ns es → ends_with_name ns.at ≡ true → look (key.Params ns.source) ≡ found.Params ps
     → list_all is_plain vs ≡ true → is_wrong_count ps.params (length vs) ≡ false → bound ps.params vs ≡ us → is_allowed (item_at ns us) ≡ true → Means (model_of look) (Item ns.at us) (Gives r)
     → IndexComes look env (value.Space ns.at) vs (es ++ space_events ns us r) r.value
 index_of_space {look = look} {env = env} {ns = ns} {ps = ps} {vs = vs} {us = us} {es = es} {r = r} w n e plain count binds allowed m = record {
   leads = λ go. from look _ (walked ns.at (space_sought vs env go)) (go r.value) (es ++ space_events ns us r) (ap (λ content. content_indexed content (value.Space ns.at) vs env go) (out_space ns.at))
-      (space_leads look env ns ps vs us n e plain count binds allowed go es r w m) }
+      (space_leads look env ns ps vs us n e plain count binds allowed go es r w m);
+}
 
 pub index_of_table : {look : Key → KeyResult} {env : Env} {name : Label} {t : TableRows} {vs : List Value} {v : Value} → look (key.Table name) ≡ found.Table t → entry_of t vs ≡ Ok v
     → IndexComes look env (value.Table name) vs (Noted (read.Table name) ∷ Looked (key.Table name) ∷ []) v
 index_of_table {look = look} {env = env} {name = name} {t = t} {vs = vs} {v = v} e h = record {
   leads = λ go. from look _ (Notes (read.Table name) (Looks (key.Table name) (table_found vs env go))) (go v) (Noted (read.Table name) ∷ Looked (key.Table name) ∷ []) (ap (λ content. content_indexed content (value.Table name) vs env go) (out_table name))
-      (refl, (refl, ap (table_found vs env go) e ∙ ap (λ a. computed a env go) h)) }
+      (refl, (refl, ap (table_found vs env go) e ∙ ap (λ a. computed a env go) h));
+}
