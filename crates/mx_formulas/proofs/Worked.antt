@@ -99,7 +99,7 @@ pub relative_target : row.RelativeTarget
 relative_target =
     means (within_run [] (has_item (codes "S") (Int (pos 3) ∷ []) []) leading_walk refl refl refl
     (post (name_sought refl (in_source _ refl refl (target_reference (record { at = (child (codes "T") leading_space).at; path = row.space_st }) refl refl refl)))
-    (attribute_of (below (codes "T") leading_walk refl) (in_source found.CellsHere refl refl (cells_here refl))
+    (attribute_of (below (codes "T") leading_walk refl) (in_source found.CellsHere refl refl cells_here)
     (call none (call_of_cells (below (codes "T") leading_walk refl) refl refl refl refl in_item) trail_end))) refl)
 
 -- S.T.v()
@@ -110,7 +110,7 @@ pub fixed_target : row.FixedTarget
 fixed_target =
     means (within_run [] (has_item (codes "S") (Int (pos 3) ∷ []) []) leading_walk refl refl refl
     (post (name_sought refl (in_source _ refl refl (target_reference (record { at = (child (codes "T") (child (codes "S") root)).at; path = row.space_st }) refl refl refl)))
-    (attribute_of (below (codes "T") (top (codes "S")) refl) (in_source found.CellsHere refl refl (cells_here refl))
+    (attribute_of (below (codes "T") (top (codes "S")) refl) (in_source found.CellsHere refl refl cells_here)
     (call none (call_of_cells (below (codes "T") (top (codes "S")) refl) refl refl refl refl not_in_item) trail_end))) refl)
 
 -- ---- formulas that are taken over
