@@ -11,3 +11,4 @@ mod Rules
 mod NodeRules
 mod Worked
 mod Binds
+mod FormRules
