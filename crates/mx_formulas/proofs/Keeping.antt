@@ -127,7 +127,7 @@ module _ (look : Key → KeyResult) (P : Run → Type 0) (Came : Namespace → T
 
   module _ (ns : Namespace) (name : Label) (env : Env) (go : Value → Run) (other : Run) (k : Onwards go) (o : P other) where
     bound_name_kept : (r : KeyResult) → P (bound_name ns name env go other r)
-    bound_name_kept found.CellsHere = cells_kept ns.at name env go k
+    bound_name_kept found.CellsHere = k _
     bound_name_kept found.Child = space_kept (child name ns).at env go k
     bound_name_kept (found.Ref v owner) = keeps.noted _ _ (reference_kept v owner ns env go k)
     bound_name_kept found.Missing = o

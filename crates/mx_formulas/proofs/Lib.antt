@@ -4,4 +4,11 @@ mod Bodies
 mod Bound
 mod Walking
 mod Items
+mod Walked
 mod Sound
+mod Equations
+mod Rules
+mod NodeRules
+mod Worked
+mod Binds
+mod FormRules

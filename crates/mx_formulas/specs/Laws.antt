@@ -1,14 +1,17 @@
 -- Laws of the runs of formulas, over any way of looking keys up.
-use Rattle.std.specs.Prelude.{◌≡◌, List, Some}
+use Rattle.std.specs.Prelude.{◌≡◌, List, [], ◌∷◌, ◌++◌, Some}
 use Rattle.mx_value.specs.declared.value.Value.TheVariants.{Space}
 use Rattle.mx_value.specs.declared.value.Segment.{Segment}
 use Rattle.mx_value.specs.declared.namespace.Namespace.{Namespace}
 use Rattle.mx_value.specs.declared.node.Node.{Node}
+use Rattle.mx_value.specs.declared.node.Node.TheVariants.{Item}
+use Rattle.mx_value.specs.declared.value.Value.{Value}
+use Rattle.mx_value.specs.declared.value.Segment.TheVariants as segment
 use Rattle.mx_edit.specs.declared.key.Key.{Key}
 use Rattle.mx_edit.specs.declared.key.KeyResult.{KeyResult}
 use Rattle.mx_edit.specs.declared.reply.Reply.{Reply}
-use Rattle.mx_runs.specs.Runs.{Model, Run, Event}
-use Rattle.mx_runs.specs.Meaning.{Leads}
+use Rattle.mx_runs.specs.Runs.{Model, Run, Event, Gives}
+use Rattle.mx_runs.specs.Meaning.{Means, Leads}
 use Rattle.mx_runs.specs.Chains.{DoesAsk}
 use Rattle.mx_runs.specs.Inputs.{InputsEnd}
 use Rattle.mx_runs.specs.Support.{TestsAreCovered}
@@ -43,3 +46,17 @@ AskedIsBound = (look : Key → KeyResult) (n m : Node) → DoesAsk (model_of loo
 -- a key that a run with a value tests is looked up by a node that it asks
 abbrev pub TestsAreOfAsked : Type 0
 TestsAreOfAsked = (look : Key → KeyResult) → TestsAreCovered (model_of look)
+
+-- a node has at most one bound form
+abbrev pub OneBoundForm : Type 0
+OneBoundForm = (look : Key → KeyResult) (n b c : Node) → BindsTo (model_of look) n b → BindsTo (model_of look) n c → b ≡ c
+
+-- a bound form is its own bound form
+abbrev pub BoundIsBound : Type 0
+BoundIsBound = (look : Key → KeyResult) (n b : Node) → BindsTo (model_of look) n b → BindsTo (model_of look) b b
+
+-- an item node that is its own bound form gives the space at its address with the item
+abbrev pub ItemsGiveSpaces : Type 0
+ItemsGiveSpaces =
+    (look : Key → KeyResult) (at : List Segment) (args : List Value) (r : Reply) → BindsTo (model_of look) (Item at args) (Item at args)
+    → Means (model_of look) (Item at args) (Gives r) → IsSpaceAt (at ++ segment.Item args ∷ []) r
