@@ -1,0 +1,12 @@
+pub mod Expanded
+pub mod Matches
+pub mod OneChild
+pub mod OrderLemmas
+pub mod OrderSteps
+pub mod PathOrder
+pub mod SiblingLemmas
+pub mod SortLemmas
+pub mod SortSteps
+pub mod Statics
+pub mod TableLemmas
+pub mod Walked
