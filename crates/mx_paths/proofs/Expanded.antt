@@ -1,12 +1,11 @@
 -- From one path of the table to the next, and the end of the walk.
-use Rattle.std.proofs.Common.{◌≡◌, ℕ, zero, suc, ◌+◌, ◌<◌, ◌≤◌, Bool, true, false, List, [], ◌∷◌, ◌++◌, map, length, take, get_or, Option, Some, None, slice_get, ◌⊎◌, inl, inr, refl, sym, ◌∙◌, ap, subst, arith}
+use Rattle.std.proofs.Common.{◌≡◌, ℕ, zero, suc, ◌<◌, ◌≤◌, List, [], ◌∷◌, ◌++◌, map, length, take, Option, Some, None, slice_get, inl, inr, refl, sym, ◌∙◌, ap, subst, arith}
 use Rattle.std.specs.Prelude.{IsTrue, slice_index_or}
 use Rattle.std.specs.List.{filter_map, cons_option}
 use Rattle.std.proofs.lemmas.Option.{same_Some}
 use Rattle.mx_c3.specs.declared.space.SpaceId.{SpaceId}
 use Rattle.mx_c3.specs.Lists.{Has, Among}
 use Rattle.mx_c3.specs.InOrder.{AllBelow}
-use Rattle.mx_edit.specs.declared.refusal.EditRefusal.{EditRefusal}
 use Rattle.mx_model.specs.Records.{Name, Path, ModelRecord}
 use Rattle.mx_model.specs.declared.layers.Layered.TheVariants.{Layers}
 use Rattle.mx_model.specs.Layers.{layers, is_there, is_static, of_children, child_of, id_of, at_top}
@@ -17,14 +16,14 @@ use Rattle.std.specs.Cmp.Lexicographic.{slice_cmp}
 use Rattle.mx_c3.proofs.ListLemmas.{has_left}
 use Rattle.mx_model.proofs.Places.{id_within}
 use Rattle.mx_paths.proofs.OneChild.{one_child}
-use Rattle.mx_model.specs.Sound.{IsSound, AreSpaces, HasSpaces}
+use Rattle.mx_model.specs.Sound.{IsSound, AreSpaces}
 use Rattle.mx_model.proofs.SoundLemmas.{children_spaces}
-use Rattle.mx_model.proofs.Filtered.{map_has, has_map}
+use Rattle.mx_model.proofs.Filtered.{map_has}
 use Rattle.mx_paths.specs.declared.child.Child.{Child}
 use Rattle.mx_paths.specs.Names.{AreNames, IsNamed}
-use Rattle.mx_paths.specs.Siblings.{IsRising, named, all_named}
+use Rattle.mx_paths.specs.Siblings.{IsRising, all_named}
 use Rattle.mx_paths.specs.Table.{Row, paths_in, IsInOrder, IsTableOf}
-use Rattle.mx_paths.specs.Walking.{IsBegun, IsBelow, IsWalked, IsParent, IsExpanding, IsFamily, IsTop, AreFamilies}
+use Rattle.mx_paths.specs.Walking.{IsWalked, IsExpanding, IsTop, AreFamilies}
 use Rattle.mx_paths.proofs.PathOrder.{long_push, before_push, before_trans, before_not}
 use Rattle.mx_paths.proofs.SiblingLemmas.{has_called}
 use Rattle.mx_paths.proofs.Statics.{static_names, parent_static, layers_push, layers_static, static_ended}

@@ -1,10 +1,10 @@
 -- The layers of a path with one defined child are the order of that child.
-use Rattle.std.proofs.Common.{◌≡◌, ◌<◌, Bool, true, false, List, [], ◌∷◌, length, Option, Some, None, Result, Ok, Err, inl, inr, refl, sym, ◌∙◌, ap, subst, arith}
+use Rattle.std.proofs.Common.{◌≡◌, ◌<◌, Bool, true, false, List, [], ◌∷◌, length, Some, None, Result, Ok, Err, refl, sym, ◌∙◌, ap, subst, arith}
 use Rattle.std.specs.Prelude.{◌||◌, if◌then◌else◌}
 use Rattle.mx_c3.specs.declared.space.SpaceId.{SpaceId}
 use Rattle.mx_c3.specs.Lists.{Has, Distinct}
-use Rattle.mx_c3.specs.Merge.{same, stands, first_free, without, without_all, in_tail, merge, IsMerge}
-use Rattle.mx_c3.specs.Linearisation.{c3, each, before_all}
+use Rattle.mx_c3.specs.Merge.{stands, first_free, without, merge, IsMerge}
+use Rattle.mx_c3.specs.Linearisation.{c3, before_all}
 use Rattle.mx_c3.proofs.ListLemmas.{is_same}
 use Rattle.mx_c3.proofs.NextLaws.{stands_has}
 use Rattle.mx_c3.proofs.MergeLemmas.{without_none}
@@ -36,7 +36,7 @@ one_merge : (d : SpaceId) (rest : List SpaceId) → Distinct (d ∷ rest) → Is
 one_merge d rest u = (
   ap (λ b. if b || (false || false) then first_free ((d ∷ rest) ∷ (d ∷ []) ∷ []) (d ∷ []) else Some d) (not_among rest d u.0),
   subst (λ (ys : List SpaceId). IsMerge (ys ∷ without d (d ∷ []) ∷ []) rest) (sym (without_own d rest u.0)) (
-    subst (λ (ys : List SpaceId). IsMerge (rest ∷ ys ∷ []) rest) (sym (without_own d [] (λ h. absurd h))) (own_merge rest u.1)),
+      subst (λ (ys : List SpaceId). IsMerge (rest ∷ ys ∷ []) rest) (sym (without_own d [] (λ h. absurd h))) (own_merge rest u.1)),
 )
 
 alone : (text : ModelRecord) (s : SpaceId) (r : Result (List SpaceId) (List SpaceId)) → IsSound text → s.0 < length text.spaces → c3 (base_lists text) s ≡ r → layered (merge_orders (s ∷ []) (before_all r (Ok []))) ≡ layered r

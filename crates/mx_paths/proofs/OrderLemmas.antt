@@ -1,9 +1,8 @@
 -- The orders of spaces, from a table of orders.
-use Rattle.std.proofs.Common.{◌≡◌, ℕ, zero, suc, ◌+◌, ◌<◌, List, [], ◌∷◌, ◌++◌, length, take, drop, get_or, Option, Some, None, Result, Ok, Err, slice_get, inl, inr, refl, sym, ◌∙◌, ap, subst, arith}
+use Rattle.std.proofs.Common.{◌≡◌, ℕ, ◌+◌, ◌<◌, List, [], ◌∷◌, ◌++◌, length, take, drop, get_or, Option, Some, None, Result, Ok, Err, inl, inr, refl, sym, ◌∙◌, ap}
 use Rattle.std.proofs.lemmas.List.{take_more, take-append-drop}
 use Rattle.std.proofs.lemmas.Option.{same_Some}
 use Rattle.mx_c3.specs.declared.space.SpaceId.{SpaceId}
-use Rattle.mx_c3.specs.Lists.{Has}
 use Rattle.mx_c3.specs.InOrder.{AllBelow}
 use Rattle.mx_c3.specs.Known.{known, known_in}
 use Rattle.mx_c3.specs.Linearisation.{c3, each, before_all}

@@ -1,17 +1,16 @@
 -- The order of a space from those of its bases, and the layers of a path from those of its children.
-use Rattle.std.proofs.Common.{◌≡◌, ℕ, ◌+◌, ◌<◌, ◌≤◌, inl, List, [], ◌∷◌, ◌++◌, length, get_or, Option, Some, None, Result, Ok, Err, slice_get, refl, sym, ◌∙◌, ap, subst, arith}
+use Rattle.std.proofs.Common.{◌≡◌, ◌<◌, ◌≤◌, inl, List, [], ◌∷◌, ◌++◌, length, get_or, Option, Some, None, Result, Ok, Err, slice_get, refl, sym, ◌∙◌, ap, subst, arith}
 use Rattle.std.proofs.lemmas.Option.{same_Some, get_or_from_slice_get}
 use Rattle.mx_c3.specs.declared.space.SpaceId.{SpaceId}
 use Rattle.mx_c3.specs.Lists.{Has, Distinct, AllDistinct}
 use Rattle.mx_c3.specs.InOrder.{AllBelow}
 use Rattle.mx_c3.specs.Known.{known}
-use Rattle.mx_c3.specs.Merge.{merge, put, put_all}
+use Rattle.mx_c3.specs.Merge.{merge, put_all}
 use Rattle.mx_c3.specs.Linearisation.{c3, each, bases_of, from_orders}
 use Rattle.mx_c3.proofs.ListLemmas.{all_distinct_at}
 use Rattle.mx_c3.proofs.LinearLemmas.{c3_step, base_in_range}
 use Rattle.mx_model.specs.Records.{ModelRecord}
-use Rattle.mx_model.specs.declared.layers.Layered.{Layered}
-use Rattle.mx_model.specs.declared.layers.Layered.TheVariants.{Layers, NoOrder, NotStatic}
+use Rattle.mx_model.specs.declared.layers.Layered.TheVariants.{NoOrder}
 use Rattle.mx_model.specs.Layers.{base_lists, of_children, layered, merge_orders}
 use Rattle.mx_model.specs.Sound.{IsSound, AreSpaces}
 use Rattle.mx_model.proofs.SoundLemmas.{many, last_spaces, each_spaces}

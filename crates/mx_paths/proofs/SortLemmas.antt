@@ -1,6 +1,5 @@
 -- How children are entered in the order of their names.
-use Rattle.std.proofs.Common.{◌≡◌, ℕ, zero, suc, ◌+◌, ◌<◌, ◌≤◌, Bool, true, false, List, [], ◌∷◌, ◌++◌, length, take, drop, get_or, Option, Some, None, ◌⊎◌, inl, inr, refl, sym, ◌∙◌, ap, subst, arith, add-one}
-use Rattle.std.specs.Prelude.{if◌then◌else◌}
+use Rattle.std.proofs.Common.{◌≡◌, ℕ, zero, suc, ◌+◌, ◌<◌, ◌≤◌, Bool, true, false, List, [], ◌∷◌, ◌++◌, length, take, drop, get_or, Option, Some, None, ◌⊎◌, inl, inr, refl, sym, ◌∙◌, ap, subst, arith}
 use Rattle.std.specs.Ordering.{ordering_reverse}
 use Rattle.std.specs.declared.cmp.Ordering.{Ordering}
 use Rattle.std.specs.declared.cmp.Ordering.TheVariants.{Less, Equal, Greater}
@@ -8,9 +7,9 @@ use Rattle.std.specs.Cmp.Lexicographic.{nat_list_cmp_total}
 use Rattle.mx_value.specs.Name.{same_name}
 use Rattle.mx_c3.specs.declared.space.SpaceId.{SpaceId}
 use Rattle.mx_c3.specs.Lists.{Has}
-use Rattle.mx_c3.proofs.ListLemmas.{has_cases, has_more, drop_more}
+use Rattle.mx_c3.proofs.ListLemmas.{has_cases, has_more}
 use Rattle.mx_model.specs.Records.{Name}
-use Rattle.mx_model.proofs.NameLemmas.{same_is, is_same}
+use Rattle.mx_model.proofs.NameLemmas.{same_is}
 use Rattle.mx_paths.specs.declared.child.Child.{Child}
 use Rattle.mx_paths.specs.Siblings.{Precedes, IsRising, named}
 use Rattle.mx_paths.specs.Sorting.{IsEntered, IsPlace, IsBetween}
@@ -19,7 +18,7 @@ use Rattle.mx_paths.proofs.SiblingLemmas.{chosen, precedes_trans, some_named}
 
 -- ---- names
 
-other_side : (a b : Name) (o : Ordering) → bytes_cmp a b ≡ o → (Precedes a b → ⊥) → (a ≡ b → ⊥) → Precedes b a
+pub other_side : (a b : Name) (o : Ordering) → bytes_cmp a b ≡ o → (Precedes a b → ⊥) → (a ≡ b → ⊥) → Precedes b a
 other_side a b Less e n m = absurd (n e)
 other_side a b Equal e n m = absurd (m (name_same a b e))
 other_side a b Greater e n m = nat_list_cmp_total.antisymm b a ∙ ap ordering_reverse e
@@ -131,7 +130,7 @@ entered_named (c ∷ cs) (suc i) child n apart =
 pub entered : (cs : List Child) (place : ℕ) (child : Child) → IsRising cs → IsPlace cs child.name place → named child.name cs ≡ None → IsEntered child cs (take place cs ++ child ∷ drop place cs)
 entered cs place child r at none = record {
   rising = rising_by cs place child r at.before (λ c h.
-  let n = λ (e : c.name ≡ child.name). none_here child.name cs c none (drop_in cs place c h) (sym e) in
-  other_side c.name child.name (bytes_cmp c.name child.name) refl (at.behind c h) n);
+      let n = λ (e : c.name ≡ child.name). none_here child.name cs c none (drop_in cs place c h) (sym e) in
+      other_side c.name child.name (bytes_cmp c.name child.name) refl (at.behind c h) n);
   has = λ n. entered_named cs place child n (λ c h e. none_here child.name cs c none h e);
 }

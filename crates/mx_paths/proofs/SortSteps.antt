@@ -1,5 +1,5 @@
 -- One more space is entered among the children of its parent.
-use Rattle.std.proofs.Common.{◌≡◌, ℕ, zero, suc, ◌+◌, ◌<◌, ◌≤◌, Bool, true, false, List, [], ◌∷◌, ◌++◌, length, take, ◌-◌, replicate, get_or, slice_set, Option, Some, None, slice_get, inl, inr, refl, sym, ◌∙◌, ap, subst, arith}
+use Rattle.std.proofs.Common.{◌≡◌, ℕ, zero, suc, ◌+◌, ◌<◌, ◌≤◌, Bool, true, false, List, [], ◌∷◌, ◌++◌, length, take, ◌-◌, replicate, get_or, slice_set, Option, Some, None, slice_get, refl, sym, ◌∙◌, ap, subst, arith}
 use Rattle.std.specs.Prelude.{if◌then◌else◌, ◌==◌, nat_lt, is_some, IsTrue, option_map, option_and_then}
 use Rattle.std.proofs.lemmas.Bool.Decides.{nat_tests}
 use Rattle.std.proofs.lemmas.Option.{same_Some, slice_get-map}
@@ -20,7 +20,7 @@ use Rattle.mx_paths.specs.Siblings.{IsRising, named}
 use Rattle.mx_model.specs.Readers.{path_in}
 use Rattle.mx_paths.specs.Walking.{IsTop, AreFamilies}
 use Rattle.mx_paths.specs.Sorting.{IsEntered, AreSorted, among_first}
-use Rattle.mx_paths.proofs.SiblingLemmas.{chosen, not_same}
+use Rattle.mx_paths.proofs.SiblingLemmas.{chosen}
 
 -- ---- one space more
 

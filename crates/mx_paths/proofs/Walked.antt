@@ -1,32 +1,28 @@
 -- The walk over the static paths of a text, step by step.
-use Rattle.std.proofs.Common.{◌≡◌, ℕ, zero, suc, ◌+◌, ◌<◌, ◌≤◌, Bool, true, false, List, [], ◌∷◌, ◌++◌, map, length, take, get_or, Option, Some, None, Result, Ok, Err, slice_get, ◌⊎◌, inl, inr, refl, sym, ◌∙◌, ap, subst, arith}
+use Rattle.std.proofs.Common.{◌≡◌, suc, ◌<◌, ◌≤◌, Bool, true, false, List, [], ◌∷◌, ◌++◌, map, length, Some, None, Result, Ok, Err, ◌⊎◌, inl, inr, refl, sym, ◌∙◌, ap, subst, arith}
 use Rattle.std.specs.Prelude.{IsTrue}
-use Rattle.std.specs.List.{filter_map}
-use Rattle.std.proofs.lemmas.List.{length-map, length-append, map-append}
+use Rattle.std.proofs.lemmas.List.{length-map, map-append}
 use Rattle.mx_c3.specs.declared.space.SpaceId.{SpaceId}
 use Rattle.mx_c3.specs.Lists.{Has, Among, Distinct}
 use Rattle.mx_c3.specs.Linearisation.{c3, each}
 use Rattle.mx_c3.proofs.ListLemmas.{has_left, has_right, has_push_cases}
 use Rattle.mx_edit.specs.declared.refusal.EditRefusal.{EditRefusal}
-use Rattle.mx_edit.specs.declared.refusal.EditRefusal.TheVariants as refusal
-use Rattle.mx_edit.specs.declared.refusal.Limit.TheVariants as limit
 use Rattle.mx_model.specs.Records.{Name, Path, ModelRecord}
-use Rattle.mx_model.specs.declared.layers.Layered.{Layered}
-use Rattle.mx_model.specs.declared.layers.Layered.TheVariants.{Layers, NoOrder, NotStatic}
-use Rattle.mx_model.specs.Layers.{layers, is_there, is_static, of_children, layered, merge_orders, base_lists, child_of, id_of, below}
-use Rattle.mx_model.specs.Walk.{Before, own_trouble, HasBefore, MeetsAt, Meets, MeetsNothing}
-use Rattle.mx_model.specs.Sound.{IsSound, AreSpaces}
-use Rattle.mx_model.proofs.Filtered.{has_map, map_has}
+use Rattle.mx_model.specs.declared.layers.Layered.TheVariants.{Layers, NotStatic}
+use Rattle.mx_model.specs.Layers.{layers, is_there, is_static, of_children, layered, merge_orders, base_lists}
+use Rattle.mx_model.specs.Walk.{Before, own_trouble, HasBefore, MeetsAt, Meets}
+use Rattle.mx_model.specs.Sound.{AreSpaces}
+use Rattle.mx_model.proofs.Filtered.{map_has}
 use Rattle.mx_model.proofs.NameLemmas.{same_is, is_same}
 use Rattle.mx_value.specs.Name.{same_name}
 use Rattle.mx_paths.specs.declared.child.Child.{Child}
 use Rattle.mx_paths.specs.Names.{AreNames, IsNamed}
-use Rattle.mx_paths.specs.Siblings.{Precedes, IsRising, all_named, firsts, without_first, IsLeast}
-use Rattle.mx_paths.specs.Table.{Row, paths_in, IsInOrder, IsTableOf}
-use Rattle.mx_paths.specs.Walking.{IsBegun, IsBelow, IsWalked, IsParent, IsExpanding}
-use Rattle.mx_paths.proofs.PathOrder.{Ordered, First, Same, Second, ordered, names_init, long_push, before_push, before_last, before_trans, before_not}
+use Rattle.mx_paths.specs.Siblings.{Precedes, all_named, firsts, without_first, IsLeast}
+use Rattle.mx_paths.specs.Table.{Row, paths_in, IsInOrder}
+use Rattle.mx_paths.specs.Walking.{IsBegun, IsWalked, IsExpanding}
+use Rattle.mx_paths.proofs.PathOrder.{First, Same, Second, ordered, before_push, before_last, before_trans, before_not}
 use Rattle.mx_paths.proofs.SiblingLemmas.{AreLow, least_low, left_rising, left_among, left_above, left_other, left_own, called, has_called, first_among, none_left, low_among}
-use Rattle.mx_paths.proofs.Statics.{static_names, parent_names, parent_static, layers_static, not_there, static_ended, Ended}
+use Rattle.mx_paths.proofs.Statics.{static_names, parent_names, parent_static, layers_static, not_there, static_ended}
 
 -- ---- no more distinct items than the list that has them
 

@@ -1,5 +1,5 @@
 -- Names of spaces.
-use Rattle.std.specs.Prelude.{◌≡◌, List, [], ◌∷◌, IsTrue}
+use Rattle.std.specs.Prelude.{[], ◌∷◌, IsTrue}
 use Rattle.mx_value.specs.Name.{is_name}
 use Rattle.mx_c3.specs.Lists.{Has}
 use Rattle.mx_model.specs.Records.{Path, ModelRecord}

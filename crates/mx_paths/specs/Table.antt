@@ -1,11 +1,11 @@
 -- The table of all static paths of a text.
-use Rattle.std.specs.Prelude.{◌≡◌, List, [], ◌∷◌, ◌≤◌, IsTrue, map, length, Option, position, option_map, slice_get, Result, Ok, Err}
+use Rattle.std.specs.Prelude.{◌≡◌, List, [], ◌∷◌, ◌<◌, IsTrue, map, length, Option, Some, None, position, option_map, slice_get, Result, Ok, Err}
 use Rattle.mx_value.specs.Name.{same_path}
 use Rattle.mx_c3.specs.Lists.{Has}
 use Rattle.mx_c3.specs.declared.space.SpaceId.{SpaceId}
 use Rattle.mx_edit.specs.declared.refusal.EditRefusal.TheVariants as refusal
 use Rattle.mx_model.specs.Records.{Path, ModelRecord}
-use Rattle.mx_model.specs.declared.layers.Layered.TheVariants.{Layers}
+use Rattle.mx_model.specs.declared.layers.Layered.TheVariants.{Layers, NotStatic}
 use Rattle.mx_model.specs.Layers.{layers, is_static}
 use Rattle.mx_model.specs.Walk.{Before, Meets, MeetsNothing}
 use Rattle.mx_paths.specs.declared.id.PathId.{PathId}
@@ -49,3 +49,16 @@ Builds text (Ok rows) = IsTableOf text rows × MeetsNothing text
 Builds text (Err (refused.NoOrder path)) = Meets text (refusal.NoOrder path)
 Builds text (Err (refused.TooMany limit)) = Meets text (refusal.TooMany limit)
 Builds text (Err refused.NoMemory) = Unit {0}
+
+-- ---- readers of a table
+
+-- a path is found by the number of its row, and is not where it is no static one
+abbrev pub IsFoundIn : ModelRecord → List Row → Path → Option PathId → Type 0
+IsFoundIn text rows path (Some id) = (spaces : List SpaceId) × (layers text path ≡ Layers spaces) × (layers_at rows id ≡ Some spaces) × (id.0 < length rows)
+IsFoundIn text rows path None = layers text path ≡ NotStatic
+
+-- the layers of a row are those of its path
+pub record IsLayered (text : ModelRecord) (rows : List Row) (id : PathId) (spaces : List SpaceId) : Type 0 where
+  pub path : Path
+  pub at : path_at rows id ≡ Some path
+  pub is : layers text path ≡ Layers spaces

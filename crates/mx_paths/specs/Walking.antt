@@ -1,11 +1,12 @@
 -- Where the walk over the static paths of a text stands.
-use Rattle.std.specs.Prelude.{◌≡◌, ℕ, suc, ◌≤◌, ◌<◌, List, [], ◌∷◌, ◌++◌, IsTrue, length, take, Some, None, Result, Ok, Err, ◌⊎◌, slice_index_or}
+use Rattle.std.specs.Prelude.{◌≡◌, ℕ, ◌+◌, map, ◌≤◌, ◌<◌, List, [], ◌∷◌, ◌++◌, IsTrue, length, take, Some, None, Result, Ok, Err, ◌⊎◌, slice_index_or}
 use Rattle.mx_c3.specs.Lists.{Has, Among}
 use Rattle.mx_c3.specs.declared.space.SpaceId.{SpaceId}
 use Rattle.mx_model.specs.Records.{Name, Path, ModelRecord}
 use Rattle.mx_model.specs.declared.layers.Layered.TheVariants.{Layers}
 use Rattle.mx_model.specs.Layers.{id_of, child_of, base_lists, layers, is_static, of_children}
-use Rattle.mx_model.specs.Sound.{AreSpaces}
+use Rattle.mx_model.specs.Sound.{IsSound, AreSpaces}
+use Rattle.mx_paths.specs.Names.{IsNamed}
 use Rattle.mx_model.specs.Walk.{Before, own_trouble, Meets}
 use Rattle.mx_edit.specs.declared.refusal.EditRefusal.{EditRefusal}
 use Rattle.mx_edit.specs.declared.refusal.EditRefusal.TheVariants as refusal
@@ -98,7 +99,7 @@ Adds text path old new (Err (refused.NoOrder p)) = MeetsBehind text path (length
 Adds text path old new (Err (refused.TooMany l)) = MeetsBehind text path (length old) (refusal.TooMany l)
 Adds text path old new (Err refused.NoMemory) = Unit {0}
 
--- as far as the paths at these many places, after the place where static paths begin, their children are there
+-- the children of the paths at the first places, after the place where static paths begin, are there
 abbrev pub IsWalkedTo : ModelRecord → List Row → ℕ → Type 0
 IsWalkedTo text rows count = IsWalked text rows (take count ([] ∷ paths_in rows))
 
@@ -107,9 +108,37 @@ pub record IsLonger (old new : List Row) : Type 0 where
   pub more : List Row
   pub is : new ≡ old ++ more
 
--- the children of the path at a place are added, or the walk meets something
-abbrev pub Expands : ModelRecord → ℕ → List Row → Result (Unit {0}) PathsRefusal → Type 0
-Expands text place new (Ok done) = IsWalkedTo text new (suc place)
-Expands text place new (Err (refused.NoOrder p)) = Meets text (refusal.NoOrder p)
-Expands text place new (Err (refused.TooMany l)) = Meets text (refusal.TooMany l)
-Expands text place new (Err refused.NoMemory) = Unit {0}
+-- some children of a path are still to come
+pub record IsOpen (text : ModelRecord) (rows : List Row) (path : Path) (families : List (List Child)) : Type 0 where
+  pub done : List Path
+  pub at : IsExpanding text rows done path families
+
+-- one step leads from families to others
+abbrev pub GoesOn : ModelRecord → Path → List Row → List (List Child) → List Row → List (List Child) → Type 0
+GoesOn text path rows families new left = (done : List Path) → IsExpanding text rows done path families → IsExpanding text new done path left
+
+-- the walk meets this; only want of memory is free
+abbrev pub IsMet : ModelRecord → PathsRefusal → Type 0
+IsMet text (refused.NoOrder p) = Meets text (refusal.NoOrder p)
+IsMet text (refused.TooMany l) = Meets text (refusal.TooMany l)
+IsMet text refused.NoMemory = Unit {0}
+
+-- the children of a path are added behind the others, or the walk meets something
+abbrev pub Closes : ModelRecord → List Path → Path → List Row → List Row → Result (Unit {0}) PathsRefusal → Type 0
+Closes text done path old new (Ok u) = IsWalked text new (done ++ path ∷ []) × IsLonger old new
+Closes text done path old new (Err why) = IsMet text why
+
+-- so are those of the path at a place
+abbrev pub Expands : ModelRecord → ℕ → List Row → List Row → Result (Unit {0}) PathsRefusal → Type 0
+Expands text place old new (Ok u) = IsWalkedTo text new (place + 1) × IsLonger old new
+Expands text place old new (Err why) = IsMet text why
+
+-- what the walk needs of a text and of what it takes from it
+pub record IsReady (text : ModelRecord) (top : List Child) (families : List (List Child)) (orders : Orders) : Type 0 where
+  pub sound : IsSound text
+  pub named : IsNamed text
+  pub sources : AreSources text top families orders
+
+-- the children of layers
+abbrev pub families_in : List (List Child) → List SpaceId → List (List Child)
+families_in families spaces = map (λ (s : SpaceId). slice_index_or families s.0 []) spaces

@@ -6,6 +6,7 @@ ghost use Rattle.mx_paths.specs.Siblings.{Precedes, IsRising, named};
 ghost use Rattle.mx_paths.specs.Sorting.{IsEntered, IsPlace, AreSorted};
 
 use crate::child::Child;
+use crate::family::Family;
 use mx_c3::space::SpaceId;
 use mx_list::list::List;
 use mx_model::text::ModelText;
@@ -39,6 +40,13 @@ impl Siblings {
         }
     }
 
+    /// The same children, to be gone through.
+    pub fn into_family(self, alloc: Global) -> Result<Family, AllocError>
+        ensures { IfOk result (λ f. f ≡ self) }
+    {
+        Family::from_vec(alloc, self.children)
+    }
+
     /// Enters a child of a new name.
     fn enter(&mut self, child: Child) -> Result<(), AllocError>
         requires rising { IsRising self.old }
@@ -52,10 +60,7 @@ impl Siblings {
 }
 
 /// The spaces at the top, and the children of each space by its place.
-pub fn families_of(
-    alloc: Global,
-    text: &ModelText,
-) -> Result<(Siblings, Vec<Siblings>), AllocError>
+pub fn families_of(alloc: Global, text: &ModelText) -> Result<(Siblings, Vec<Siblings>), AllocError>
     requires sound { IsSound text.now }
     requires named { IsNamed text.now }
     ensures { IfOk result (λ both. AreSorted text.now (length text.now.spaces) both.0 both.1.items) }

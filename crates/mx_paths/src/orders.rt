@@ -66,11 +66,7 @@ fn are_before(bases: &[SpaceId], space: SpaceId) -> bool
 }
 
 /// The order of a space from the bases of all.
-fn linearised(
-    alloc: Global,
-    text: &ModelText,
-    space: SpaceId,
-) -> Result<Option<Order>, AllocError>
+fn linearised(alloc: Global, text: &ModelText, space: SpaceId) -> Result<Option<Order>, AllocError>
     requires sound { IsSound text.now }
     requires space { space.0 < length text.now.spaces }
     ensures { IfOk result (λ order. order ≡ told (c3 (base_lists text.now) space)) }

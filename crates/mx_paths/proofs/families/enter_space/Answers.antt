@@ -1,12 +1,8 @@
-use Rattle.std.proofs.Common.{◌≡◌, ◌<◌, ◌-◌, ◌+◌, List, [], ◌∷◌, ◌++◌, Option, None, Some, length, take, get_or, slice_get, slice_set, OnOk, ◌∙◌, ap, sym, subst, arith}
-use Rattle.std.specs.Prelude.{◌==◌}
+use Rattle.std.proofs.Common.{◌≡◌, ◌-◌, ◌+◌, List, [], None, Some, length, take, get_or, slice_set, ◌∙◌, ap, sym, subst}
 use Rattle.std.proofs.lemmas.Result.{IfOk-weaker}
 use Rattle.std.proofs.lemmas.Bool.{eqb-true, eq-eqb}
 use Rattle.mx_model.proofs.Places.{id_within}
-use Rattle.mx_value.specs.Name.{same_name}
-use Rattle.mx_c3.specs.declared.space.SpaceId.{SpaceId}
-use Rattle.mx_model.specs.Records.{Name, Path}
-use Rattle.mx_model.specs.Layers.{paths_of, id_of}
+use Rattle.mx_model.specs.Layers.{id_of}
 use Rattle.mx_paths.specs.declared.child.Child.{Child}
 use Rattle.mx_paths.specs.Siblings.{IsRising, named}
 use Rattle.mx_paths.specs.Sorting.{IsEntered, AreSorted}

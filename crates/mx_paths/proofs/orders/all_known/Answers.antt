@@ -1,6 +1,5 @@
-use Rattle.std.proofs.Common.{◌≡◌, List, [], ◌∷◌, ◌++◌, Option, Some, None, get_or, ◌∙◌, ap, sym, subst}
+use Rattle.std.proofs.Common.{Some, ◌∙◌, ap, sym}
 use Rattle.mx_c3.specs.declared.space.SpaceId.{SpaceId}
-use Rattle.mx_c3.specs.Known.{known}
 use Rattle.mx_paths.specs.Orders.{all_known}
 use Rattle.mx_paths.proofs.OrderLemmas.{known_more, known_none}
 use Rattle.mx_paths.proofs.orders.all_known.Goals as goal

@@ -1,4 +1,4 @@
-use Rattle.std.proofs.Common.{◌≡◌, List, drop, Option, Some, None, slice_get, ◌∙◌, sym, ap, subst}
+use Rattle.std.proofs.Common.{◌≡◌, drop, Option, Some, None, slice_get, ◌∙◌, sym, ap, subst}
 use Rattle.std.specs.Prelude.{MatchOption}
 use Rattle.mx_paths.specs.declared.child.Child.{Child}
 use Rattle.mx_paths.specs.Siblings.{first}

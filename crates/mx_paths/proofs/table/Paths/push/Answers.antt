@@ -1,8 +1,7 @@
-use Rattle.std.proofs.Common.{◌≡◌, List, [], ◌∷◌, ◌++◌, ◌∙◌, ap, sym, subst}
+use Rattle.std.proofs.Common.{◌≡◌, List, ◌∙◌, ap}
 use Rattle.indexmap.specs.IndexMap.{insert_entry}
 use Rattle.mx_value.specs.Name.{same_path}
-use Rattle.mx_c3.specs.Lists.{Has}
-use Rattle.mx_paths.specs.Table.{Row, paths_in}
+use Rattle.mx_paths.specs.Table.{Row}
 use Rattle.mx_paths.proofs.TableLemmas.{pushed}
 use Rattle.mx_paths.proofs.table.Paths.push.Goals as goal
 
