@@ -1,0 +1,16 @@
+pub mod Expanded
+pub mod FindLemmas
+pub mod Least
+pub mod Matches
+pub mod OneChild
+pub mod OrderLemmas
+pub mod OrderSteps
+pub mod PathOrder
+pub mod Places
+pub mod SiblingLemmas
+pub mod SortLemmas
+pub mod SortSteps
+pub mod Statics
+pub mod Steps
+pub mod TableLemmas
+pub mod Walked

@@ -1,0 +1,11 @@
+//! The table of all static paths of a model text, with the layers of each.
+#![tactic(auto)]
+
+pub mod child;
+pub mod families;
+pub mod family;
+pub mod id;
+pub mod orders;
+pub mod refusal;
+pub mod table;
+pub mod walk;

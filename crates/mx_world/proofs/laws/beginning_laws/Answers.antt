@@ -1,0 +1,5 @@
+use Rattle.mx_world.proofs.Beginning.{begins_valid}
+use Rattle.mx_world.proofs.laws.beginning_laws.Goals as goal
+
+pub returns-clause-valid : goal.returns-clause-valid
+returns-clause-valid c = begins_valid

@@ -1,0 +1,8 @@
+use Rattle.std.proofs.Common.{◌≡◌}
+use Rattle.mx_world.proofs.WorldLemmas.{below}
+use Rattle.mx_world.proofs.world.World.compiled.Goals as goal
+
+pub cells_in-requires : goal.cells_in-requires
+cells_in-requires c =
+    let v : c.self.inside.text ≡ c.args.self.now = cc in
+    below c.self.inside.text c.args.self.now c.self.inside.paths c.args.path.now c.in-Some.layers.now v c.self.invariant c.in-Some.ensures
