@@ -22,6 +22,7 @@ use mx_c3::space::SpaceId;
 use mx_code::compiled::CompiledParams;
 use mx_edit::reference::RefValue;
 use mx_edit::table::Table;
+use mx_list::shared::Shared;
 use mx_model::lookup::{Binding, first_params, lookup};
 use mx_model::text::ModelText;
 use mx_paths::refusal::PathsRefusal;
@@ -36,7 +37,7 @@ use std::marker::Model;
 #[derive(Drop)]
 pub struct World {
     text: ModelText,
-    paths: Paths,
+    paths: Shared<Paths>,
 }
 
 impl Model for World {
@@ -65,7 +66,10 @@ impl World {
     {
         let text = ModelText::new(alloc)?;
         match Paths::build(alloc, &text) {
-            Ok(paths) => Ok(World { text, paths }),
+            Ok(paths) => {
+                let shared = Shared::new(alloc, paths)?;
+                return Ok(World::of(text, shared));
+            }
             Err(PathsRefusal::NoMemory) => Err(AllocError),
             Err(PathsRefusal::NoOrder(_)) => unreachable!(),
             Err(PathsRefusal::TooMany(_)) => unreachable!(),
@@ -73,7 +77,7 @@ impl World {
     }
 
     /// The world of a valid text and its table.
-    pub fn of(text: ModelText, paths: Paths) -> World
+    pub fn of(text: ModelText, paths: Shared<Paths>) -> World
         requires { IsWorld text paths }
         ensures { result ≡ text }
     {
@@ -93,7 +97,14 @@ impl World {
     pub fn paths(&self) -> &Paths
         ensures { IsTableOf self.now result.now }
     {
-        &self.paths
+        self.paths.get()
+    }
+
+    /// The same table, to be shared with a text that has the same spaces and bases.
+    pub fn shared_paths(&self) -> Result<Shared<Paths>, AllocError>
+        ensures { IfOk result (IsTableOf self.now) }
+    {
+        self.paths.copy()
     }
 
     /// Whether a path is a static one.
@@ -107,8 +118,9 @@ impl World {
     fn layers_of(&self, path: &Path) -> Option<&Order>
         ensures { MatchOption result (layers self.now path.now ≡ NotStatic) (λ spaces. layers self.now path.now ≡ Layers spaces.now) }
     {
-        match self.paths.find(path) {
-            Some(id) => return Some(self.paths.layers(id)),
+        let paths = self.paths();
+        match paths.find(path) {
+            Some(id) => return Some(paths.layers(id)),
             None => return None,
         }
     }

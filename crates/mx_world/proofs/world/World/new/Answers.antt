@@ -1,9 +1,9 @@
-use Rattle.std.proofs.Common.{◌≡◌, Result, Err, subst, sym}
+use Rattle.std.proofs.Common.{◌≡◌, List, Result, Err, subst, sym}
 use Rattle.mx_model.proofs.SoundLemmas.{valid_sound}
 use Rattle.mx_edit.specs.declared.refusal.EditRefusal.TheVariants as refusal
 use Rattle.mx_model.specs.Records.{beginning}
 use Rattle.mx_paths.specs.declared.refusal.PathsRefusal.{PathsRefusal}
-use Rattle.mx_paths.specs.Table.{Builds}
+use Rattle.mx_paths.specs.Table.{Row, Builds, IsTableOf}
 use Rattle.mx_paths.specs.Names.{IsNamed}
 use Rattle.mx_world.proofs.Beginning.{begins_named}
 use Rattle.mx_world.proofs.WorldLemmas.{first_valid, meets_not}
@@ -12,11 +12,11 @@ use Rattle.mx_world.proofs.world.World.new.Goals as goal
 pub build-requires-clause-sound : goal.build-requires-clause-sound
 build-requires-clause-sound c = valid_sound c.in_ok-text.text (first_valid c.in_ok-text.text c.in_ok-text.ensures)
 
-pub invariant_of-result : goal.invariant_of-result
-invariant_of-result c = record {
+pub of-requires : goal.of-requires
+of-requires c = record {
   valid = first_valid c.in_ok-text.text c.in_ok-text.ensures;
   named = subst IsNamed (sym c.in_ok-text.ensures) begins_named;
-  table = c.in-Ok.ensures.0;
+  table = subst (λ (rows : List Row). IsTableOf c.in_ok-text.text rows) (sym c.in_ok-shared-in-Ok.ensures) c.in-Ok.ensures.0;
 }
 
 pub unreachable-requires : goal.unreachable-requires
