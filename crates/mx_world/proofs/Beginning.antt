@@ -1,18 +1,15 @@
 -- The text of a new model is valid.
-use Rattle.std.proofs.Common.{◌≡◌, ℕ, zero, suc, ◌<◌, Bool, true, false, List, [], ◌∷◌, ◌++◌, length, Option, Some, None, ◌⊎◌, inl, inr, refl, sym, ◌∙◌, ap, subst, arith, codes}
-use Rattle.std.specs.Prelude.{IsTrue, position, option_map}
-use Rattle.mx_value.specs.Name.{same_name, same_path, is_name}
-use Rattle.mx_value.proofs.NodeSames.{path_decides}
+use Rattle.std.proofs.Common.{◌≡◌, ℕ, true, false, List, [], ◌∷◌, ◌++◌, length, Option, Some, None, inl, inr, refl, sym, ◌∙◌, ap, subst, arith, codes}
+use Rattle.std.specs.Prelude.{IsTrue}
 use Rattle.mx_c3.specs.declared.space.SpaceId.{SpaceId}
 use Rattle.mx_c3.specs.Lists.{Has, Distinct}
 use Rattle.mx_c3.specs.Merge.{merge}
 use Rattle.mx_c3.specs.Linearisation.{c3}
-use Rattle.mx_edit.specs.declared.refusal.EditRefusal.{EditRefusal}
-use Rattle.mx_model.specs.Records.{Name, Path, SpaceRecord, ModelRecord, empty_space, beginning}
+use Rattle.mx_model.specs.Records.{Name, Path, SpaceRecord, beginning}
 use Rattle.mx_model.specs.declared.layers.Layered.{Layered}
-use Rattle.mx_model.specs.declared.layers.Layered.TheVariants.{Layers, NoOrder, NotStatic}
+use Rattle.mx_model.specs.declared.layers.Layered.TheVariants.{Layers, NotStatic}
 use Rattle.mx_model.specs.Layers.{paths_of, id_of, below, further, at_top, layers, is_there, is_static}
-use Rattle.mx_model.specs.Rings.{IsDefined, HasChild, Leads, LeadsThrough, HasNoRing}
+use Rattle.mx_model.specs.Rings.{IsDefined, HasChild, Leads, HasNoRing}
 use Rattle.mx_model.specs.Walk.{Before, own_trouble, layers_trouble, HasBefore, MeetsAt, MeetsNothing}
 use Rattle.mx_model.specs.Valid.{Valid, names_of, IsReference}
 use Rattle.mx_model.specs.Paths.{split_last, child_names}
@@ -20,7 +17,6 @@ use Rattle.mx_model.specs.Parents.{HasParent}
 use Rattle.mx_model.proofs.Filtered.{place_has}
 use Rattle.mx_model.proofs.Places.{id_at, SpaceAt, defined_space}
 use Rattle.std.proofs.lemmas.List.{length-append}
-use Rattle.mx_model.proofs.NameLemmas.{same_is}
 use Rattle.mx_paths.specs.Names.{AreNames, IsNamed}
 use Rattle.mx_paths.proofs.PathOrder.{before_not}
 

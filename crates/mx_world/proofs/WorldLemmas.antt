@@ -1,5 +1,5 @@
 -- What holds of a world.
-use Rattle.std.proofs.Common.{◌≡◌, ◌<◌, List, length, Option, Some, None, Result, Ok, Err, sym, ◌∙◌, ap, subst}
+use Rattle.std.proofs.Common.{◌≡◌, List, length, Some, sym, ◌∙◌, ap, subst}
 use Rattle.std.proofs.lemmas.Option.{same_Some}
 use Rattle.mx_c3.specs.declared.space.SpaceId.{SpaceId}
 use Rattle.mx_c3.specs.InOrder.{AllBelow}
@@ -11,8 +11,7 @@ use Rattle.mx_model.specs.Walk.{Meets}
 use Rattle.mx_model.specs.Valid.{Valid}
 use Rattle.mx_model.proofs.LookupLemmas.{layers_below}
 use Rattle.mx_paths.specs.declared.id.PathId.{PathId}
-use Rattle.mx_paths.specs.Names.{IsNamed}
-use Rattle.mx_paths.specs.Table.{Row, layers_at, IsTableOf, IsFoundIn}
+use Rattle.mx_paths.specs.Table.{Row, layers_at, IsFoundIn}
 use Rattle.mx_world.specs.World.{IsWorld}
 use Rattle.mx_world.proofs.Beginning.{begins_valid}
 

@@ -1,7 +1,6 @@
-use Rattle.std.proofs.Common.{◌≡◌, List, Result, Err, subst, sym}
+use Rattle.std.proofs.Common.{List, Err, subst, sym}
 use Rattle.mx_model.proofs.SoundLemmas.{valid_sound}
 use Rattle.mx_edit.specs.declared.refusal.EditRefusal.TheVariants as refusal
-use Rattle.mx_model.specs.Records.{beginning}
 use Rattle.mx_paths.specs.declared.refusal.PathsRefusal.{PathsRefusal}
 use Rattle.mx_paths.specs.Table.{Row, Builds, IsTableOf}
 use Rattle.mx_paths.specs.Names.{IsNamed}
