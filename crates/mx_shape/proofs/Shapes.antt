@@ -15,7 +15,7 @@ Pair : Type 0
 Pair = Path × List Path
 
 module _ (text other : ModelRecord) (same : shape_of text ≡ shape_of other) where
-  same_paths : paths_of text ≡ paths_of other
+  pub same_paths : paths_of text ≡ paths_of other
   same_paths = sym (map-map (λ (p : Path × List Path). p.0) (λ (s : SpaceRecord). (s.path, s.bases)) text.spaces)
       ∙ ap (λ (shape : Shape). map (λ (p : Path × List Path). p.0) shape) same
       ∙ map-map (λ (p : Path × List Path). p.0) (λ (s : SpaceRecord). (s.path, s.bases)) other.spaces
