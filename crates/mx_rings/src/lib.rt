@@ -1,0 +1,4 @@
+//! Rings of spaces: from each space one comes to its children and to its bases.
+#![tactic(auto)]
+
+pub mod search;
