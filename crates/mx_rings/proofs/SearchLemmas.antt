@@ -59,12 +59,12 @@ below (suc i) zero l n = absurd (omega arith)
 below (suc i) (suc j) l n = let b = below i j (omega arith) (λ e. n (ap suc e)) in omega arith
 
 -- where something stands among a list
-record PlaceOf {X : Type 0} (xs : List X) (x : X) : Type 0 where
+pub record PlaceOf {X : Type 0} (xs : List X) (x : X) : Type 0 where
   pub place : ℕ
   pub within : place < length xs
   pub is : slice_get xs place ≡ Some x
 
-place_of : {X : Type 0} (xs : List X) (x : X) → Has xs x → PlaceOf xs x
+pub place_of : {X : Type 0} (xs : List X) (x : X) → Has xs x → PlaceOf xs x
 place_of [] x h = absurd h
 place_of (y ∷ xs) x h =
     elim h [

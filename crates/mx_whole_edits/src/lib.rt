@@ -1,0 +1,4 @@
+//! Whole edits.
+#![tactic(auto)]
+
+mod values;

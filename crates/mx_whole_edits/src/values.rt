@@ -1,0 +1,6 @@
+//! Laws.
+ghost use Rattle.mx_whole_edits.specs.Values.{Law};
+
+pub fn laws()
+    ensures { Law }
+{}
