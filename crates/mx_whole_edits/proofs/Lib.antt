@@ -1,2 +1,4 @@
 pub mod NormalLaws
+pub mod SameSpaces
 pub mod TextSizes
+pub mod WholeLemmas

@@ -1,4 +1,4 @@
-//! Whole edits.
+//! Edits of a model text, whole but for the walk over its static paths.
 #![tactic(auto)]
 
-mod values;
+pub mod whole;
