@@ -1,3 +1,9 @@
+pub mod Apart
+pub mod Fine
+pub mod FineEdits
+pub mod FineSpaces
+pub mod Free
+pub mod Members
 pub mod NormalLaws
 pub mod SameSpaces
 pub mod TextSizes
