@@ -8,5 +8,5 @@ pub mod edits;
 pub mod laws;
 mod own;
 mod refusals;
-mod statics;
+pub mod statics;
 mod values;

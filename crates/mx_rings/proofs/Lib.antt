@@ -1,0 +1,4 @@
+pub mod LinkLemmas
+pub mod RingLemmas
+pub mod SearchLemmas
+pub mod Steps

@@ -1,0 +1,10 @@
+pub mod Apart
+pub mod Fine
+pub mod FineEdits
+pub mod FineSpaces
+pub mod Free
+pub mod Members
+pub mod NormalLaws
+pub mod SameSpaces
+pub mod TextSizes
+pub mod WholeLemmas

@@ -1,0 +1,74 @@
+//! Edits, whole but for the walk over the static paths.
+ghost use Rattle.std.specs.Prelude.{◌≡◌, None, IfOk, MatchOption};
+ghost use Rattle.mx_model.specs.Rings.{IsRing, HasNoRing};
+ghost use Rattle.mx_model.specs.Refused.{record_trouble};
+ghost use Rattle.mx_model.specs.Change.{change, bound_edit};
+ghost use Rattle.mx_model.specs.Inputs.{without_unfit};
+ghost use Rattle.mx_apply.specs.Chain.{MakesNoRing, CanGoOn};
+ghost use Rattle.mx_whole_edits.specs.Whole.{IsApplied, EditsAreWhole};
+
+use mx_apply::counts::over;
+use mx_apply::edits::with_edit;
+use mx_edit::edit::Edit;
+use mx_edit::refusal::EditRefusal;
+use mx_inputs::unfit::without_unfit;
+use mx_list::list::List;
+use mx_model::text::ModelText;
+use mx_rings::rings::ring_of;
+use mx_value::node::Path;
+use std::alloc::{AllocError, Global};
+
+/// The text that an edit makes of another one, without the inputs that then fit no cells, or the first refusal that applies. The
+/// walk over the static paths of the new text is still to be made.
+pub fn applied(alloc: Global, text: &ModelText, edit: &Edit) -> Result<ModelText, EditRefusal>
+    requires { CanGoOn text.now }
+    ensures exact { IsApplied text.now edit.now result }
+    ensures next { IfOk result CanGoOn }
+{
+    match with_edit(alloc, text, edit) {
+        Ok(made) => match new_ring(alloc, edit, &made) {
+            Ok(None) => return counted(alloc, text, edit, made),
+            Ok(Some(ring)) => return Err(EditRefusal::Cycle(ring)),
+            Err(_) => return Err(EditRefusal::NoMemory),
+        },
+        Err(why) => return Err(why),
+    }
+}
+
+/// A ring that an edit makes in a text that had none. Only new bases can make one.
+fn new_ring(alloc: Global, edit: &Edit, made: &ModelText) -> Result<Option<List<Path>>, AllocError>
+    ensures { let none = MakesNoRing edit.now made.now in
+        IfOk result (λ found. MatchOption found none (IsRing made.now)) }
+{
+    match edit {
+        Edit::SetBases { path: _, bases: _ } => return ring_of(alloc, made),
+        _ => return Ok(None),
+    }
+}
+
+/// The text without the inputs that do not fit it, unless a number passes its greatest.
+fn counted(
+    alloc: Global,
+    text: &ModelText,
+    edit: &Edit,
+    made: ModelText,
+) -> Result<ModelText, EditRefusal>
+    requires free { record_trouble text.now edit.now ≡ None }
+    requires is { made ≡ change text.now (bound_edit text.now edit.now) }
+    requires next { CanGoOn made }
+    ensures exact { IsApplied text.now edit.now result }
+    ensures next { IfOk result CanGoOn }
+{
+    match without_unfit(alloc, &made, &made) {
+        Ok(kept) => match over(&kept) {
+            Some(limit) => return Err(EditRefusal::TooMany(limit)),
+            None => return Ok(kept),
+        },
+        Err(_) => return Err(EditRefusal::NoMemory),
+    }
+}
+
+/// With the walk over the static paths this is the whole edit, for proofs. Does nothing when it runs.
+pub fn whole_edits()
+    ensures { EditsAreWhole }
+{}
