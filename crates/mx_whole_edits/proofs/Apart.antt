@@ -1,5 +1,5 @@
 -- Lists that have nothing in common.
-use Rattle.std.proofs.Common.{◌≡◌, List, [], ◌∷◌, ◌++◌, ◌⊎◌, inl, inr, refl, sym, subst}
+use Rattle.std.proofs.Common.{List, [], ◌∷◌, ◌++◌, inl, inr, refl, sym, subst}
 use Rattle.mx_c3.specs.Lists.{Has, Distinct}
 use Rattle.mx_c3.proofs.ListLemmas.{has_left, has_right, has_cases}
 

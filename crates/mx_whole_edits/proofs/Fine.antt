@@ -1,5 +1,5 @@
 -- What a valid text asks of each space and of what the model has itself.
-use Rattle.std.proofs.Common.{◌≡◌, ℕ, Bool, true, false, List, [], ◌∷◌, ◌++◌, length, map, slice_get, Option, Some, None, ◌⊎◌, inl, inr, refl, sym, ◌∙◌, ap, subst}
+use Rattle.std.proofs.Common.{◌≡◌, ℕ, Bool, true, false, List, [], ◌∷◌, ◌++◌, map, slice_get, Option, Some, None, inl, inr, refl, sym, ◌∙◌, ap, subst}
 use Rattle.std.specs.Prelude.{IsTrue, is_some, option_and_then, if◌then◌else◌}
 use Rattle.std.specs.List.{filter_map, cons_option}
 use Rattle.std.specs.Map.{lookup}
@@ -11,18 +11,18 @@ use Rattle.mx_c3.specs.declared.space.SpaceId.{SpaceId}
 use Rattle.mx_c3.specs.Lists.{Has, Distinct}
 use Rattle.mx_c3.proofs.ListLemmas.{has_left, has_right, has_cases}
 use Rattle.mx_model.specs.Records.{Name, Path, CellsRecord, SpaceRecord, ModelRecord}
-use Rattle.mx_model.specs.Layers.{paths_of, id_of, id_in, space_of}
+use Rattle.mx_model.specs.Layers.{paths_of, id_of, space_of}
 use Rattle.mx_model.specs.Paths.{split_last, space_at, name_below, child_names}
 use Rattle.mx_model.specs.Parents.{HasParent}
 use Rattle.mx_model.specs.Rings.{IsDefined}
 use Rattle.mx_model.specs.Refused.{has_cells, has_reference}
-use Rattle.mx_model.specs.Valid.{names_of, NamesAreDistinct, BasesAreDefined, ReferencesFit, IsReference}
-use Rattle.mx_model.proofs.Filtered.{has_map, map_has, has_filter, filter_has, distinct_filter, one_place}
-use Rattle.mx_model.proofs.Places.{id_at, path_defined, space_defined, defined_space}
+use Rattle.mx_model.specs.Valid.{names_of, NamesAreDistinct, ReferencesFit, IsReference}
+use Rattle.mx_model.proofs.Filtered.{has_map, has_filter, filter_has, one_place}
+use Rattle.mx_model.proofs.Places.{id_at, space_defined, defined_space}
 use Rattle.mx_model.proofs.Defined.{split_push, split_is}
 use Rattle.mx_model.proofs.NameLemmas.{is_same}
-use Rattle.mx_rings.proofs.SearchLemmas.{PlaceOf, place_of}
-use Rattle.mx_whole_edits.specs.Ready.{AreLiteral, HasLiterals, IsReady}
+use Rattle.mx_rings.proofs.SearchLemmas.{place_of}
+use Rattle.mx_whole_edits.specs.Ready.{AreLiteral, IsReady}
 use Rattle.mx_whole_edits.proofs.Apart.{distinct_join, first_part, last_part, parts_apart}
 
 abbrev pub child : Path → Name → Path

@@ -1,11 +1,10 @@
 -- Each edit to which no refusal applies leaves what a valid text asks of its spaces and of the model.
-use Rattle.std.proofs.Common.{◌≡◌, ℕ, ◌≤◌, Bool, true, false, not, List, [], ◌∷◌, ◌++◌, length, map, nat_lt, Option, Some, None, ◌||◌, ◌&&◌, ◌⊎◌, inl, inr, refl, sym, ◌∙◌, ap, subst, arith}
+use Rattle.std.proofs.Common.{◌≡◌, ℕ, ◌≤◌, Bool, true, false, not, List, [], ◌∷◌, length, map, nat_lt, Option, Some, None, ◌||◌, ◌&&◌, ◌⊎◌, inl, inr, refl, sym, ◌∙◌, ap, subst, arith}
 use Rattle.std.specs.Prelude.{IsTrue, is_some, if◌then◌else◌}
 use Rattle.std.specs.List.{filter, list_any}
 use Rattle.std.specs.Map.{lookup}
-use Rattle.mx_value.specs.Name.{same_name, same_path}
+use Rattle.mx_value.specs.Name.{same_name}
 use Rattle.mx_value.specs.Plain.{is_plain}
-use Rattle.mx_value.specs.Size.{size_of}
 use Rattle.mx_value.specs.Nesting.{nesting_of}
 use Rattle.mx_value.specs.declared.value.Value.{Value}
 use Rattle.mx_print.specs.Values.{value_text}
@@ -18,8 +17,8 @@ use Rattle.mx_edit.specs.declared.edit.Edit.TheVariants as edit
 use Rattle.mx_edit.specs.declared.refusal.EditRefusal.{EditRefusal}
 use Rattle.mx_edit.specs.declared.refusal.EditRefusal.TheVariants as refusal
 use Rattle.mx_c3.specs.Lists.{Has, Distinct}
-use Rattle.mx_c3.proofs.ListLemmas.{has_push_cases, has_left, has_right}
-use Rattle.mx_model.specs.Records.{Name, Path, CellsRecord, SpaceRecord, ModelRecord, empty_space}
+use Rattle.mx_c3.proofs.ListLemmas.{has_push_cases, has_left}
+use Rattle.mx_model.specs.Records.{Name, Path, SpaceRecord, ModelRecord, empty_space}
 use Rattle.mx_model.specs.Layers.{paths_of, id_in}
 use Rattle.mx_model.specs.Paths.{split_last, is_defined, space_at}
 use Rattle.mx_model.specs.Parents.{HasParent}
@@ -136,11 +135,19 @@ module _ (text : ModelRecord) (places : Places text) (all : AllFine text) (top :
     where
       made : ModelRecord
       made = grown text (child parent name)
+
       fresh : Fine made (empty_space (child parent name))
       fresh = record {
-        cells_once = tt; refs_once = tt; no_cells = λ n d k. k; no_refs = λ n d k. k; apart = λ n k c. k;
-        bases = λ base k. absurd k; refs = λ r k. absurd k; literal = λ c k. absurd k;
+        cells_once = tt;
+        refs_once = tt;
+        no_cells = λ n d k. k;
+        no_refs = λ n d k. k;
+        apart = λ n k c. k;
+        bases = λ base k. absurd k;
+        refs = λ r k. absurd k;
+        literal = λ c k. absurd k;
       }
+
       old : (s : SpaceRecord) → Has text.spaces s → Fine made s
       old s i = record {
         cells_once = (all s i).cells_once;
@@ -169,6 +176,7 @@ module _ (text : ModelRecord) (places : Places text) (all : AllFine text) (top :
       at_empty : (p : Path) → holds_reference text p name ≡ false → p ≡ [] → is_some (lookup (same_name name) text.globals) ≡ false
       at_empty [] e is = e
       at_empty (first ∷ names) e is = absurd (let f : first ∷ names ≡ [] = is in cc)
+
       free : (n : Name) → IsDefined text (n ∷ []) ⊎ (child parent name ≡ n ∷ []) → Has (names_of text.globals) n → ⊥
       free n (inl d) h = top.no_globals n d h
       free n (inr e) h =
@@ -230,7 +238,8 @@ module _ (text : ModelRecord) (places : Places text) (all : AllFine text) (top :
 
   gone_fine : (path : Path) → first_user path text.spaces ≡ None → AllFine (rest path)
   gone_fine path none s h = record {
-    cells_once = fine.cells_once; refs_once = fine.refs_once;
+    cells_once = fine.cells_once;
+    refs_once = fine.refs_once;
     no_cells = λ n d k. fine.no_cells n (gone_back path (child s.path n) d) k;
     no_refs = λ n d k. fine.no_refs n (gone_back path (child s.path n) d) k;
     apart = fine.apart;
@@ -241,8 +250,10 @@ module _ (text : ModelRecord) (places : Places text) (all : AllFine text) (top :
     where
       was : Has text.spaces s × (stays path s ≡ true)
       was = stayed path s text.spaces h
+
       fine : Fine text s
       fine = all s was.0
+
       unused : list_any (is_within path) s.bases ≡ false
       unused = not_used (stays path s) (list_any (is_within path) s.bases) (no_user path s text.spaces none was.0) was.1
 

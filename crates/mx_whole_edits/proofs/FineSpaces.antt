@@ -1,18 +1,15 @@
 -- Each edit leaves what a valid text asks of its spaces.
-use Rattle.std.proofs.Common.{◌≡◌, Bool, true, false, not, List, [], ◌∷◌, ◌++◌, map, Option, Some, None, ◌||◌, ◌⊎◌, inl, inr, refl, sym, ◌∙◌, ap, subst}
+use Rattle.std.proofs.Common.{◌≡◌, Bool, true, false, List, [], ◌∷◌, map, Option, inl, inr, refl, sym, ◌∙◌, ap, subst}
 use Rattle.std.specs.Prelude.{IsTrue, is_some, if◌then◌else◌}
-use Rattle.std.specs.List.{filter, list_any}
 use Rattle.std.specs.Map.{lookup}
 use Rattle.mx_value.specs.Name.{same_name, same_path}
-use Rattle.mx_value.specs.declared.value.Value.{Value}
 use Rattle.mx_value.proofs.NodeSames.{path_decides}
 use Rattle.mx_syntax.specs.declared.stmt.Formula.{Formula}
 use Rattle.mx_syntax.specs.declared.stmt.Params.{Params}
 use Rattle.mx_edit.specs.declared.reference.RefValue.{RefValue}
 use Rattle.mx_c3.specs.Lists.{Has, Distinct}
-use Rattle.mx_c3.proofs.ListLemmas.{has_push_cases, has_left}
-use Rattle.mx_model.specs.Records.{Name, Path, CellsRecord, SpaceRecord, ModelRecord, empty_space}
-use Rattle.mx_model.specs.Layers.{paths_of, id_in}
+use Rattle.mx_model.specs.Records.{Name, Path, CellsRecord, SpaceRecord, ModelRecord}
+use Rattle.mx_model.specs.Layers.{id_in}
 use Rattle.mx_model.specs.Rings.{IsDefined}
 use Rattle.mx_model.specs.Readers.{or_false}
 use Rattle.mx_model.specs.Change.{at_space, define, without, define_cells, set_allow}
@@ -59,26 +56,50 @@ set_has (z ∷ cells) name flag c h = from_by (same_name name z.0) z cells (set_
 module _ (text : ModelRecord) (s : SpaceRecord) (fine : Fine text s) where
   pub fine_params : (params : Option Params) → Fine text (record s { params = params })
   fine_params params = record {
-    cells_once = fine.cells_once; refs_once = fine.refs_once; no_cells = fine.no_cells; no_refs = fine.no_refs;
-    apart = fine.apart; bases = fine.bases; refs = fine.refs; literal = fine.literal;
+    cells_once = fine.cells_once;
+    refs_once = fine.refs_once;
+    no_cells = fine.no_cells;
+    no_refs = fine.no_refs;
+    apart = fine.apart;
+    bases = fine.bases;
+    refs = fine.refs;
+    literal = fine.literal;
   }
 
   pub fine_bases : (bases : List Path) → ((base : Path) → Has bases base → IsDefined text base) → Fine text (record s { bases = bases })
   fine_bases bases defined = record {
-    cells_once = fine.cells_once; refs_once = fine.refs_once; no_cells = fine.no_cells; no_refs = fine.no_refs;
-    apart = fine.apart; bases = defined; refs = fine.refs; literal = fine.literal;
+    cells_once = fine.cells_once;
+    refs_once = fine.refs_once;
+    no_cells = fine.no_cells;
+    no_refs = fine.no_refs;
+    apart = fine.apart;
+    bases = defined;
+    refs = fine.refs;
+    literal = fine.literal;
   }
 
   fine_cells : (cells : List (Name × CellsRecord)) → Distinct (names_of cells) → ((n : Name) → Has (names_of cells) n → IsDefined text (child s.path n) → ⊥) → ((n : Name) → Has (names_of cells) n → Has (names_of s.references) n → ⊥) → ((c : Name × CellsRecord) → Has cells c → AreLiteral c.1.formula.params) → Fine text (record s { cells = cells })
   fine_cells cells once child apart literal = record {
-    cells_once = once; refs_once = fine.refs_once; no_cells = λ n d h. child n h d; no_refs = fine.no_refs;
-    apart = apart; bases = fine.bases; refs = fine.refs; literal = literal;
+    cells_once = once;
+    refs_once = fine.refs_once;
+    no_cells = λ n d h. child n h d;
+    no_refs = fine.no_refs;
+    apart = apart;
+    bases = fine.bases;
+    refs = fine.refs;
+    literal = literal;
   }
 
   fine_references : (refs : List (Name × RefValue)) → Distinct (names_of refs) → ((n : Name) → Has (names_of refs) n → IsDefined text (child s.path n) → ⊥) → ((n : Name) → Has (names_of s.cells) n → Has (names_of refs) n → ⊥) → ((r : Name × RefValue) → Has refs r → IsReference text r.1) → Fine text (record s { references = refs })
   fine_references refs once child apart fit = record {
-    cells_once = fine.cells_once; refs_once = once; no_cells = fine.no_cells; no_refs = λ n d h. child n h d;
-    apart = apart; bases = fine.bases; refs = fit; literal = fine.literal;
+    cells_once = fine.cells_once;
+    refs_once = once;
+    no_cells = fine.no_cells;
+    no_refs = λ n d h. child n h d;
+    apart = apart;
+    bases = fine.bases;
+    refs = fit;
+    literal = fine.literal;
   }
 
   pub fine_defined_cells : (name : Name) (formula : Formula) → (IsDefined text (child s.path name) → ⊥) → (Has (names_of s.references) name → ⊥) → AreLiteral formula.params → Fine text (record s { cells = define_cells s.cells name formula })
@@ -92,6 +113,7 @@ module _ (text : ModelRecord) (s : SpaceRecord) (fine : Fine text s) where
     where
       made : CellsRecord
       made = record { formula = formula; allow_none = or_false (lookup (same_name name) s.cells) }
+
       cells : List (Name × CellsRecord)
       cells = define same_name s.cells name made
 
@@ -131,7 +153,8 @@ module _ (text : ModelRecord) (s : SpaceRecord) (fine : Fine text s) where
 -- what is defined and what is referred to is the same
 pub carry : (text made : ModelRecord) (s : SpaceRecord) → ((path : Path) → IsDefined made path → IsDefined text path) → ((path : Path) → IsDefined text path → IsDefined made path) → ((value : RefValue) → IsReference text value → IsReference made value) → Fine text s → Fine made s
 carry text made s back on refs fine = record {
-  cells_once = fine.cells_once; refs_once = fine.refs_once;
+  cells_once = fine.cells_once;
+  refs_once = fine.refs_once;
   no_cells = λ n d h. fine.no_cells n (back (child s.path n) d) h;
   no_refs = λ n d h. fine.no_refs n (back (child s.path n) d) h;
   apart = fine.apart;
@@ -161,9 +184,9 @@ at_fine text path f keeps all changed s h =
     let m = map_has (λ (z : SpaceRecord). if same_path z.path path then f z else z) text.spaces s h in
     let same = kept_paths path f text.spaces keeps in
     let stays = carry text made m.from
-        (λ p d. let P : List Path → Type 0 = λ ps. IsTrue (is_some (id_in ps p)) in subst P same d)
-        (λ p d. let P : List Path → Type 0 = λ ps. IsTrue (is_some (id_in ps p)) in subst P (sym same) d)
-        (λ value r. r) (all m.from m.among) in
+    (λ p d. let P : List Path → Type 0 = λ ps. IsTrue (is_some (id_in ps p)) in subst P same d)
+    (λ p d. let P : List Path → Type 0 = λ ps. IsTrue (is_some (id_in ps p)) in subst P (sym same) d)
+    (λ value r. r) (all m.from m.among) in
     chosen_by made path f m.from s (same_path m.from.path path) refl m.is (λ e. changed m.from m.among e stays) stays
 
 pub at_defined : (text : ModelRecord) (path : Path) (f : SpaceRecord → SpaceRecord) → ((z : SpaceRecord) → (f z).path ≡ z.path) → (p : Path) → IsDefined (at_space text path f) p → IsDefined text p

@@ -3,8 +3,10 @@ pub mod Fine
 pub mod FineEdits
 pub mod FineSpaces
 pub mod Free
+pub mod GoodInputs
 pub mod Members
 pub mod NormalLaws
+pub mod ReadyLemmas
 pub mod SameSpaces
 pub mod TextSizes
 pub mod WholeLemmas

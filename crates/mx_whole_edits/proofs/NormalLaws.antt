@@ -10,7 +10,7 @@ use Rattle.mx_value.specs.declared.value.CellsAt.{CellsAt}
 use Rattle.mx_value.specs.declared.value.Segment.TheOpen.{Value-F}
 use Rattle.mx_value.specs.declared.value.Segment.TheFolds.{fold-roll-Value, para-roll-Value, map-Value, ind-Value}
 use Rattle.mx_value.specs.declared.value.Segment.TheViews.{roll-Value}
-use Rattle.mx_value.specs.Normal.{normal_of, number_of, one}
+use Rattle.mx_value.specs.Normal.{normal_of, one}
 use Rattle.mx_value.specs.Plain.{is_plain}
 use Rattle.mx_value.specs.Nesting.{nesting_of, greatest}
 use Rattle.mx_value.proofs.Normals.{normal-Fix, normal-Tup}

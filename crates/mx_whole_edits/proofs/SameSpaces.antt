@@ -1,12 +1,10 @@
 -- Texts with the same spaces have the same rings.
-use Rattle.std.proofs.Common.{◌≡◌, List, [], ◌∷◌, ◌⊎◌, map, inl, inr, refl, sym, subst}
+use Rattle.std.proofs.Common.{◌≡◌, List, [], ◌∷◌, map, inl, inr, sym, subst}
 use Rattle.std.specs.Prelude.{IsTrue, is_some}
 use Rattle.mx_c3.specs.Lists.{Has}
 use Rattle.mx_model.specs.Records.{Path, SpaceRecord, ModelRecord}
 use Rattle.mx_model.specs.Layers.{id_in}
 use Rattle.mx_model.specs.Rings.{IsDefined, HasBase, HasChild, Leads, LeadsThrough, IsRing, HasNoRing}
-use Rattle.mx_model.specs.Sound.{IsSound}
-use Rattle.mx_apply.specs.Chain.{IsRingless, CanGoOn}
 
 module _ (text text' : ModelRecord) (same : text'.spaces ≡ text.spaces) where
   pub defined_as : (path : Path) → IsDefined text path → IsDefined text' path

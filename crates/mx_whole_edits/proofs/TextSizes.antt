@@ -7,7 +7,6 @@ use Rattle.std.specs.Prelude.{unsigned_abs}
 use Rattle.std.proofs.lemmas.List.Sums.{sum_by-cons}
 use Rattle.std.specs.Fmt.{decimal, digits, digits_onto, digit_glyph, signed_decimal}
 use Rattle.mx_value.specs.declared.value.Value.{Value}
-use Rattle.mx_value.specs.declared.value.Value.TheVariants as made
 use Rattle.mx_value.specs.declared.value.Segment.{Segment}
 use Rattle.mx_value.specs.declared.value.CellsAt.{CellsAt}
 use Rattle.mx_value.specs.declared.value.Segment.TheOpen.{Value-F}
@@ -15,7 +14,7 @@ use Rattle.mx_value.specs.declared.value.Segment.TheFolds.{fold-roll-Value, map-
 use Rattle.mx_value.specs.declared.value.Segment.TheViews.{roll-Value}
 use Rattle.mx_value.specs.Plain.{is_plain}
 use Rattle.mx_value.specs.Size.{size_of}
-use Rattle.mx_print.specs.Texts.{Text, commas}
+use Rattle.mx_print.specs.Texts.{Text}
 use Rattle.mx_print.specs.Values.{value_text, fixed_text, decimals, quoted, escaped, tuple_text}
 
 abbrev Fits : Value → Type 0

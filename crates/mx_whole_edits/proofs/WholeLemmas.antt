@@ -1,8 +1,6 @@
 -- Edits, whole but for the walk.
-use Rattle.std.proofs.Common.{◌≡◌, List, [], ◌∷◌, Option, Some, None, Result, Ok, Err, refl, sym, ◌∙◌, ap, subst}
-use Rattle.std.specs.Prelude.{IfOk}
+use Rattle.std.proofs.Common.{◌≡◌, List, Some, None, Ok, Err, refl, sym, ◌∙◌, ap, subst}
 use Rattle.mx_edit.specs.declared.edit.Edit.{Edit}
-use Rattle.mx_edit.specs.declared.edit.Edit.TheVariants as edit
 use Rattle.mx_edit.specs.declared.refusal.EditRefusal.{EditRefusal}
 use Rattle.mx_edit.specs.declared.refusal.EditRefusal.TheVariants as refusal
 use Rattle.mx_edit.specs.declared.refusal.Limit.{Limit}
@@ -12,12 +10,12 @@ use Rattle.mx_model.specs.Change.{change, bound_edit}
 use Rattle.mx_model.specs.Refused.{record_trouble}
 use Rattle.mx_model.specs.Rings.{IsRing, HasNoRing}
 use Rattle.mx_model.specs.Counts.{over}
-use Rattle.mx_model.specs.Apply.{changed, IsCounted, Apply}
+use Rattle.mx_model.specs.Apply.{changed, Apply}
 use Rattle.mx_model.specs.Apply.{IsRefused as RefusedBy, HasRing as RingOf, IsOver as OverBy, IsStopped as StoppedBy, IsAccepted as AcceptedBy}
 use Rattle.mx_model.specs.Walk.{Meets, MeetsNothing}
-use Rattle.mx_apply.specs.Chain.{IsRingless, MakesNoRing, CanGoOn}
+use Rattle.mx_apply.specs.Chain.{CanGoOn}
 use Rattle.mx_apply.specs.Made.{IsTrouble}
-use Rattle.mx_whole_edits.specs.Whole.{Stops, IsRefused, HasRing, IsOver, IsStopped, IsAccepted, IsApplied, IsWhole, EditsAreWhole}
+use Rattle.mx_whole_edits.specs.Whole.{Stops, IsRefused, HasRing, IsOver, IsStopped, IsAccepted, EditsAreWhole}
 use Rattle.mx_whole_edits.proofs.SameSpaces.{ring_as, ringless_as}
 
 -- ---- without inputs

@@ -5,7 +5,8 @@ ghost use Rattle.mx_model.specs.Refused.{record_trouble};
 ghost use Rattle.mx_model.specs.Change.{change, bound_edit};
 ghost use Rattle.mx_model.specs.Inputs.{without_unfit};
 ghost use Rattle.mx_apply.specs.Chain.{MakesNoRing, CanGoOn};
-ghost use Rattle.mx_whole_edits.specs.Whole.{IsApplied, EditsAreWhole};
+ghost use Rattle.mx_whole_edits.specs.Whole.{IsAccepted, IsApplied, EditsAreWhole};
+ghost use Rattle.mx_whole_edits.specs.Ready.{IsRead, IsReady, KeepsReady, ReadyIsValid, ValidIsReady};
 
 use mx_apply::counts::over;
 use mx_apply::edits::with_edit;
@@ -24,6 +25,7 @@ pub fn applied(alloc: Global, text: &ModelText, edit: &Edit) -> Result<ModelText
     requires { CanGoOn text.now }
     ensures exact { IsApplied text.now edit.now result }
     ensures next { IfOk result CanGoOn }
+    ensures ready { KeepsReady text.now edit.now result }
 {
     match with_edit(alloc, text, edit) {
         Ok(made) => match new_ring(alloc, edit, &made) {
@@ -58,17 +60,38 @@ fn counted(
     requires next { CanGoOn made }
     ensures exact { IsApplied text.now edit.now result }
     ensures next { IfOk result CanGoOn }
+    ensures ready { KeepsReady text.now edit.now result }
 {
     match without_unfit(alloc, &made, &made) {
         Ok(kept) => match over(&kept) {
             Some(limit) => return Err(EditRefusal::TooMany(limit)),
-            None => return Ok(kept),
+            None => {
+                keep_ready(text, edit, &kept);
+                return Ok(kept);
+            }
         },
         Err(_) => return Err(EditRefusal::NoMemory),
     }
 }
 
+/// From what stands beside both texts, the new one is ready where the old one was. Does nothing when it runs.
+fn keep_ready(text: &ModelText, edit: &Edit, made: &ModelText)
+    requires accepted { IsAccepted text.now edit.now made.now }
+    requires next { CanGoOn made.now }
+    ensures { IsReady text.now → IsRead edit.now → IsReady made.now }
+{
+    let _ = text.kinds();
+    let _ = made.kinds();
+}
+
 /// With the walk over the static paths this is the whole edit, for proofs. Does nothing when it runs.
 pub fn whole_edits()
     ensures { EditsAreWhole }
+{}
+
+/// A text that is ready is valid where the walk over its static paths meets nothing, and what is valid is ready, for proofs.
+/// Does nothing when it runs.
+pub fn ready_laws()
+    ensures valid { ReadyIsValid }
+    ensures ready { ValidIsReady }
 {}
