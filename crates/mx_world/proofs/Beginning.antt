@@ -18,6 +18,7 @@ use Rattle.mx_model.proofs.Filtered.{place_has}
 use Rattle.mx_model.proofs.Places.{id_at, SpaceAt, defined_space}
 use Rattle.std.proofs.lemmas.List.{length-append}
 use Rattle.mx_paths.specs.Names.{AreNames, IsNamed}
+use Rattle.mx_whole_edits.specs.Ready.{AreLiteral, HasLiterals}
 use Rattle.mx_paths.proofs.PathOrder.{before_not}
 
 abbrev main : Name
@@ -129,3 +130,6 @@ begins_named = record {
   names = λ path h. elim h [ inl e ↦ subst AreNames e (refl, tt) | inr none ↦ absurd none ];
   some = λ h. elim h [ inl e ↦ let f : main ∷ [] ≡ [] = e in cc | inr none ↦ none ];
 }
+
+pub begins_literal : HasLiterals beginning
+begins_literal = λ s c h i. elim h [ inl e ↦ subst (λ (s : SpaceRecord). Has s.cells c → AreLiteral c.1.formula.params) e (λ k. absurd k) i | inr none ↦ absurd none ]

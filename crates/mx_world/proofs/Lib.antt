@@ -1,3 +1,5 @@
 pub mod Beginning
 pub mod SameLemmas
 pub mod WorldLemmas
+pub mod Named
+pub mod PrepareLemmas

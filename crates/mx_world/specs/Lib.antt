@@ -1,3 +1,4 @@
 pub mod Bound
 pub mod Laws
 pub mod World
+pub mod Prepared

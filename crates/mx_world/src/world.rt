@@ -12,6 +12,7 @@ ghost use Rattle.mx_model.specs.Keys.{bound_to, formula_of, params_of, global_of
 ghost use Rattle.mx_model.specs.Valid.{Valid};
 ghost use Rattle.mx_paths.specs.Names.{IsNamed};
 ghost use Rattle.mx_paths.specs.Table.{IsTableOf};
+ghost use Rattle.mx_whole_edits.specs.Ready.{HasLiterals};
 ghost use Rattle.mx_world.specs.World.{IsWorld};
 ghost use Rattle.mx_world.specs.Bound.{told_name, told_cells, TellsReference};
 ghost use Rattle.mx_edit.specs.declared.key.KeyResult.TheVariants as found;
@@ -89,6 +90,7 @@ impl World {
         ensures exact { result.now ≡ self.now }
         ensures valid { Valid self.now }
         ensures named { IsNamed self.now }
+        ensures literals { HasLiterals self.now }
     {
         &self.text
     }

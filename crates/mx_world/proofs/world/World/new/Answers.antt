@@ -4,7 +4,8 @@ use Rattle.mx_edit.specs.declared.refusal.EditRefusal.TheVariants as refusal
 use Rattle.mx_paths.specs.declared.refusal.PathsRefusal.{PathsRefusal}
 use Rattle.mx_paths.specs.Table.{Row, Builds, IsTableOf}
 use Rattle.mx_paths.specs.Names.{IsNamed}
-use Rattle.mx_world.proofs.Beginning.{begins_named}
+use Rattle.mx_whole_edits.specs.Ready.{HasLiterals}
+use Rattle.mx_world.proofs.Beginning.{begins_named, begins_literal}
 use Rattle.mx_world.proofs.WorldLemmas.{first_valid, meets_not}
 use Rattle.mx_world.proofs.world.World.new.Goals as goal
 
@@ -15,6 +16,7 @@ pub of-requires : goal.of-requires
 of-requires c = record {
   valid = first_valid c.in_ok-text.text c.in_ok-text.ensures;
   named = subst IsNamed (sym c.in_ok-text.ensures) begins_named;
+  literals = subst HasLiterals (sym c.in_ok-text.ensures) begins_literal;
   table = subst (λ (rows : List Row). IsTableOf c.in_ok-text.text rows) (sym c.in_ok-shared-in-Ok.ensures) c.in-Ok.ensures.0;
 }
 

@@ -81,11 +81,11 @@ unless false why rest e = refl
 
 new_named : (text : ModelRecord) (parent : Path) (name : Name) → IsNamed text → IsTrue (is_holder text parent) → IsTrue (is_name name) → (made : ModelRecord) → paths_of made ≡ paths_of text ++ (parent ++ name ∷ []) ∷ [] → IsNamed made
 new_named text parent name named holder is made same = record {
-  names = λ path h. elim has_push_cases (paths_of text) (parent ++ name ∷ []) path (subst (λ (paths : List Path). Has paths path) same h) [
+  names = λ path h. elim (has_push_cases (paths_of text) (parent ++ name ∷ []) path (subst (λ (paths : List Path). Has paths path) same h)) [
     | inl old ↦ named.names path old
     | inr e ↦ subst AreNames e (push_names parent name (holder_names text parent named holder) is)
   ];
-  some = λ h. elim has_push_cases (paths_of text) (parent ++ name ∷ []) [] (subst (λ (paths : List Path). Has paths []) same h) [
+  some = λ h. elim (has_push_cases (paths_of text) (parent ++ name ∷ []) [] (subst (λ (paths : List Path). Has paths []) same h)) [
     | inl old ↦ named.some old
     | inr e ↦ not_empty parent name e
   ];

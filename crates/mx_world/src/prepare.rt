@@ -1,9 +1,12 @@
 //! Edits of worlds.
 ghost use Rattle.std.specs.Prelude.{◌≡◌};
 ghost use Rattle.mx_shape.specs.Shape as shape;
-ghost use Rattle.mx_whole_edits.specs.Ready.{IsRead};
+ghost use Rattle.mx_apply.specs.Chain.{CanGoOn};
+ghost use Rattle.mx_model.specs.Valid.{Valid};
+ghost use Rattle.mx_paths.specs.Names.{IsNamed};
+ghost use Rattle.mx_whole_edits.specs.Ready.{IsRead, IsReady};
 ghost use Rattle.mx_whole_edits.specs.Whole.{IsAccepted};
-ghost use Rattle.mx_prepare.specs.Prepared.{Prepares, Walks};
+ghost use Rattle.mx_world.specs.Prepared.{Prepares, Walks};
 
 use mx_edit::edit::Edit;
 use mx_edit::refusal::EditRefusal;
@@ -12,7 +15,7 @@ use mx_model::text::ModelText;
 use mx_paths::refusal::PathsRefusal;
 use mx_paths::table::Paths;
 use mx_whole_edits::whole::applied;
-use mx_world::world::World;
+use crate::world::World;
 use std::alloc::Global;
 use std::marker::Model;
 
@@ -66,8 +69,11 @@ fn walked(
     edit: &Edit,
     text: ModelText,
 ) -> Result<Prepared, EditRefusal>
-    requires read { IsRead edit.now }
     requires accepted { IsAccepted world.now edit.now text }
+    requires valid { Valid world.now }
+    requires next { CanGoOn text }
+    requires ready { IsReady text }
+    requires named { IsNamed text }
     ensures { Walks world.now edit.now result }
 {
     if keeps_shape(edit) {

@@ -1,0 +1,99 @@
+-- An edit that is prepared: its world, and its answer.
+use Rattle.std.proofs.Common.{◌≡◌, true, List, Result, Ok, Err, refl, sym, ap, ◌∙◌, subst}
+use Rattle.std.specs.Prelude.{IsTrue}
+use Rattle.mx_c3.specs.Lists.{Has}
+use Rattle.mx_edit.specs.declared.edit.Edit.{Edit}
+use Rattle.mx_edit.specs.declared.refusal.EditRefusal.{EditRefusal}
+use Rattle.mx_edit.specs.declared.refusal.EditRefusal.TheVariants as refusal
+use Rattle.mx_model.specs.Records.{Path, ModelRecord}
+use Rattle.mx_model.specs.declared.layers.Layered.{Layered}
+use Rattle.mx_model.specs.Layers.{is_there}
+use Rattle.mx_model.specs.Walk.{Meets, MeetsNothing}
+use Rattle.mx_model.specs.Valid.{Valid}
+use Rattle.mx_model.specs.Apply.{changed}
+use Rattle.mx_paths.specs.Names.{IsNamed}
+use Rattle.mx_paths.specs.Table.{Row, IsTableOf}
+use Rattle.mx_shape.specs.Shape.{shape_of, keeps_shape}
+use Rattle.mx_shape.proofs.Shapes.{same_layers}
+use Rattle.mx_shape.proofs.Walks.{same_walk}
+use Rattle.mx_shape.proofs.Kept.{edits_keep_shape}
+use Rattle.mx_whole_edits.specs.Whole.{IsAccepted, IsApplied, IsWhole}
+use Rattle.mx_whole_edits.specs.Ready.{IsReady}
+use Rattle.mx_whole_edits.proofs.WholeLemmas.{whole}
+use Rattle.mx_whole_edits.proofs.ReadyLemmas.{ready_valid}
+use Rattle.mx_world.specs.World.{IsWorld}
+use Rattle.mx_world.specs.Prepared.{Prepares, Walks}
+
+-- ---- an edit that keeps the shape of the text
+
+kept_table : (text made : ModelRecord) (rows : List Row) → shape_of made ≡ shape_of text → IsTableOf text rows → IsTableOf made rows
+kept_table text made rows same table = record {
+  layered = λ row h. same_layers made text same row.0 ∙ table.layered row h;
+  all = λ path s. table.all path (subst (λ (reached : Layered). IsTrue (is_there reached)) (same_layers made text same path) s);
+  in_order = table.in_order;
+}
+
+kept_shape : (text made : ModelRecord) (e : Edit) → keeps_shape e ≡ true → made ≡ changed text e → shape_of made ≡ shape_of text
+kept_shape text made e keeps is = ap shape_of is ∙ edits_keep_shape text e keeps
+
+pub kept_walk : (text made : ModelRecord) (e : Edit) → keeps_shape e ≡ true → made ≡ changed text e → Valid text → MeetsNothing made
+kept_walk text made e keeps is valid = same_walk text made (sym (kept_shape text made e keeps is)) valid.walked
+
+pub kept_world : (text made : ModelRecord) (e : Edit) (rows : List Row) → keeps_shape e ≡ true → made ≡ changed text e → Valid text → IsTableOf text rows → IsReady made → IsNamed made → IsWorld made rows
+kept_world text made e rows keeps is valid table ready named = record {
+  valid = ready_valid made ready (kept_walk text made e keeps is valid);
+  named = named;
+  literals = ready.literals;
+  table = kept_table text made rows (kept_shape text made e keeps is) table;
+}
+
+-- ---- a table that is made anew
+
+pub new_world : (made : ModelRecord) (rows shared : List Row) → shared ≡ rows → IsReady made → IsNamed made → IsTableOf made rows × MeetsNothing made → IsWorld made shared
+new_world made rows shared same ready named built = record {
+  valid = ready_valid made ready built.1;
+  named = named;
+  literals = ready.literals;
+  table = subst (λ (r : List Row). IsTableOf made r) (sym same) built.0;
+}
+
+-- ---- the answer
+
+pub walks_ok : (text made shown : ModelRecord) (e : Edit) → shown ≡ made → made ≡ changed text e → MeetsNothing made → Walks text e (Ok shown)
+walks_ok text made shown e same is nothing = (same ∙ is, subst MeetsNothing (sym same) nothing)
+
+module _ (text made : ModelRecord) (e : Edit) (accepted : IsAccepted text e made) where
+  met : (why : EditRefusal) → Meets (changed text e) why → Meets made why
+  met why m = subst (λ (t : ModelRecord). Meets t why) (sym accepted.is) m
+
+  walked_err : (why : EditRefusal) → Walks text e (Err why) → Prepares text e (Err why)
+  walked_err refusal.NoMemory w = tt
+  walked_err refusal.BadName w = (whole text e).meets made refusal.BadName accepted (met refusal.BadName w)
+  walked_err refusal.NoSuchSpace w = (whole text e).meets made refusal.NoSuchSpace accepted (met refusal.NoSuchSpace w)
+  walked_err refusal.NoSuchMember w = (whole text e).meets made refusal.NoSuchMember accepted (met refusal.NoSuchMember w)
+  walked_err refusal.NameTaken w = (whole text e).meets made refusal.NameTaken accepted (met refusal.NameTaken w)
+  walked_err refusal.WrongCount w = (whole text e).meets made refusal.WrongCount accepted (met refusal.WrongCount w)
+  walked_err refusal.ItemAddress w = (whole text e).meets made refusal.ItemAddress accepted (met refusal.ItemAddress w)
+  walked_err refusal.BadValue w = (whole text e).meets made refusal.BadValue accepted (met refusal.BadValue w)
+  walked_err (refusal.InUse path) w = (whole text e).meets made (refusal.InUse path) accepted (met (refusal.InUse path) w)
+  walked_err (refusal.Cycle ring) w = (whole text e).meets made (refusal.Cycle ring) accepted (met (refusal.Cycle ring) w)
+  walked_err (refusal.TooMany l) w = (whole text e).meets made (refusal.TooMany l) accepted (met (refusal.TooMany l) w)
+  walked_err (refusal.NoOrder path) w = (whole text e).meets made (refusal.NoOrder path) accepted (met (refusal.NoOrder path) w)
+
+  pub walked_all : (answer : Result ModelRecord EditRefusal) → Walks text e answer → Prepares text e answer
+  walked_all (Ok shown) w = (whole text e).accepts shown (record { free = accepted.free; counted = accepted.counted; is = w.0 }) w.1
+  walked_all (Err why) w = walked_err why w
+
+pub stopped : (text : ModelRecord) (e : Edit) (why : EditRefusal) → IsApplied text e (Err why) → Prepares text e (Err why)
+stopped text e refusal.NoMemory s = tt
+stopped text e refusal.BadName s = (whole text e).stops refusal.BadName s
+stopped text e refusal.NoSuchSpace s = (whole text e).stops refusal.NoSuchSpace s
+stopped text e refusal.NoSuchMember s = (whole text e).stops refusal.NoSuchMember s
+stopped text e refusal.NameTaken s = (whole text e).stops refusal.NameTaken s
+stopped text e refusal.WrongCount s = (whole text e).stops refusal.WrongCount s
+stopped text e refusal.ItemAddress s = (whole text e).stops refusal.ItemAddress s
+stopped text e refusal.BadValue s = (whole text e).stops refusal.BadValue s
+stopped text e (refusal.InUse path) s = (whole text e).stops (refusal.InUse path) s
+stopped text e (refusal.Cycle ring) s = (whole text e).stops (refusal.Cycle ring) s
+stopped text e (refusal.TooMany l) s = (whole text e).stops (refusal.TooMany l) s
+stopped text e (refusal.NoOrder path) s = (whole text e).stops (refusal.NoOrder path) s
