@@ -1,19 +1,17 @@
 -- Texts whose spaces have the same paths and bases have the same layers.
-use Rattle.std.proofs.Common.{◌≡◌, ℕ, Bool, List, [], ◌∷◌, ◌++◌, Option, Some, None, slice_get, inl, inr, refl, sym, ◌∙◌, ap, subst}
+use Rattle.std.proofs.Common.{◌≡◌, ℕ, List, [], ◌∷◌, ◌++◌, Option, Some, None, slice_get, inl, inr, refl, sym, ◌∙◌, ap}
 use Rattle.std.specs.Prelude.{option_map, option_and_then, IsTrue, length, nat_lt, if◌then◌else◌}
 use Rattle.mx_edit.specs.declared.refusal.EditRefusal.TheVariants as refusal
 use Rattle.mx_edit.specs.declared.refusal.Limit.TheVariants as limit
 use Rattle.std.specs.List.{filter_map, cons_option}
 use Rattle.std.proofs.lemmas.Option.{slice_get-map}
 use Rattle.mx_c3.specs.declared.space.SpaceId.{SpaceId}
-use Rattle.mx_c3.specs.Lists.{Has}
 use Rattle.mx_c3.specs.Linearisation.{c3, each}
-use Rattle.mx_edit.specs.declared.refusal.EditRefusal.{EditRefusal}
 use Rattle.mx_model.specs.Records.{Name, Path, SpaceRecord, ModelRecord}
 use Rattle.mx_model.specs.declared.layers.Layered.{Layered}
 use Rattle.mx_model.specs.declared.layers.Layered.TheVariants.{Layers, NoOrder, NotStatic}
-use Rattle.mx_model.specs.Layers.{paths_of, id_in, id_of, child_of, base_lists, layered, merge_orders, of_children, below, further, at_top, layers, is_there, is_static}
-use Rattle.mx_model.specs.Walk.{MeetsAt, HasBefore, own_trouble, layers_trouble}
+use Rattle.mx_model.specs.Layers.{paths_of, id_in, id_of, child_of, layered, merge_orders, of_children, below, further, at_top, layers, is_there, is_static}
+use Rattle.mx_model.specs.Walk.{HasBefore, own_trouble, layers_trouble}
 use Rattle.mx_paths.specs.Kept.{IsBuiltAlike, LayersStay, TableStays, WalkStays}
 
 by_path : (paths : List Path) (name : Name) (space : Option SpaceRecord) → option_and_then (λ (s : SpaceRecord). id_in paths (s.path ++ name ∷ [])) space ≡ option_and_then (λ (p : Path). id_in paths (p ++ name ∷ [])) (option_map (λ (s : SpaceRecord). s.path) space)
