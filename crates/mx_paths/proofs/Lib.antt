@@ -1,5 +1,6 @@
 pub mod Expanded
 pub mod FindLemmas
+pub mod KeptLemmas
 pub mod Least
 pub mod Matches
 pub mod OneChild

@@ -5,6 +5,7 @@ pub mod child;
 pub mod families;
 pub mod family;
 pub mod id;
+pub mod laws;
 pub mod orders;
 pub mod refusal;
 pub mod table;
