@@ -3,3 +3,5 @@ pub mod SameLemmas
 pub mod WorldLemmas
 pub mod Named
 pub mod PrepareLemmas
+pub mod Shapes
+pub mod KeptShape

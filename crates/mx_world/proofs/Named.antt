@@ -1,5 +1,5 @@
 -- The spaces of a text that an edit makes have names.
-use Rattle.std.proofs.Common.{◌≡◌, Bool, true, false, not, List, [], ◌∷◌, ◌++◌, map, Option, Some, None, ◌⊎◌, inl, inr, refl, sym, ◌∙◌, ap, subst, if◌then◌else◌}
+use Rattle.std.proofs.Common.{◌≡◌, Bool, true, false, not, List, [], ◌∷◌, ◌++◌, map, Option, Some, None, inl, inr, refl, ◌∙◌, ap, subst, if◌then◌else◌}
 use Rattle.std.specs.Prelude.{IsTrue}
 use Rattle.std.specs.List.{filter}
 use Rattle.std.proofs.lemmas.List.{map-append}
@@ -13,15 +13,15 @@ use Rattle.mx_edit.specs.declared.refusal.EditRefusal.TheVariants as refusal
 use Rattle.mx_model.specs.Records.{Name, Path, SpaceRecord, ModelRecord, empty_space}
 use Rattle.mx_model.specs.Layers.{paths_of}
 use Rattle.mx_model.specs.Change.{is_within, at_space}
-use Rattle.mx_model.specs.Refused.{bad_name, is_holder, record_trouble}
+use Rattle.mx_model.specs.Refused.{is_holder, record_trouble}
 use Rattle.mx_model.specs.Apply.{changed}
 use Rattle.mx_model.proofs.Filtered.{map_has, has_map}
 use Rattle.mx_model.proofs.Defined.{defined_has}
 use Rattle.mx_changes.proofs.Free.{free_of, is_true, from_space}
 use Rattle.mx_paths.specs.Names.{AreNames, IsNamed}
-use Rattle.mx_shape.specs.Shape.{shape_of, keeps_shape}
-use Rattle.mx_shape.proofs.Shapes.{same_paths}
-use Rattle.mx_shape.proofs.Kept.{edits_keep_shape}
+use Rattle.mx_world.specs.Shape.{shape_of}
+use Rattle.mx_world.proofs.Shapes.{same_paths}
+use Rattle.mx_world.proofs.KeptShape.{edits_keep_shape}
 
 -- each path of the second was one of the first
 AllOld : ModelRecord → ModelRecord → Type 0
@@ -96,10 +96,10 @@ new_named text parent name named holder is made same = record {
 pub named_after : (text : ModelRecord) (e : Edit) → IsNamed text → record_trouble text e ≡ None → IsNamed (changed text e)
 named_after text (edit.NewSpace parent name) named free =
     new_named text parent name named
-      (is_true (is_holder text parent) (free_of text (edit.NewSpace parent name) free).spaces)
-      (is_true (is_name name) (unless (not (is_name name)) refusal.BadName (from_space text (edit.NewSpace parent name)) free))
-      (changed text (edit.NewSpace parent name))
-      (map-append (λ (s : SpaceRecord). s.path) text.spaces (empty_space (parent ++ name ∷ []) ∷ []))
+    (is_true (is_holder text parent) (free_of text (edit.NewSpace parent name) free).spaces)
+    (is_true (is_name name) (unless (not (is_name name)) refusal.BadName (from_space text (edit.NewSpace parent name)) free))
+    (changed text (edit.NewSpace parent name))
+    (map-append (λ (s : SpaceRecord). s.path) text.spaces (empty_space (parent ++ name ∷ []) ∷ []))
 named_after text (edit.DelSpace path) named free =
     named_old text (changed text (edit.DelSpace path)) (λ at h. filter_old (λ (s : SpaceRecord). not (is_within path s.path)) text at h) named
 named_after text (edit.SetBases path bases) named free =

@@ -1,50 +1,40 @@
 -- An edit that is prepared: its world, and its answer.
-use Rattle.std.proofs.Common.{◌≡◌, true, List, Result, Ok, Err, refl, sym, ap, ◌∙◌, subst}
-use Rattle.std.specs.Prelude.{IsTrue}
-use Rattle.mx_c3.specs.Lists.{Has}
+use Rattle.std.proofs.Common.{◌≡◌, true, List, Result, Ok, Err, sym, ap, ◌∙◌, subst}
 use Rattle.mx_edit.specs.declared.edit.Edit.{Edit}
 use Rattle.mx_edit.specs.declared.refusal.EditRefusal.{EditRefusal}
 use Rattle.mx_edit.specs.declared.refusal.EditRefusal.TheVariants as refusal
-use Rattle.mx_model.specs.Records.{Path, ModelRecord}
-use Rattle.mx_model.specs.declared.layers.Layered.{Layered}
-use Rattle.mx_model.specs.Layers.{is_there}
+use Rattle.mx_model.specs.Records.{ModelRecord}
 use Rattle.mx_model.specs.Walk.{Meets, MeetsNothing}
 use Rattle.mx_model.specs.Valid.{Valid}
 use Rattle.mx_model.specs.Apply.{changed}
 use Rattle.mx_paths.specs.Names.{IsNamed}
 use Rattle.mx_paths.specs.Table.{Row, IsTableOf}
-use Rattle.mx_shape.specs.Shape.{shape_of, keeps_shape}
-use Rattle.mx_shape.proofs.Shapes.{same_layers}
-use Rattle.mx_shape.proofs.Walks.{same_walk}
-use Rattle.mx_shape.proofs.Kept.{edits_keep_shape}
-use Rattle.mx_whole_edits.specs.Whole.{IsAccepted, IsApplied, IsWhole}
+use Rattle.mx_paths.specs.Kept.{IsBuiltAlike}
+use Rattle.mx_paths.proofs.KeptLemmas.{table_stays, walk_stays}
+use Rattle.mx_whole_edits.specs.Whole.{IsAccepted, IsApplied}
 use Rattle.mx_whole_edits.specs.Ready.{IsReady}
 use Rattle.mx_whole_edits.proofs.WholeLemmas.{whole}
 use Rattle.mx_whole_edits.proofs.ReadyLemmas.{ready_valid}
 use Rattle.mx_world.specs.World.{IsWorld}
+use Rattle.mx_world.specs.Shape.{shape_of, keeps_shape}
 use Rattle.mx_world.specs.Prepared.{Prepares, Walks}
+use Rattle.mx_world.proofs.Shapes.{built_alike}
+use Rattle.mx_world.proofs.KeptShape.{edits_keep_shape}
 
 -- ---- an edit that keeps the shape of the text
 
-kept_table : (text made : ModelRecord) (rows : List Row) → shape_of made ≡ shape_of text → IsTableOf text rows → IsTableOf made rows
-kept_table text made rows same table = record {
-  layered = λ row h. same_layers made text same row.0 ∙ table.layered row h;
-  all = λ path s. table.all path (subst (λ (reached : Layered). IsTrue (is_there reached)) (same_layers made text same path) s);
-  in_order = table.in_order;
-}
-
-kept_shape : (text made : ModelRecord) (e : Edit) → keeps_shape e ≡ true → made ≡ changed text e → shape_of made ≡ shape_of text
-kept_shape text made e keeps is = ap shape_of is ∙ edits_keep_shape text e keeps
+alike : (text made : ModelRecord) (e : Edit) → keeps_shape e ≡ true → made ≡ changed text e → IsBuiltAlike text made
+alike text made e keeps is = built_alike made text (ap shape_of is ∙ edits_keep_shape text e keeps)
 
 pub kept_walk : (text made : ModelRecord) (e : Edit) → keeps_shape e ≡ true → made ≡ changed text e → Valid text → MeetsNothing made
-kept_walk text made e keeps is valid = same_walk text made (sym (kept_shape text made e keeps is)) valid.walked
+kept_walk text made e keeps is valid = walk_stays text made (alike text made e keeps is) valid.walked
 
 pub kept_world : (text made : ModelRecord) (e : Edit) (rows : List Row) → keeps_shape e ≡ true → made ≡ changed text e → Valid text → IsTableOf text rows → IsReady made → IsNamed made → IsWorld made rows
 kept_world text made e rows keeps is valid table ready named = record {
   valid = ready_valid made ready (kept_walk text made e keeps is valid);
   named = named;
   literals = ready.literals;
-  table = kept_table text made rows (kept_shape text made e keeps is) table;
+  table = table_stays text made rows (alike text made e keeps is) table;
 }
 
 -- ---- a table that is made anew

@@ -2,3 +2,4 @@ pub mod Bound
 pub mod Laws
 pub mod World
 pub mod Prepared
+pub mod Shape

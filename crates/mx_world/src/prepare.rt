@@ -1,6 +1,6 @@
 //! Edits of worlds.
 ghost use Rattle.std.specs.Prelude.{◌≡◌};
-ghost use Rattle.mx_shape.specs.Shape as shape;
+ghost use Rattle.mx_world.specs.Shape as shape;
 ghost use Rattle.mx_apply.specs.Chain.{CanGoOn};
 ghost use Rattle.mx_model.specs.Valid.{Valid};
 ghost use Rattle.mx_paths.specs.Names.{IsNamed};
@@ -8,6 +8,7 @@ ghost use Rattle.mx_whole_edits.specs.Ready.{IsRead, IsReady};
 ghost use Rattle.mx_whole_edits.specs.Whole.{IsAccepted};
 ghost use Rattle.mx_world.specs.Prepared.{Prepares, Walks};
 
+use crate::world::World;
 use mx_edit::edit::Edit;
 use mx_edit::refusal::EditRefusal;
 use mx_list::shared::Shared;
@@ -15,7 +16,6 @@ use mx_model::text::ModelText;
 use mx_paths::refusal::PathsRefusal;
 use mx_paths::table::Paths;
 use mx_whole_edits::whole::applied;
-use crate::world::World;
 use std::alloc::Global;
 use std::marker::Model;
 

@@ -1,10 +1,8 @@
--- The spaces of a model text with their bases, in order of creation.
+-- The spaces of a model text with their bases, in order of creation: all that its static paths and their layers rest on.
 use Rattle.std.specs.Prelude.{◌≡◌, Bool, true, false, List, map}
 use Rattle.mx_edit.specs.declared.edit.Edit.{Edit}
 use Rattle.mx_edit.specs.declared.edit.Edit.TheVariants as edit
 use Rattle.mx_model.specs.Records.{Path, SpaceRecord, ModelRecord}
-use Rattle.mx_model.specs.Layers.{layers}
-use Rattle.mx_model.specs.Walk.{MeetsNothing}
 use Rattle.mx_model.specs.Apply.{changed}
 
 abbrev pub Shape : Type 0
@@ -19,14 +17,6 @@ keeps_shape (edit.NewSpace parent name) = false
 keeps_shape (edit.DelSpace path) = false
 keeps_shape (edit.SetBases path bases) = false
 keeps_shape other = true
-
--- ---- laws
-
-abbrev pub ShapeDecidesLayers : Type 0
-ShapeDecidesLayers = (text other : ModelRecord) (path : Path) → shape_of text ≡ shape_of other → layers text path ≡ layers other path
-
-abbrev pub ShapeDecidesWalk : Type 0
-ShapeDecidesWalk = (text other : ModelRecord) → shape_of text ≡ shape_of other → MeetsNothing text → MeetsNothing other
 
 abbrev pub EditsKeepShape : Type 0
 EditsKeepShape = (text : ModelRecord) (e : Edit) → keeps_shape e ≡ true → shape_of (changed text e) ≡ shape_of text
