@@ -37,10 +37,10 @@ use Rattle.mx_syntax.specs.Heights.{first_line, returns, returns_step, any_arm, 
 use Rattle.mx_syntax.specs.Locals.{bound_by, stmt_step as bound_step, arm_step as bound_arm}
 use Rattle.mx_ops.specs.Answers.{made}
 use Rattle.mx_runs.specs.Runs.{Run}
-use Rattle.mx_formulas.specs.Environments.{Env, Reading, computed, with_local}
+use Rattle.mx_formulas.specs.Environments.{Env, computed, with_local}
 use Rattle.mx_formulas.specs.Lookup.{Callee, Called, named, valued}
 use Rattle.mx_formulas.specs.Operations.{adding, multiplying, comparing, denied, signed}
-use Rattle.mx_formulas.specs.Expressions.{Behind, Call, Over, Index, Attr, By, values_from, joined_from, chosen_from, compared_from, deciding, powered_by, applied_from, part_read, reading}
+use Rattle.mx_formulas.specs.Expressions.{Call, Over, Index, Attr, By, values_from, joined_from, chosen_from, compared_from, deciding, powered_by, applied_from, part_read, reading}
 use Rattle.mx_formulas.specs.Statements.{Doing, ArmDoing, Plain, doing, stmt_step, arm_step, displayed_from}
 use Rattle.mx_formulas.proofs.Forms.{trailer_read, sum_read, product_read, arm_read, comparison_read, power_read}
 

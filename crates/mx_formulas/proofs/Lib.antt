@@ -11,4 +11,6 @@ mod Rules
 mod NodeRules
 mod Worked
 mod Binds
+mod Rounds
 mod FormRules
+mod FurtherWorked

@@ -13,7 +13,6 @@ use Rattle.mx_syntax.specs.declared.stmt.Stmt.{Stmt}
 use Rattle.mx_syntax.specs.declared.stmt.Stmt.TheVariants as stmt
 use Rattle.mx_syntax.specs.declared.stmt.Param.{Param}
 use Rattle.mx_syntax.specs.declared.stmt.Params.{Params}
-use Rattle.mx_syntax.specs.declared.stmt.Formula.{Formula}
 use Rattle.mx_syntax.specs.declared.stmt.ItemEntry.{ItemEntry}
 use Rattle.mx_syntax.specs.declared.stmt.ItemEntry.TheVariants as entry
 use Rattle.mx_syntax.specs.Locals.{add_all}
@@ -115,14 +114,16 @@ pub static_run : {look : Key → KeyResult} {ns : Namespace} {name : Label} {par
     → Comes look (line_env (Cell ns.at name vs) ns (arguments_of params vs)) e fs v → cells_returned allow (Cell ns.at name vs) (Plain v) ≡ value_given v
     → RunsTo look (Cell ns.at name vs) (Looked (key.Input (Cell ns.at name vs)) ∷ es ++ Looked (key.Cells ns.source name) ∷ fs) (Gives (given_value v))
 static_run {look = look} {ns = ns} {name = name} {params = params} {e = e} {allow = allow} {es = es} {fs = fs} {v = v} vs s w input here count binds p ends = record {
-  leads = static_lead look ns name params (one_line e) allow vs es fs (value_given v) w here count binds (line_ends look (Cell ns.at name vs) ns (arguments_of params vs) e allow fs v p ends) s input }
+  leads = static_lead look ns name params (one_line e) allow vs es fs (value_given v) w here count binds (line_ends look (Cell ns.at name vs) ns (arguments_of params vs) e allow fs v p ends) s input;
+}
 
 pub within_run : {look : Key → KeyResult} {ns : Namespace} {name : Label} {params : List Param} {e : Expr} {allow : Bool} {es fs : List Event} {v : Value} (vs : List Value) → is_static ns.at ≡ false → Walks look ns es
     → look (key.Cells ns.source name) ≡ found.Formula (record { params = params; body = one_line e }) allow → is_wrong_count params (length vs) ≡ false → bound params vs ≡ vs
     → Comes look (line_env (Cell ns.at name vs) ns (arguments_of params vs)) e fs v → cells_returned allow (Cell ns.at name vs) (Plain v) ≡ value_given v
     → RunsTo look (Cell ns.at name vs) (es ++ Looked (key.Cells ns.source name) ∷ fs) (Gives (given_value v))
 within_run {look = look} {ns = ns} {name = name} {params = params} {e = e} {allow = allow} {es = es} {fs = fs} {v = v} vs s w here count binds p ends = record {
-  leads = within_lead look ns name params (one_line e) allow vs es fs (value_given v) w here count binds (line_ends look (Cell ns.at name vs) ns (arguments_of params vs) e allow fs v p ends) s }
+  leads = within_lead look ns name params (one_line e) allow vs es fs (value_given v) w here count binds (line_ends look (Cell ns.at name vs) ns (arguments_of params vs) e allow fs v p ends) s;
+}
 
 -- ---- items
 
@@ -202,7 +203,7 @@ abbrev pub display_line : List ItemEntry → List Stmt
 display_line entries = stmt.ReturnItem entries ∷ []
 
 module _ (n : Node) (ns : Namespace) (given : Overlay) (entries : List ItemEntry) (back : Returned → Run) where
-  display_done : body_done (display_line entries) (first_env n ns given (display_line entries)) back ≡ displayed_from entries [] None (line_env n ns given) back
+  pub display_done : body_done (display_line entries) (first_env n ns given (display_line entries)) back ≡ displayed_from entries [] None (line_env n ns given) back
   display_done =
       ap (λ (line : ℕ). done_from (map done_by (display_line entries)) line (first_env n ns given (display_line entries)) (λ x. back (Plain Nothing)) back) (first_line-display entries)
       ∙ ap (λ (names : List Label). doing (stmt.ReturnItem entries) (record { node = n; space = ns; line = 1; locals = set_locals given ++ map (λ (name : Label). (name, None)) (add_all [] (names ++ [])) }) (λ x. back (Plain Nothing)) back) (bound-display entries)

@@ -11,3 +11,4 @@ pub mod Statements
 pub mod Nodes
 pub mod Laws
 pub mod Rows
+pub mod FurtherRows

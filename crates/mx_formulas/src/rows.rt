@@ -1,5 +1,6 @@
 //! Worked examples, as theorems over the meaning of nodes.
 ghost use Rattle.mx_formulas.specs.Rows.{ReferenceAlone, ParameterHides, ParameterIsNoKey, RelativeTarget, FixedTarget, FormulaAtHome, FormulaTakenOver, TableEntry, BaseGivesCells, ReferencesAreAdded};
+ghost use Rattle.mx_formulas.specs.FurtherRows.{Circle, CircleMeansNothing, Mended, ItemCircle, Chosen, TargetAtHome, TargetTakenOver, NoNameFound, CellsTargeted, ItemIsBound};
 
 /// What some nodes of small texts mean. Does nothing when it runs.
 pub fn rows()
@@ -13,4 +14,14 @@ pub fn rows()
     ensures table_entry { TableEntry }
     ensures base_gives_cells { BaseGivesCells }
     ensures references_are_added { ReferencesAreAdded }
+    ensures circle { Circle }
+    ensures circle_means_nothing { CircleMeansNothing }
+    ensures mended { Mended }
+    ensures item_circle { ItemCircle }
+    ensures chosen { Chosen }
+    ensures target_at_home { TargetAtHome }
+    ensures target_taken_over { TargetTakenOver }
+    ensures no_name_found { NoNameFound }
+    ensures cells_targeted { CellsTargeted }
+    ensures item_is_bound { ItemIsBound }
 {}

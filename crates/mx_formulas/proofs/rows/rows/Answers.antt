@@ -1,4 +1,5 @@
 use Rattle.mx_formulas.proofs.Worked.{reference_alone, parameter_hides, parameter_is_no_key, relative_target, fixed_target, formula_at_home, formula_taken_over, table_entry, base_gives_cells, references_are_added}
+use Rattle.mx_formulas.proofs.FurtherWorked.{circle_ring, circle_nothing, mended_means, item_ring, chosen, target_at_home, target_taken_over, no_name_found, cells_targeted, item_is_bound}
 use Rattle.mx_formulas.proofs.rows.rows.Goals as goal
 
 pub returns-clause-reference_alone : goal.returns-clause-reference_alone
@@ -30,3 +31,33 @@ returns-clause-base_gives_cells c = base_gives_cells
 
 pub returns-clause-references_are_added : goal.returns-clause-references_are_added
 returns-clause-references_are_added c = references_are_added
+
+pub returns-clause-circle : goal.returns-clause-circle
+returns-clause-circle c = circle_ring
+
+pub returns-clause-circle_means_nothing : goal.returns-clause-circle_means_nothing
+returns-clause-circle_means_nothing c = circle_nothing
+
+pub returns-clause-mended : goal.returns-clause-mended
+returns-clause-mended c = mended_means
+
+pub returns-clause-item_circle : goal.returns-clause-item_circle
+returns-clause-item_circle c = item_ring
+
+pub returns-clause-chosen : goal.returns-clause-chosen
+returns-clause-chosen c = chosen
+
+pub returns-clause-target_at_home : goal.returns-clause-target_at_home
+returns-clause-target_at_home c = target_at_home
+
+pub returns-clause-target_taken_over : goal.returns-clause-target_taken_over
+returns-clause-target_taken_over c = target_taken_over
+
+pub returns-clause-no_name_found : goal.returns-clause-no_name_found
+returns-clause-no_name_found c = no_name_found
+
+pub returns-clause-cells_targeted : goal.returns-clause-cells_targeted
+returns-clause-cells_targeted c = cells_targeted
+
+pub returns-clause-item_is_bound : goal.returns-clause-item_is_bound
+returns-clause-item_is_bound c = item_is_bound
