@@ -14,3 +14,4 @@ mod Binds
 mod Rounds
 mod FormRules
 mod FurtherWorked
+mod LoopRules
