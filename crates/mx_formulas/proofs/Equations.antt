@@ -204,3 +204,9 @@ nesting_tuple items = search (values, rules)
 
 pub nesting_int : (n : ℤ) → nesting_of (value.Int n) ≡ 0
 nesting_int n = search (values, rules)
+
+pub height-change : (name : Label) (op : ArithOp) (e : Expr) → height (stmt.Change name op e) ≡ 1
+height-change name op e = ap height (sym (stmt.rolls-Change name op e)) ∙ fold-roll-Stmt ℕ ℕ height_step height_arm (Stmt-F.Change name op e)
+
+pub height-for : (name : Label) (over : Expr) (stmts : List Stmt) → height (stmt.For name over stmts) ≡ sum (map height stmts) + 1
+height-for name over stmts = ap height (sym (stmt.rolls-For name over stmts)) ∙ fold-roll-Stmt ℕ ℕ height_step height_arm (Stmt-F.For name over stmts)

@@ -36,7 +36,7 @@ use Rattle.mx_formulas.proofs.Worked.{ends, one_name, two_names, one_bound, smal
 
 -- ---- rings
 
-one_plain : (n : ℤ) → list_all is_plain (Int n ∷ []) ≡ true
+pub one_plain : (n : ℤ) → list_all is_plain (Int n ∷ []) ≡ true
 one_plain n = ap (λ (b : Bool). b && true) (plain_int n)
 
 f_asks_g : DoesAsk (model_of further.circle) (further.at_1 row.f) (further.at_1 further.g)

@@ -1,17 +1,18 @@
-mod Keeping
-mod Forms
-mod Bodies
-mod Bound
-mod Walking
-mod Items
-mod Walked
-mod Sound
-mod Equations
-mod Rules
-mod NodeRules
-mod Worked
-mod Binds
-mod Rounds
-mod FormRules
-mod FurtherWorked
-mod LoopRules
+pub mod Keeping
+pub mod Forms
+pub mod Bodies
+pub mod Bound
+pub mod Walking
+pub mod Items
+pub mod Walked
+pub mod Sound
+pub mod Equations
+pub mod Rules
+pub mod NodeRules
+pub mod Worked
+pub mod Binds
+pub mod Rounds
+pub mod FormRules
+pub mod FurtherWorked
+pub mod LoopRules
+pub mod LoopWorked

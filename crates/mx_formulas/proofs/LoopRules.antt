@@ -1,5 +1,5 @@
 -- Rules for statements, loops and generators.
-use Rattle.std.proofs.Common.{◌≡◌, refl, None, Some, Ok, Err, Result, List, [], ◌∷◌, ◌++◌, ℕ, ℤ, ◌+◌, ap, sym, ◌∙◌, subst, length, Option, Bool, true, false, ◌&&◌, nat_le, not, if◌then◌else◌, map, max, arith}
+use Rattle.std.proofs.Common.{◌≡◌, refl, None, Some, Ok, Err, List, [], ◌∷◌, ◌++◌, ℕ, ℤ, ◌+◌, ap, sym, ◌∙◌, subst, length, Option, Bool, true, false, ◌&&◌, nat_le, not, if◌then◌else◌, map, max, arith}
 use Rattle.std.proofs.lemmas.List.Sums.{sum_by-cons}
 use Rattle.std.proofs.lemmas.List.{append-nil, append_assoc}
 use Rattle.std.specs.Prelude.{sum as total}
@@ -7,37 +7,52 @@ use Rattle.std.specs.Bool.{beq}
 use Rattle.mx_value.specs.Size.{size_of}
 use Rattle.mx_value.specs.Nesting.{nesting_of, greatest}
 use Rattle.mx_value.specs.declared.label.Label.{Label}
-use Rattle.mx_value.specs.declared.value.Value.{Value, out-Value}
+use Rattle.mx_value.specs.declared.value.Value.{Value}
 use Rattle.mx_value.specs.declared.value.Value.TheVariants.{Int, Tup, Flag, Nothing}
 use Rattle.mx_value.specs.declared.fault.FaultKind.{FaultKind}
+use Rattle.mx_value.specs.declared.namespace.Namespace.{Namespace}
+use Rattle.mx_value.specs.declared.node.Node.{Node}
+use Rattle.mx_value.specs.declared.node.Node.TheVariants.{Cell}
 use Rattle.mx_value.specs.declared.fault.FaultKind.TheVariants.{TooLarge}
 use Rattle.mx_syntax.specs.declared.expr.Expr.{Expr}
+use Rattle.mx_syntax.specs.declared.expr.Expr.TheVariants as expr
+use Rattle.mx_syntax.specs.declared.expr.ProductPart.{ProductPart, roll-ProductPart}
+use Rattle.mx_syntax.specs.declared.expr.ProductOp.{ProductOp}
 use Rattle.mx_syntax.specs.declared.expr.Trailer.{Trailer}
 use Rattle.mx_syntax.specs.declared.expr.Trailer.TheVariants as trailer
 use Rattle.mx_syntax.specs.declared.expr.Args.TheVariants as arguments
 use Rattle.mx_syntax.specs.declared.stmt.Stmt.{Stmt}
 use Rattle.mx_syntax.specs.declared.stmt.Stmt.TheVariants as stmt
 use Rattle.mx_syntax.specs.declared.stmt.ArithOp.{ArithOp}
-use Rattle.mx_syntax.specs.Heights.{height}
+use Rattle.mx_syntax.specs.declared.stmt.Param.{Param}
+use Rattle.mx_syntax.specs.Binding.{bound, is_wrong_count}
+use Rattle.mx_syntax.specs.Heights.{height, first_line}
 use Rattle.mx_edit.specs.declared.key.Key.{Key}
+use Rattle.mx_edit.specs.declared.key.Key.TheVariants as key
 use Rattle.mx_edit.specs.declared.key.KeyResult.{KeyResult}
-use Rattle.mx_ops.specs.declared.builtin.Builtin.{Builtin}
-use Rattle.mx_ops.specs.Kinds.{Content, items_in, items_of}
+use Rattle.mx_edit.specs.declared.key.KeyResult.TheVariants as found
+use Rattle.mx_ops.specs.declared.op.Op.{Op}
+use Rattle.mx_ops.specs.Kinds.{items_in, items_of}
 use Rattle.mx_ops.specs.Truth.{truth}
 use Rattle.mx_ops.specs.Answers.{is_allowed, made}
-use Rattle.mx_runs.specs.Runs.{Run, Event}
-use Rattle.mx_runs.specs.Meaning.{Leads}
+use Rattle.mx_runs.specs.Runs.{Run, Gives, Faults, Event, Looked}
+use Rattle.mx_runs.specs.Meaning.{Means, Leads}
+use Rattle.mx_runs.specs.Inputs.{is_static}
+use Rattle.mx_runs.proofs.Meanings.{finished}
+use Rattle.mx_formulas.specs.Namespaces.{Overlay}
 use Rattle.mx_runs.proofs.Levels.{leads_append}
-use Rattle.mx_formulas.specs.Environments.{Env, Reading, computed, local_of, at_line, with_local, within, fault}
-use Rattle.mx_formulas.specs.Lookup.{Callee, Called, local_or, as_value, valued, named}
+use Rattle.mx_formulas.specs.Environments.{Env, Locals, Reading, computed, local_of, at_line, with_local, within, fault}
+use Rattle.mx_formulas.specs.Lookup.{Callee, Called, local_or, as_value}
 use Rattle.mx_formulas.specs.Calls.{called}
-use Rattle.mx_formulas.specs.Operations.{changing, of_two}
-use Rattle.mx_formulas.specs.Expressions.{Generator, if_passed, items_or_fault, generated_from, generated, decided_from, decided, called_over, applied, applied_from, Over, reading}
-use Rattle.mx_formulas.specs.Statements.{Returned, Plain, Doing, done_from, done_by, looped_from, doing}
+use Rattle.mx_formulas.specs.Operations.{changing, multiplying, of_two}
+use Rattle.mx_formulas.specs.Expressions.{Generator, joined_from, items_or_fault, generated_from, generated, decided_from, decided, called_over, applied, applied_from, reading}
+use Rattle.mx_formulas.specs.Statements.{Returned, Plain, Doing, done_from, done_by, looped_from, doing, body_done}
+use Rattle.mx_formulas.specs.Nodes.{arguments_of, set_locals, unset_locals, first_env, value_given, cells_returned}
 use Rattle.mx_formulas.specs.Laws.{model_of}
-use Rattle.mx_formulas.proofs.Forms.{trailer_read}
-use Rattle.mx_formulas.proofs.Equations.{out_tuple, size_tuple, size_int, nesting_tuple, nesting_int, trailer-over, doing-return, doing-assign, doing-change, doing-for}
-use Rattle.mx_formulas.proofs.Rules.{from, Comes, CallComes, TrailComes}
+use Rattle.mx_formulas.proofs.Forms.{trailer_read, product_read}
+use Rattle.mx_formulas.proofs.Equations.{part-product, product-part, out_tuple, size_tuple, size_int, nesting_tuple, nesting_int, trailer-over, doing-return, doing-assign, doing-change, doing-for}
+use Rattle.mx_formulas.proofs.Rules.{from, Walks, Comes, CallComes, TrailComes}
+use Rattle.mx_formulas.proofs.NodeRules.{RunsTo, given_value, static_lead}
 use Rattle.mx_formulas.proofs.FormRules.{Turns}
 
 items_are : (vs : List Value) → items_of (Tup vs) ≡ Some vs
@@ -91,14 +106,16 @@ returned {look = look} {env = env} {e = e} {rest = rest} {line = line} {es = es}
   leads = λ after back.
       from look _ (reading e (at_line line env) (λ x. back (Plain x))) (back (Plain v)) es
       (ap (λ (d : Doing). d (at_line line env) (λ u. done_from (map done_by rest) (line + height (stmt.Return (Some e))) u after back) back) (doing-return e))
-      (with_value look (at_line line env) e es v p (λ x. back (Plain x))) }
+      (with_value look (at_line line env) e es v p (λ x. back (Plain x)));
+}
 
 pub return_stops : {look : Key → KeyResult} {env : Env} {e : Expr} {rest : List Stmt} {line : ℕ} {es : List Event} {kind : FaultKind} → Turns look (at_line line env) e es (λ go. fault kind (at_line line env)) → DoneStops look env (stmt.Return (Some e) ∷ rest) line es kind (at_line line env)
 return_stops {look = look} {env = env} {e = e} {rest = rest} {line = line} {es = es} {kind = kind} p = record {
   leads = λ after back.
       from look _ (reading e (at_line line env) (λ x. back (Plain x))) (fault kind (at_line line env)) es
       (ap (λ (d : Doing). d (at_line line env) (λ u. done_from (map done_by rest) (line + height (stmt.Return (Some e))) u after back) back) (doing-return e))
-      (p.leads (λ c. as_value c (at_line line env) (λ x. back (Plain x)))) }
+      (p.leads (λ c. as_value c (at_line line env) (λ x. back (Plain x))));
+}
 
 module _ (look : Key → KeyResult) (env next : Env) (s : Stmt) (rest : List Stmt) (line count : ℕ) (es fs : List Event) (p : StmtGoes look (at_line line env) s es next) (h : height s ≡ count) (after : Env → Run) (back : Returned → Run) where
   further : (last : Run) → Leads (model_of look) (done_from (map done_by rest) (line + count) next after back) fs last → Leads (model_of look) (done_from (map done_by (s ∷ rest)) line env after back) (es ++ fs) last
@@ -120,7 +137,8 @@ pub assign_goes : {look : Key → KeyResult} {env : Env} {name : Label} {e : Exp
 assign_goes {look = look} {env = env} {name = name} {e = e} {es = es} {v = v} p = record {
   leads = λ after back.
       from look _ (reading e env (λ x. after (with_local name x env))) (after (with_local name v env)) es (ap (λ (d : Doing). d env after back) (doing-assign name e))
-      (with_value look env e es v p (λ x. after (with_local name x env))) }
+      (with_value look env e es v p (λ x. after (with_local name x env)));
+}
 
 pub change_goes : {look : Key → KeyResult} {env : Env} {name : Label} {op : ArithOp} {e : Expr} {es : List Event} {old v new : Value} → local_of env.locals name ≡ Some (Some old) → Comes look env e es v → of_two (changing op) old v ≡ Ok new → StmtGoes look env (stmt.Change name op e) es (with_local name new env)
 change_goes {look = look} {env = env} {name = name} {op = op} {e = e} {es = es} {old = old} {v = v} {new = new} here p h = record {
@@ -128,7 +146,8 @@ change_goes {look = look} {env = env} {name = name} {op = op} {e = e} {es = es} 
       let one : Value → Value → Run = λ x y. computed (of_two (changing op) x y) env (λ z. after (with_local name z env)) in
       from look _ (reading e env (one old)) (after (with_local name new env)) es
       (ap (λ (d : Doing). d env after back) (doing-change name op e) ∙ ap (λ (o : Option (Option Value)). local_or o name env (λ c. as_value c env (λ x. reading e env (one x)))) here)
-      (subst (λ r. Leads (model_of look) (reading e env (one old)) es r) (ap (λ r. computed r env (λ z. after (with_local name z env))) h) (with_value look env e es v p (one old))) }
+      (subst (λ r. Leads (model_of look) (reading e env (one old)) es r) (ap (λ r. computed r env (λ z. after (with_local name z env))) h) (with_value look env e es v p (one old)));
+}
 
 -- the body of a loop for each of these items
 pub record LoopGoes (look : Key → KeyResult) (env : Env) (name : Label) (stmts : List Stmt) (vs : List Value) (line : ℕ) (es : List Event) (next : Env) : Type 0 where
@@ -141,7 +160,8 @@ pub loop_more : {look : Key → KeyResult} {env mid next : Env} {name : Label} {
 loop_more {look = look} {env = env} {mid = mid} {next = next} {name = name} {stmts = stmts} {v = v} {vs = vs} {line = line} {es = es} {fs = fs} p q = record {
   leads = λ after back.
       let on : Env → Run = λ e. looped_from name (map done_by stmts) vs line e after back in
-      leads_append (model_of look) (done_from (map done_by stmts) line (with_local name v env) on back) (on mid) (after next) es fs (p.leads on back) (q.leads after back) }
+      leads_append (model_of look) (done_from (map done_by stmts) line (with_local name v env) on back) (on mid) (after next) es fs (p.leads on back) (q.leads after back);
+}
 
 pub for_goes : {look : Key → KeyResult} {env next : Env} {name : Label} {over : Expr} {stmts : List Stmt} {vs : List Value} {es fs : List Event} → Comes look env over es (Tup vs) → LoopGoes look env name stmts vs (env.line + 1) fs next → StmtGoes look env (stmt.For name over stmts) (es ++ fs) next
 for_goes {look = look} {env = env} {next = next} {name = name} {over = over} {stmts = stmts} {vs = vs} {es = es} {fs = fs} p q = record {
@@ -150,7 +170,8 @@ for_goes {look = look} {env = env} {next = next} {name = name} {over = over} {st
       let one : Value → Run = λ v. items_or_fault (items_of v) env on in
       from look _ (reading over env one) (after next) (es ++ fs) (ap (λ (d : Doing). d env after back) (doing-for name over stmts))
       (leads_append (model_of look) (reading over env one) (one (Tup vs)) (after next) es fs (with_value look env over es (Tup vs) p one)
-      (from look (one (Tup vs)) (on vs) (after next) fs (ap (λ o. items_or_fault o env on) (items_are vs)) (q.leads after back))) }
+      (from look (one (Tup vs)) (on vs) (after next) fs (ap (λ o. items_or_fault o env on) (items_are vs)) (q.leads after back)));
+}
 
 -- ---- generators without a test
 
@@ -168,7 +189,8 @@ gen_more {look = look} {env = env} {element = element} {name = name} {over = ove
   leads = λ done go.
       let one : Value → Run = λ u. generated_from (generator element name over) vs (done ++ u ∷ []) env go in
       leads_append (model_of look) (reading element (within name v env) one) (one w) (go (done ++ w ∷ items)) es fs (with_value look (within name v env) element es w p one)
-      (subst (λ r. Leads (model_of look) (one w) fs r) (ap go (append_assoc done (w ∷ []) items)) (q.leads (done ++ w ∷ []) go)) }
+      (subst (λ r. Leads (model_of look) (one w) fs r) (ap go (append_assoc done (w ∷ []) items)) (q.leads (done ++ w ∷ []) go));
+}
 
 -- as the argument of a call that takes the tuple
 pub call_over : {look : Key → KeyResult} {env : Env} {c d : Callee} {element : Expr} {name : Label} {over : Expr} {ts : List Trailer} {vs items : List Value} {es fs gs hs : List Event} {v : Value} → called_over c (generator element name over) ≡ (λ env go. generated (generator element name over) env (λ u. called c (u ∷ []) env go))
@@ -187,7 +209,8 @@ call_over {look = look} {env = env} {c = c} {d = d} {element = element} {name = 
       (from look (one (Tup vs)) (gen vs) (more v) (fs ++ gs) (ap (λ o. items_or_fault o env gen) (items_are vs))
       (leads_append (model_of look) (gen vs) (make items) (more v) fs gs (q.leads [] make)
       (from look (make items) (call (Tup items)) (more v) gs (ap (λ (b : Bool). computed (if b then Ok (Tup items) else Err TooLarge) env call) allowed) (r.leads more))))))
-      (t.leads go) }
+      (t.leads go);
+}
 
 -- `any` and `all`: no item is computed after the first that decides
 pub record DecidedComes (look : Key → KeyResult) (env : Env) (decides : Bool) (element : Expr) (name : Label) (over : Expr) (vs : List Value) (es : List Event) (v : Value) : Type 0 where
@@ -225,4 +248,53 @@ any_over {look = look} {env = env} {c = c} {d = d} {element = element} {name = n
       (from look _ (reading over env one) (more v) (es ++ fs) (ap (λ b. applied b c env more) (trailer-over element name over) ∙ ap (λ (read : Reading). read env more) is)
       (leads_append (model_of look) (reading over env one) (one (Tup vs)) (more v) es fs (with_value look env over es (Tup vs) p one)
       (from look (one (Tup vs)) (gen vs) (more v) fs (ap (λ o. items_or_fault o env gen) (items_are vs)) (q.leads more))))
-      (t.leads go) }
+      (t.leads go);
+}
+
+-- ---- nodes of several lines
+
+-- where a formula of several lines runs, with the names that it sets later
+abbrev pub lines_env : Node → Namespace → Overlay → Locals → Env
+lines_env n ns given later = record { node = n; space = ns; line = 1; locals = set_locals given ++ later }
+
+-- the body comes to what its statements come to
+body_leads : (look : Key → KeyResult) (n : Node) (ns : Namespace) (given : Overlay) (stmts : List Stmt) (later : Locals) (back : Returned → Run) (fs : List Event) (rest : Run) → unset_locals stmts ≡ later
+    → Leads (model_of look) (done_from (map done_by stmts) (first_line stmts) (lines_env n ns given later) (λ e. back (Plain Nothing)) back) fs rest → Leads (model_of look) (body_done stmts (first_env n ns given stmts) back) fs rest
+body_leads look n ns given stmts later back fs rest e l =
+    from look _ (done_from (map done_by stmts) (first_line stmts) (lines_env n ns given later) (λ x. back (Plain Nothing)) back) rest fs
+    (ap (λ (ls : Locals). done_from (map done_by stmts) (first_line stmts) (lines_env n ns given ls) (λ x. back (Plain Nothing)) back) e) l
+
+pub body_run : {look : Key → KeyResult} {ns : Namespace} {name : Label} {params : List Param} {stmts : List Stmt} {allow : Bool} {es fs : List Event} {v : Value} (vs : List Value) (later : Locals) → is_static ns.at ≡ true → Walks look ns es → look (key.Input (Cell ns.at name vs)) ≡ found.Missing
+    → look (key.Cells ns.source name) ≡ found.Formula (record { params = params; body = stmts }) allow → is_wrong_count params (length vs) ≡ false → bound params vs ≡ vs → unset_locals stmts ≡ later
+    → DoneComes look (lines_env (Cell ns.at name vs) ns (arguments_of params vs) later) stmts (first_line stmts) fs (Plain v) → cells_returned allow (Cell ns.at name vs) (Plain v) ≡ value_given v
+    → RunsTo look (Cell ns.at name vs) (Looked (key.Input (Cell ns.at name vs)) ∷ es ++ Looked (key.Cells ns.source name) ∷ fs) (Gives (given_value v))
+body_run {look = look} {ns = ns} {name = name} {params = params} {stmts = stmts} {allow = allow} {es = es} {fs = fs} {v = v} vs later s w input here count binds unset p ends =
+    let n : Node = Cell ns.at name vs in
+    let back : Returned → Run = cells_returned allow n in
+    let env : Env = lines_env n ns (arguments_of params vs) later in
+    let l : Leads (model_of look) (done_from (map done_by stmts) (first_line stmts) env (λ e. back (Plain Nothing)) back) fs (value_given v) =
+    subst (λ r. Leads (model_of look) (done_from (map done_by stmts) (first_line stmts) env (λ e. back (Plain Nothing)) back) fs r) ends (p.leads (λ e. back (Plain Nothing)) back) in
+    record { leads = static_lead look ns name params stmts allow vs es fs (value_given v) w here count binds (body_leads look n ns (arguments_of params vs) stmts later back fs (value_given v) unset l) s input }
+
+pub body_fault : {look : Key → KeyResult} {ns : Namespace} {name : Label} {params : List Param} {stmts : List Stmt} {allow : Bool} {es fs : List Event} {kind : FaultKind} {at : Env} (vs : List Value) (later : Locals) → is_static ns.at ≡ true → Walks look ns es → look (key.Input (Cell ns.at name vs)) ≡ found.Missing
+    → look (key.Cells ns.source name) ≡ found.Formula (record { params = params; body = stmts }) allow → is_wrong_count params (length vs) ≡ false → bound params vs ≡ vs → unset_locals stmts ≡ later
+    → DoneStops look (lines_env (Cell ns.at name vs) ns (arguments_of params vs) later) stmts (first_line stmts) fs kind at → Means (model_of look) (Cell ns.at name vs) (Faults kind at.node at.line)
+body_fault {look = look} {ns = ns} {name = name} {params = params} {stmts = stmts} {allow = allow} {es = es} {fs = fs} {kind = kind} {at = at} vs later s w input here count binds unset p =
+    let n : Node = Cell ns.at name vs in
+    let back : Returned → Run = cells_returned allow n in
+    finished (model_of look) n (Looked (key.Input n) ∷ es ++ Looked (key.Cells ns.source name) ∷ fs) (Faults kind at.node at.line) tt
+    (static_lead look ns name params stmts allow vs es fs (fault kind at) w here count binds (body_leads look n ns (arguments_of params vs) stmts later back fs (fault kind at) unset (p.leads (λ e. back (Plain Nothing)) back)) s input)
+
+-- a product whose second part makes a fault
+pub product_fault : {look : Key → KeyResult} {env : Env} {a : Expr} {x y : Value} {es fs : List Event} {kind : FaultKind} (op : ProductOp) (e : Expr) (rest : List ProductPart) → Comes look env a es x → Comes look env e fs y → of_two (multiplying op) x y ≡ Err kind
+    → Turns look env (expr.Product a (roll-ProductPart (record { op = op; of = e }) ∷ rest)) (es ++ fs) (λ go. fault kind env)
+product_fault {look = look} {env = env} {a = a} {x = x} {y = y} {es = es} {fs = fs} {kind = kind} op e rest p q h = record {
+  leads = λ go.
+      let on : Value → Run = λ w. joined_from (map product_read rest) w env (λ u. go (Called u)) in
+      let two : Value → Run = λ w. computed (of_two (multiplying op) x w) env on in
+      let one : Value → Run = λ w. joined_from (product_read (roll-ProductPart (record { op = op; of = e })) ∷ map product_read rest) w env (λ u. go (Called u)) in
+      from look _ (reading a env one) (fault kind env) (es ++ fs) (part-product a (roll-ProductPart (record { op = op; of = e }) ∷ rest) env go)
+      (leads_append (model_of look) (reading a env one) (one x) (fault kind env) es fs (with_value look env a es x p one)
+      (from look (one x) (reading e env two) (fault kind env) fs (ap (λ (part : Op × Reading). joined_from (part ∷ map product_read rest) x env (λ u. go (Called u))) (product-part op e))
+      (subst (λ r. Leads (model_of look) (reading e env two) fs r) (ap (λ r. computed r env on) h) (with_value look env e fs y q two))));
+}

@@ -12,3 +12,4 @@ pub mod Nodes
 pub mod Laws
 pub mod Rows
 pub mod FurtherRows
+pub mod LoopRows

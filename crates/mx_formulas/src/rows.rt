@@ -1,6 +1,7 @@
 //! Worked examples, as theorems over the meaning of nodes.
 ghost use Rattle.mx_formulas.specs.Rows.{ReferenceAlone, ParameterHides, ParameterIsNoKey, RelativeTarget, FixedTarget, FormulaAtHome, FormulaTakenOver, TableEntry, BaseGivesCells, ReferencesAreAdded};
 ghost use Rattle.mx_formulas.specs.FurtherRows.{Circle, CircleMeansNothing, Mended, ItemCircle, Chosen, TargetAtHome, TargetTakenOver, NoNameFound, CellsTargeted, ItemIsBound};
+ghost use Rattle.mx_formulas.specs.LoopRows.{Looped, Summed, DecidedEarly, FaultAtLine3, NoneIsAFault, NoneIsAllowed, BadBase, NoSuchItem, WrongItemCount};
 
 /// What some nodes of small texts mean. Does nothing when it runs.
 pub fn rows()
@@ -24,4 +25,13 @@ pub fn rows()
     ensures no_name_found { NoNameFound }
     ensures cells_targeted { CellsTargeted }
     ensures item_is_bound { ItemIsBound }
+    ensures looped { Looped }
+    ensures summed { Summed }
+    ensures decided_early { DecidedEarly }
+    ensures fault_at_line_3 { FaultAtLine3 }
+    ensures none_is_a_fault { NoneIsAFault }
+    ensures none_is_allowed { NoneIsAllowed }
+    ensures bad_base { BadBase }
+    ensures no_such_item { NoSuchItem }
+    ensures wrong_item_count { WrongItemCount }
 {}

@@ -1,5 +1,6 @@
 use Rattle.mx_formulas.proofs.Worked.{reference_alone, parameter_hides, parameter_is_no_key, relative_target, fixed_target, formula_at_home, formula_taken_over, table_entry, base_gives_cells, references_are_added}
 use Rattle.mx_formulas.proofs.FurtherWorked.{circle_ring, circle_nothing, mended_means, item_ring, chosen, target_at_home, target_taken_over, no_name_found, cells_targeted, item_is_bound}
+use Rattle.mx_formulas.proofs.LoopWorked.{looped, summed, decided_early, fault_at_line_3, none_is_a_fault, none_is_allowed, bad_base, no_such_item, wrong_item_count}
 use Rattle.mx_formulas.proofs.rows.rows.Goals as goal
 
 pub returns-clause-reference_alone : goal.returns-clause-reference_alone
@@ -61,3 +62,30 @@ returns-clause-cells_targeted c = cells_targeted
 
 pub returns-clause-item_is_bound : goal.returns-clause-item_is_bound
 returns-clause-item_is_bound c = item_is_bound
+
+pub returns-clause-looped : goal.returns-clause-looped
+returns-clause-looped c = looped
+
+pub returns-clause-summed : goal.returns-clause-summed
+returns-clause-summed c = summed
+
+pub returns-clause-decided_early : goal.returns-clause-decided_early
+returns-clause-decided_early c = decided_early
+
+pub returns-clause-fault_at_line_3 : goal.returns-clause-fault_at_line_3
+returns-clause-fault_at_line_3 c = fault_at_line_3
+
+pub returns-clause-none_is_a_fault : goal.returns-clause-none_is_a_fault
+returns-clause-none_is_a_fault c = none_is_a_fault
+
+pub returns-clause-none_is_allowed : goal.returns-clause-none_is_allowed
+returns-clause-none_is_allowed c = none_is_allowed
+
+pub returns-clause-bad_base : goal.returns-clause-bad_base
+returns-clause-bad_base c = bad_base
+
+pub returns-clause-no_such_item : goal.returns-clause-no_such_item
+returns-clause-no_such_item c = no_such_item
+
+pub returns-clause-wrong_item_count : goal.returns-clause-wrong_item_count
+returns-clause-wrong_item_count c = wrong_item_count
