@@ -6,13 +6,5 @@ pub mod Walking
 pub mod Items
 pub mod Walked
 pub mod Sound
-pub mod Equations
-pub mod Rules
-pub mod NodeRules
-pub mod Worked
 pub mod Binds
-pub mod Rounds
-pub mod FormRules
-pub mod FurtherWorked
-pub mod LoopRules
-pub mod LoopWorked
+pub mod Targets

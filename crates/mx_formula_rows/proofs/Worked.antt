@@ -26,11 +26,11 @@ use Rattle.mx_formulas.specs.Namespaces.{Step, Overlay, root, child, ends_with_n
 use Rattle.mx_formulas.specs.Calls.{entry, entry_of}
 use Rattle.mx_formulas.specs.Nodes.{path_in, source_or_fault, item_given}
 use Rattle.mx_formulas.specs.Laws.{model_of}
-use Rattle.mx_formulas.specs.Rows as row
+use Rattle.mx_formula_rows.specs.Rows as row
 use Rattle.mx_formulas.proofs.Walking.{out_name, out_item}
-use Rattle.mx_formulas.proofs.Equations.{out_space, normal_int, size_space, size_name, size_item, size_int}
-use Rattle.mx_formulas.proofs.Rules.{Walks, top, below, inside, item_events, lit, local, in_overlay, in_source, name_sought, plain_reference, table_reference, target_reference, cells_here, sum, product, plus, times, joined_end, joined_more, post, attribute_of, call, index, none, more, trail_end, call_of_cells, index_of_table}
-use Rattle.mx_formulas.proofs.NodeRules.{RunsTo, means, static_run, within_run, bare_item, displayed_item, display_base, display_refs, display_end, more_refs, no_refs, space_given}
+use Rattle.mx_formula_rows.proofs.Equations.{out_space, normal_int, size_space, size_name, size_item, size_int}
+use Rattle.mx_formula_rows.proofs.Rules.{Walks, top, below, inside, item_events, lit, local, in_overlay, in_source, name_sought, plain_reference, table_reference, target_reference, cells_here, sum, product, plus, times, joined_end, joined_more, post, attribute_of, call, index, none, more, trail_end, call_of_cells, index_of_table}
+use Rattle.mx_formula_rows.proofs.NodeRules.{RunsTo, means, static_run, within_run, bare_item, displayed_item, display_base, display_refs, display_end, more_refs, no_refs, space_given}
 
 -- ---- of addresses and arguments
 

@@ -50,10 +50,10 @@ use Rattle.mx_formulas.specs.Statements.{Returned, Plain, Doing, done_from, done
 use Rattle.mx_formulas.specs.Nodes.{arguments_of, set_locals, unset_locals, first_env, value_given, cells_returned}
 use Rattle.mx_formulas.specs.Laws.{model_of}
 use Rattle.mx_formulas.proofs.Forms.{trailer_read, product_read}
-use Rattle.mx_formulas.proofs.Equations.{part-product, product-part, out_tuple, size_tuple, size_int, nesting_tuple, nesting_int, trailer-over, doing-return, doing-assign, doing-change, doing-for}
-use Rattle.mx_formulas.proofs.Rules.{from, Walks, Comes, CallComes, TrailComes}
-use Rattle.mx_formulas.proofs.NodeRules.{RunsTo, given_value, static_lead}
-use Rattle.mx_formulas.proofs.FormRules.{Turns}
+use Rattle.mx_formula_rows.proofs.Equations.{part-product, product-part, out_tuple, size_tuple, size_int, nesting_tuple, nesting_int, trailer-over, doing-return, doing-assign, doing-change, doing-for}
+use Rattle.mx_formula_rows.proofs.Rules.{from, Walks, Comes, CallComes, TrailComes}
+use Rattle.mx_formula_rows.proofs.NodeRules.{RunsTo, given_value, static_lead}
+use Rattle.mx_formula_rows.proofs.FormRules.{Turns}
 
 items_are : (vs : List Value) → items_of (Tup vs) ≡ Some vs
 items_are vs = ap items_in (out_tuple vs)

@@ -1,7 +1,7 @@
-use Rattle.mx_formulas.proofs.Worked.{reference_alone, parameter_hides, parameter_is_no_key, relative_target, fixed_target, formula_at_home, formula_taken_over, table_entry, base_gives_cells, references_are_added}
-use Rattle.mx_formulas.proofs.FurtherWorked.{circle_ring, circle_nothing, mended_means, item_ring, chosen, target_at_home, target_taken_over, no_name_found, cells_targeted, item_is_bound}
-use Rattle.mx_formulas.proofs.LoopWorked.{looped, summed, decided_early, fault_at_line_3, none_is_a_fault, none_is_allowed, bad_base, no_such_item, wrong_item_count}
-use Rattle.mx_formulas.proofs.rows.rows.Goals as goal
+use Rattle.mx_formula_rows.proofs.Worked.{reference_alone, parameter_hides, parameter_is_no_key, relative_target, fixed_target, formula_at_home, formula_taken_over, table_entry, base_gives_cells, references_are_added}
+use Rattle.mx_formula_rows.proofs.FurtherWorked.{circle_ring, circle_nothing, mended_means, item_ring, chosen, target_at_home, target_taken_over, no_name_found, cells_targeted, item_is_bound}
+use Rattle.mx_formula_rows.proofs.LoopWorked.{looped, summed, decided_early, fault_at_line_3, none_is_a_fault, none_is_allowed, bad_base, no_such_item, wrong_item_count}
+use Rattle.mx_formula_rows.proofs.rows.rows.Goals as goal
 
 pub returns-clause-reference_alone : goal.returns-clause-reference_alone
 returns-clause-reference_alone c = reference_alone

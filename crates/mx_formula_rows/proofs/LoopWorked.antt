@@ -39,17 +39,17 @@ use Rattle.mx_formulas.specs.Operations.{multiplying, of_two}
 use Rattle.mx_formulas.specs.Statements.{Returned, Plain, Display, displayed_from}
 use Rattle.mx_formulas.specs.Nodes.{unset_locals, cells_returned, source_or_fault, path_in, item_given, item_returned}
 use Rattle.mx_formulas.specs.Laws.{model_of}
-use Rattle.mx_formulas.specs.Rows as row
-use Rattle.mx_formulas.specs.FurtherRows as further
-use Rattle.mx_formulas.specs.LoopRows as loop
+use Rattle.mx_formula_rows.specs.Rows as row
+use Rattle.mx_formula_rows.specs.FurtherRows as further
+use Rattle.mx_formula_rows.specs.LoopRows as loop
 use Rattle.mx_formulas.proofs.Walking.{out_name, out_item}
-use Rattle.mx_formulas.proofs.Equations.{out_int, out_tuple, bound-assign, bound-change, bound-for, bound-return, height-assign, height-change, height-for}
-use Rattle.mx_formulas.proofs.Rules.{from, Comes, top, lit, local, in_source, name_sought, cells_here, product, times, joined_end, joined_more, post, call, none, more, trail_end, call_of_cells}
-use Rattle.mx_formulas.proofs.NodeRules.{RunsTo, means, static_run, line_env, one_line, static_lead, line_leads, item_leads, display_done, DisplayComes, display_base, display_end}
-use Rattle.mx_formulas.proofs.FormRules.{function_named, call_of_function}
-use Rattle.mx_formulas.proofs.LoopRules.{ints_allowed, then_returns, then_stops, returned, return_stops, assign_goes, change_goes, for_goes, one_goes, loop_more, loop_end, gen_more, gen_end, call_over, any_over, decides_here, decides_later, body_run, body_fault, product_fault}
-use Rattle.mx_formulas.proofs.Worked.{ends, one_name, one_bound, small}
-use Rattle.mx_formulas.proofs.FurtherWorked.{one_plain}
+use Rattle.mx_formula_rows.proofs.Equations.{out_int, out_tuple, bound-assign, bound-change, bound-for, bound-return, height-assign, height-change, height-for}
+use Rattle.mx_formula_rows.proofs.Rules.{from, Comes, top, lit, local, in_source, name_sought, cells_here, product, times, joined_end, joined_more, post, call, none, more, trail_end, call_of_cells}
+use Rattle.mx_formula_rows.proofs.NodeRules.{RunsTo, means, static_run, line_env, one_line, static_lead, line_leads, item_leads, display_done, DisplayComes, display_base, display_end}
+use Rattle.mx_formula_rows.proofs.FormRules.{function_named, call_of_function}
+use Rattle.mx_formula_rows.proofs.LoopRules.{ints_allowed, then_returns, then_stops, returned, return_stops, assign_goes, change_goes, for_goes, one_goes, loop_more, loop_end, gen_more, gen_end, call_over, any_over, decides_here, decides_later, body_run, body_fault, product_fault}
+use Rattle.mx_formula_rows.proofs.Worked.{ends, one_name, one_bound, small}
+use Rattle.mx_formula_rows.proofs.FurtherWorked.{one_plain}
 
 -- ---- ranges
 

@@ -24,15 +24,15 @@ use Rattle.mx_formulas.specs.Namespaces.{Step, root, child}
 use Rattle.mx_formulas.specs.Walks.{entered, item_entered, stepped, walked_from, walked}
 use Rattle.mx_formulas.specs.Binding.{binding, cell_bound}
 use Rattle.mx_formulas.specs.Laws.{model_of}
-use Rattle.mx_formulas.specs.Rows as row
-use Rattle.mx_formulas.specs.FurtherRows as further
+use Rattle.mx_formula_rows.specs.Rows as row
+use Rattle.mx_formula_rows.specs.FurtherRows as further
 use Rattle.mx_formulas.proofs.Walking.{out_name, out_item}
-use Rattle.mx_formulas.proofs.Equations.{plain_int}
-use Rattle.mx_formulas.proofs.Rules.{from, top, below, lit, local, in_source, name_sought, plain_reference, target_reference, cells_here, product, times, joined_end, joined_more, post, attribute_of, call, none, more, trail_end, call_of_cells}
-use Rattle.mx_formulas.proofs.NodeRules.{RunsTo, means, static_run}
-use Rattle.mx_formulas.proofs.FormRules.{choice, arm_taken, cells_target, name_missing, post_first, post_turns, call_asks, index_asks, static_asks, static_fault, item_asks}
-use Rattle.mx_formulas.proofs.Rounds.{AskRound, round_means_nothing, round_is_ring}
-use Rattle.mx_formulas.proofs.Worked.{ends, one_name, two_names, one_bound, small, hiding_item}
+use Rattle.mx_formula_rows.proofs.Equations.{plain_int}
+use Rattle.mx_formula_rows.proofs.Rules.{from, top, below, lit, local, in_source, name_sought, plain_reference, target_reference, cells_here, product, times, joined_end, joined_more, post, attribute_of, call, none, more, trail_end, call_of_cells}
+use Rattle.mx_formula_rows.proofs.NodeRules.{RunsTo, means, static_run}
+use Rattle.mx_formula_rows.proofs.FormRules.{choice, arm_taken, cells_target, name_missing, post_first, post_turns, call_asks, index_asks, static_asks, static_fault, item_asks}
+use Rattle.mx_formula_rows.proofs.Rounds.{AskRound, round_means_nothing, round_is_ring}
+use Rattle.mx_formula_rows.proofs.Worked.{ends, one_name, two_names, one_bound, small, hiding_item}
 
 -- ---- rings
 

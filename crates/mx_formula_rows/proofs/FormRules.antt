@@ -57,9 +57,9 @@ use Rattle.mx_formulas.specs.Statements.{Returned, Plain, named_reading, display
 use Rattle.mx_formulas.specs.Nodes.{arguments_of, cells_returned, item_returned}
 use Rattle.mx_formulas.specs.Laws.{model_of}
 use Rattle.mx_formulas.proofs.Forms.{trailer_read, sum_read, arm_read, comparison_read}
-use Rattle.mx_formulas.proofs.Equations.{out_space, part-name, part-cond, arm-part, part-compare, comparison-op, part-post, part-sum, trailer-call, trailer-index}
-use Rattle.mx_formulas.proofs.Rules.{from, Walks, Stands, Comes, AllCome, NameComes, CallComes, as_walk, asking, seeking, asking_item}
-use Rattle.mx_formulas.proofs.NodeRules.{line_env, one_line, static_lead, line_leads, display_line, display_done, item_leads}
+use Rattle.mx_formula_rows.proofs.Equations.{out_space, part-name, part-cond, arm-part, part-compare, comparison-op, part-post, part-sum, trailer-call, trailer-index}
+use Rattle.mx_formula_rows.proofs.Rules.{from, Walks, Stands, Comes, AllCome, NameComes, CallComes, as_walk, asking, seeking, asking_item}
+use Rattle.mx_formula_rows.proofs.NodeRules.{line_env, one_line, static_lead, line_leads, display_line, display_done, item_leads}
 
 truth_flag : (b : Bool) → truth (value.Flag b) ≡ Ok b
 truth_flag b = ap truth_in (out_flag b)

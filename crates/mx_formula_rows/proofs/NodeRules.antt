@@ -35,8 +35,8 @@ use Rattle.mx_formulas.specs.Expressions.{reading, values_beside}
 use Rattle.mx_formulas.specs.Statements.{Returned, Plain, Display, Doing, named_reading, displayed_from, done_from, done_by, doing, body_done}
 use Rattle.mx_formulas.specs.Nodes.{arguments_of, set_locals, unset_locals, first_env, value_given, cells_returned, cells_found, cells_run, input_or, item_returned, item_done, item_made, item_found, item_run, body}
 use Rattle.mx_formulas.specs.Laws.{model_of}
-use Rattle.mx_formulas.proofs.Equations.{doing-return, bound-return, first_line-return, doing-display, bound-display, first_line-display}
-use Rattle.mx_formulas.proofs.Rules.{Walks, Comes, from}
+use Rattle.mx_formula_rows.proofs.Equations.{doing-return, bound-return, first_line-return, doing-display, bound-display, first_line-display}
+use Rattle.mx_formula_rows.proofs.Rules.{Walks, Comes, from}
 
 -- where a formula of one line runs
 abbrev pub line_env : Node → Namespace → Overlay → Env

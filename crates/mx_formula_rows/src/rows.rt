@@ -1,7 +1,7 @@
 //! Worked examples, as theorems over the meaning of nodes.
-ghost use Rattle.mx_formulas.specs.Rows.{ReferenceAlone, ParameterHides, ParameterIsNoKey, RelativeTarget, FixedTarget, FormulaAtHome, FormulaTakenOver, TableEntry, BaseGivesCells, ReferencesAreAdded};
-ghost use Rattle.mx_formulas.specs.FurtherRows.{Circle, CircleMeansNothing, Mended, ItemCircle, Chosen, TargetAtHome, TargetTakenOver, NoNameFound, CellsTargeted, ItemIsBound};
-ghost use Rattle.mx_formulas.specs.LoopRows.{Looped, Summed, DecidedEarly, FaultAtLine3, NoneIsAFault, NoneIsAllowed, BadBase, NoSuchItem, WrongItemCount};
+ghost use Rattle.mx_formula_rows.specs.Rows.{ReferenceAlone, ParameterHides, ParameterIsNoKey, RelativeTarget, FixedTarget, FormulaAtHome, FormulaTakenOver, TableEntry, BaseGivesCells, ReferencesAreAdded};
+ghost use Rattle.mx_formula_rows.specs.FurtherRows.{Circle, CircleMeansNothing, Mended, ItemCircle, Chosen, TargetAtHome, TargetTakenOver, NoNameFound, CellsTargeted, ItemIsBound};
+ghost use Rattle.mx_formula_rows.specs.LoopRows.{Looped, Summed, DecidedEarly, FaultAtLine3, NoneIsAFault, NoneIsAllowed, BadBase, NoSuchItem, WrongItemCount};
 
 /// What some nodes of small texts mean. Does nothing when it runs.
 pub fn rows()

@@ -49,7 +49,7 @@ use Rattle.mx_formulas.specs.Expressions.{Behind, Call, Index, Attr, values_from
 use Rattle.mx_formulas.specs.Laws.{model_of}
 use Rattle.mx_formulas.proofs.Walking.{out_item, walked_push, further, name_steps}
 use Rattle.mx_formulas.proofs.Forms.{trailer_read, sum_read, product_read}
-use Rattle.mx_formulas.proofs.Equations.{out_space, out_cells, out_table, part-lit, part-name, part-sum, sum-part, part-product, product-part, part-post, trailer-call, trailer-index, trailer-attr}
+use Rattle.mx_formula_rows.proofs.Equations.{out_space, out_cells, out_table, part-lit, part-name, part-sum, sum-part, part-product, product-part, part-post, trailer-call, trailer-index, trailer-attr}
 
 pub from : (look : Key → KeyResult) (run other rest : Run) (es : List Event) → run ≡ other → Leads (model_of look) other es rest → Leads (model_of look) run es rest
 from look run other rest es e l = subst (λ r. Leads (model_of look) r es rest) (sym e) l
