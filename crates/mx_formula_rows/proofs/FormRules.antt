@@ -159,14 +159,14 @@ cells_target {look = look} {ns = ns} {name = name} {env = env} {path = path} {fi
 
 -- ---- names that are found nowhere
 
-pub function_named : {look : Key → KeyResult} {env : Env} {name : Label} {b : Builtin} → local_of env.locals name ≡ None → value_in env.space.overlay name ≡ None → look (key.Name env.space.source name) ≡ found.Missing → look (key.Global name) ≡ found.Missing → builtin_of name ≡ Some b
-    → Stands look env (expr.Name name) (Looked (key.Name env.space.source name) ∷ Looked (key.Global name) ∷ []) (Function b)
+pub function_named : {look : Key → KeyResult} {env : Env} {name : Label} {b : Builtin} → local_of env.locals name ≡ None → value_in env.namespace.overlay name ≡ None → look (key.Name env.namespace.source name) ≡ found.Missing → look (key.Global name) ≡ found.Missing → builtin_of name ≡ Some b
+    → Stands look env (expr.Name name) (Looked (key.Name env.namespace.source name) ∷ Looked (key.Global name) ∷ []) (Function b)
 function_named {look = look} {env = env} {name = name} {b = b} free over missing global is = record {
   leads = λ go.
       let other : Run = Looks (key.Global name) (global_found name env go) in
-      let seek : KeyResult → Run = bound_name env.space name env (λ v. go (Called v)) other in
-      from look _ (Looks (key.Name env.space.source name) seek) (go (Function b)) (Looked (key.Name env.space.source name) ∷ Looked (key.Global name) ∷ [])
-      (part-name name env go ∙ ap (λ (o : Option (Option Value)). local_or o name env go) free ∙ ap (λ (o : Option Value). overlaid_or o env.space name env (λ v. go (Called v)) other) over) (
+      let seek : KeyResult → Run = bound_name env.namespace name env (λ v. go (Called v)) other in
+      from look _ (Looks (key.Name env.namespace.source name) seek) (go (Function b)) (Looked (key.Name env.namespace.source name) ∷ Looked (key.Global name) ∷ [])
+      (part-name name env go ∙ ap (λ (o : Option (Option Value)). local_or o name env go) free ∙ ap (λ (o : Option Value). overlaid_or o env.namespace name env (λ v. go (Called v)) other) over) (
         refl,
         from look _ other (go (Function b)) (Looked (key.Global name) ∷ []) (ap seek missing)
             (refl, ap (global_found name env go) global ∙ ap (λ o. builtin_or_none o env go) is),
@@ -185,14 +185,14 @@ pub record Turns (look : Key → KeyResult) (env : Env) (e : Expr) (es : List Ev
 pub record TrailTurns (look : Key → KeyResult) (env : Env) (c : Callee) (ts : List Trailer) (es : List Event) (rest : (Callee → Run) → Run) : Type 0 where
   pub leads : (go : Callee → Run) → Leads (model_of look) (applied_from (map trailer_read ts) c env go) es (rest go)
 
-pub name_missing : {look : Key → KeyResult} {env : Env} {name : Label} → local_of env.locals name ≡ None → value_in env.space.overlay name ≡ None → look (key.Name env.space.source name) ≡ found.Missing → look (key.Global name) ≡ found.Missing → builtin_of name ≡ None
-    → Turns look env (expr.Name name) (Looked (key.Name env.space.source name) ∷ Looked (key.Global name) ∷ []) (λ go. fault NoName env)
+pub name_missing : {look : Key → KeyResult} {env : Env} {name : Label} → local_of env.locals name ≡ None → value_in env.namespace.overlay name ≡ None → look (key.Name env.namespace.source name) ≡ found.Missing → look (key.Global name) ≡ found.Missing → builtin_of name ≡ None
+    → Turns look env (expr.Name name) (Looked (key.Name env.namespace.source name) ∷ Looked (key.Global name) ∷ []) (λ go. fault NoName env)
 name_missing {look = look} {env = env} {name = name} free over missing global is = record {
   leads = λ go.
       let other : Run = Looks (key.Global name) (global_found name env go) in
-      let seek : KeyResult → Run = bound_name env.space name env (λ v. go (Called v)) other in
-      from look _ (Looks (key.Name env.space.source name) seek) (fault NoName env) (Looked (key.Name env.space.source name) ∷ Looked (key.Global name) ∷ [])
-      (part-name name env go ∙ ap (λ (o : Option (Option Value)). local_or o name env go) free ∙ ap (λ (o : Option Value). overlaid_or o env.space name env (λ v. go (Called v)) other) over) (
+      let seek : KeyResult → Run = bound_name env.namespace name env (λ v. go (Called v)) other in
+      from look _ (Looks (key.Name env.namespace.source name) seek) (fault NoName env) (Looked (key.Name env.namespace.source name) ∷ Looked (key.Global name) ∷ [])
+      (part-name name env go ∙ ap (λ (o : Option (Option Value)). local_or o name env go) free ∙ ap (λ (o : Option Value). overlaid_or o env.namespace name env (λ v. go (Called v)) other) over) (
         refl,
         from look _ other (fault NoName env) (Looked (key.Global name) ∷ []) (ap seek missing)
             (refl, ap (global_found name env go) global ∙ ap (λ o. builtin_or_none o env go) is),

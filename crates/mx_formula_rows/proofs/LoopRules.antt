@@ -255,7 +255,7 @@ any_over {look = look} {env = env} {c = c} {d = d} {element = element} {name = n
 
 -- where a formula of several lines runs, with the names that it sets later
 abbrev pub lines_env : Node → Namespace → Overlay → Locals → Env
-lines_env n ns given later = record { node = n; space = ns; line = 1; locals = set_locals given ++ later }
+lines_env n ns given later = record { node = n; namespace = ns; line = 1; locals = set_locals given ++ later }
 
 -- the body comes to what its statements come to
 body_leads : (look : Key → KeyResult) (n : Node) (ns : Namespace) (given : Overlay) (stmts : List Stmt) (later : Locals) (back : Returned → Run) (fs : List Event) (rest : Run) → unset_locals stmts ≡ later

@@ -40,7 +40,7 @@ use Rattle.mx_formula_rows.proofs.Rules.{Walks, Comes, from}
 
 -- where a formula of one line runs
 abbrev pub line_env : Node → Namespace → Overlay → Env
-line_env n ns given = record { node = n; space = ns; line = 1; locals = set_locals given ++ [] }
+line_env n ns given = record { node = n; namespace = ns; line = 1; locals = set_locals given ++ [] }
 
 abbrev pub one_line : Expr → List Stmt
 one_line e = stmt.Return (Some e) ∷ []
@@ -52,7 +52,7 @@ module _ (n : Node) (ns : Namespace) (given : Overlay) (e : Expr) (back : Return
   line_done : body_done (one_line e) (first_env n ns given (one_line e)) back ≡ reading e (line_env n ns given) (λ v. back (Plain v))
   line_done =
       ap (λ (line : ℕ). done_from (map done_by (one_line e)) line (first_env n ns given (one_line e)) (λ x. back (Plain Nothing)) back) (first_line-return e)
-      ∙ ap (λ (us : Locals). doing (stmt.Return (Some e)) (record { node = n; space = ns; line = 1; locals = set_locals given ++ us }) (λ x. back (Plain Nothing)) back) (none_unset e)
+      ∙ ap (λ (us : Locals). doing (stmt.Return (Some e)) (record { node = n; namespace = ns; line = 1; locals = set_locals given ++ us }) (λ x. back (Plain Nothing)) back) (none_unset e)
       ∙ ap (λ (d : Doing). d (line_env n ns given) (λ x. back (Plain Nothing)) back) (doing-return e)
 
 -- the whole run of a node, as a record: its node is found from it
@@ -206,7 +206,7 @@ module _ (n : Node) (ns : Namespace) (given : Overlay) (entries : List ItemEntry
   pub display_done : body_done (display_line entries) (first_env n ns given (display_line entries)) back ≡ displayed_from entries [] None (line_env n ns given) back
   display_done =
       ap (λ (line : ℕ). done_from (map done_by (display_line entries)) line (first_env n ns given (display_line entries)) (λ x. back (Plain Nothing)) back) (first_line-display entries)
-      ∙ ap (λ (names : List Label). doing (stmt.ReturnItem entries) (record { node = n; space = ns; line = 1; locals = set_locals given ++ map (λ (name : Label). (name, None)) (add_all [] (names ++ [])) }) (λ x. back (Plain Nothing)) back) (bound-display entries)
+      ∙ ap (λ (names : List Label). doing (stmt.ReturnItem entries) (record { node = n; namespace = ns; line = 1; locals = set_locals given ++ map (λ (name : Label). (name, None)) (add_all [] (names ++ [])) }) (λ x. back (Plain Nothing)) back) (bound-display entries)
       ∙ ap (λ (d : Doing). d (line_env n ns given) (λ x. back (Plain Nothing)) back) (doing-display entries)
 
 -- of a space whose parameter formula is a display

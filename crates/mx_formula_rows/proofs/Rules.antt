@@ -148,7 +148,7 @@ in_source {look = look} {ns = ns} {name = name} {env = env} {es = es} {v = v} r 
 }
 
 -- a name in a formula that is no local
-pub name_sought : {look : Key → KeyResult} {env : Env} {name : Label} {es : List Event} {v : Value} → local_of env.locals name ≡ None → SoughtComes look env.space name env es v → Comes look env (expr.Name name) es v
+pub name_sought : {look : Key → KeyResult} {env : Env} {name : Label} {es : List Event} {v : Value} → local_of env.locals name ≡ None → SoughtComes look env.namespace name env es v → Comes look env (expr.Name name) es v
 name_sought {look = look} {env = env} {name = name} {es = es} {v = v} free p = record {
   leads = λ go.
       from look _ (sought name env go) (go (Called v)) es (part-name name env go ∙ ap (λ (o : Option (Option Value)). local_or o name env go) free)

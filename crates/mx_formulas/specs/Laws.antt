@@ -1,11 +1,11 @@
 -- Laws of the runs of formulas, over any way of looking keys up.
-use Rattle.std.specs.Prelude.{◌≡◌, true, false, List, [], ◌∷◌, ◌++◌, Some}
+use Rattle.std.specs.Prelude.{◌≡◌, true, false, List, [], ◌∷◌, ◌++◌, Some, None}
 use Rattle.mx_value.specs.declared.label.Label.{Label}
 use Rattle.mx_value.specs.declared.value.Value.TheVariants.{Space}
 use Rattle.mx_value.specs.declared.value.Segment.{Segment}
 use Rattle.mx_value.specs.declared.namespace.Namespace.{Namespace}
 use Rattle.mx_value.specs.declared.node.Node.{Node}
-use Rattle.mx_value.specs.declared.node.Node.TheVariants.{Item}
+use Rattle.mx_value.specs.declared.node.Node.TheVariants.{Cell, Item}
 use Rattle.mx_value.specs.declared.value.Value.{Value}
 use Rattle.mx_value.specs.declared.value.Segment.TheVariants as segment
 use Rattle.mx_edit.specs.declared.key.Key.{Key}
@@ -62,6 +62,10 @@ abbrev pub ItemsGiveSpaces : Type 0
 ItemsGiveSpaces =
     (look : Key → KeyResult) (at : List Segment) (args : List Value) (r : Reply) → BindsTo (model_of look) (Item at args) (Item at args)
     → Means (model_of look) (Item at args) (Gives r) → IsSpaceAt (at ++ segment.Item args ∷ []) r
+
+-- cells give a value alone, with no namespace
+abbrev pub CellsGiveValues : Type 0
+CellsGiveValues = (look : Key → KeyResult) (at : List Segment) (name : Label) (args : List Value) (r : Reply) → Means (model_of look) (Cell at name args) (Gives r) → r.namespace ≡ None
 
 -- A target that is not fixed, of a reference that the space at a path defines, lies below that path: then it leads, from
 -- where the look-up was made, to what lies there in the same place.

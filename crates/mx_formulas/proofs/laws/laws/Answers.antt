@@ -1,5 +1,6 @@
 use Rattle.mx_formulas.proofs.Sound.{asked_is_bound, tests_are_covered}
 use Rattle.mx_formulas.proofs.Binds.{one_bound_form, bound_is_bound, items_give_spaces}
+use Rattle.mx_formulas.proofs.Items.{cells_give_values}
 use Rattle.mx_formulas.proofs.Targets.{relative_targets, fixed_targets, model_targets}
 use Rattle.mx_formulas.proofs.laws.laws.Goals as goal
 
@@ -26,3 +27,6 @@ returns-clause-fixed_targets c = fixed_targets
 
 pub returns-clause-model_targets : goal.returns-clause-model_targets
 returns-clause-model_targets c = model_targets
+
+pub returns-clause-cells_give_values : goal.returns-clause-cells_give_values
+returns-clause-cells_give_values c = cells_give_values
