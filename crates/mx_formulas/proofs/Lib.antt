@@ -1,14 +1,10 @@
-mod Keeping
-mod Forms
-mod Bodies
-mod Bound
-mod Walking
-mod Items
-mod Walked
-mod Sound
-mod Equations
-mod Rules
-mod NodeRules
-mod Worked
-mod Binds
-mod FormRules
+pub mod Keeping
+pub mod Forms
+pub mod Bodies
+pub mod Bound
+pub mod Walking
+pub mod Items
+pub mod Walked
+pub mod Sound
+pub mod Binds
+pub mod Targets

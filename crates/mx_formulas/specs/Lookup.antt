@@ -56,13 +56,13 @@ builtin_or_none None env go = fault NoName env
 -- a reference of the model, whose targets are as written
 abbrev pub global_found : Label → Env → (Callee → Run) → KeyResult → Run
 global_found name env go (found.Ref value owner) =
-    Notes (read.Global name) (reference_read value [] env.space env (λ v. go (Called v)))
+    Notes (read.Global name) (reference_read value [] env.namespace env (λ v. go (Called v)))
 global_found name env go other = builtin_or_none (builtin_of name) env go
 
 -- a name that is no local: in the namespace of the formula, then among the references of the model
 abbrev pub sought : Label → Part
 sought name env go =
-    sought_in env.space name env (λ v. go (Called v)) (Looks (key.Global name) (global_found name env go))
+    sought_in env.namespace name env (λ v. go (Called v)) (Looks (key.Global name) (global_found name env go))
 
 -- a local has to be set before it is read
 abbrev pub local_or : Option (Option Value) → Label → Part

@@ -1,5 +1,7 @@
 use Rattle.mx_formulas.proofs.Sound.{asked_is_bound, tests_are_covered}
 use Rattle.mx_formulas.proofs.Binds.{one_bound_form, bound_is_bound, items_give_spaces}
+use Rattle.mx_formulas.proofs.Items.{cells_give_values}
+use Rattle.mx_formulas.proofs.Targets.{relative_targets, fixed_targets, model_targets}
 use Rattle.mx_formulas.proofs.laws.laws.Goals as goal
 
 pub returns-clause-asked_is_bound : goal.returns-clause-asked_is_bound
@@ -16,3 +18,15 @@ returns-clause-bound_is_bound c = bound_is_bound
 
 pub returns-clause-items_give_spaces : goal.returns-clause-items_give_spaces
 returns-clause-items_give_spaces c = items_give_spaces
+
+pub returns-clause-relative_targets : goal.returns-clause-relative_targets
+returns-clause-relative_targets c = relative_targets
+
+pub returns-clause-fixed_targets : goal.returns-clause-fixed_targets
+returns-clause-fixed_targets c = fixed_targets
+
+pub returns-clause-model_targets : goal.returns-clause-model_targets
+returns-clause-model_targets c = model_targets
+
+pub returns-clause-cells_give_values : goal.returns-clause-cells_give_values
+returns-clause-cells_give_values c = cells_give_values

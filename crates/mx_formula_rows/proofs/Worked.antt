@@ -26,31 +26,31 @@ use Rattle.mx_formulas.specs.Namespaces.{Step, Overlay, root, child, ends_with_n
 use Rattle.mx_formulas.specs.Calls.{entry, entry_of}
 use Rattle.mx_formulas.specs.Nodes.{path_in, source_or_fault, item_given}
 use Rattle.mx_formulas.specs.Laws.{model_of}
-use Rattle.mx_formulas.specs.Rows as row
+use Rattle.mx_formula_rows.specs.Rows as row
 use Rattle.mx_formulas.proofs.Walking.{out_name, out_item}
-use Rattle.mx_formulas.proofs.Equations.{out_space, normal_int, size_space, size_name, size_item, size_int}
-use Rattle.mx_formulas.proofs.Rules.{Walks, top, below, inside, item_events, lit, local, in_overlay, in_source, name_sought, plain_reference, table_reference, target_reference, cells_here, sum, product, plus, times, joined_end, joined_more, post, attribute_of, call, index, none, more, trail_end, call_of_cells, index_of_table}
-use Rattle.mx_formulas.proofs.NodeRules.{RunsTo, means, static_run, within_run, bare_item, displayed_item, display_base, display_refs, display_end, more_refs, no_refs, space_given}
+use Rattle.mx_formula_rows.proofs.Equations.{out_space, normal_int, size_space, size_name, size_item, size_int}
+use Rattle.mx_formula_rows.proofs.Rules.{Walks, top, below, inside, item_events, lit, local, in_overlay, in_source, name_sought, plain_reference, table_reference, target_reference, cells_here, sum, product, plus, times, joined_end, joined_more, post, attribute_of, call, index, none, more, trail_end, call_of_cells, index_of_table}
+use Rattle.mx_formula_rows.proofs.NodeRules.{RunsTo, means, static_run, within_run, bare_item, displayed_item, display_base, display_refs, display_end, more_refs, no_refs, space_given}
 
 -- ---- of addresses and arguments
 
-ends : (name : Label) → ends_with_name (segment.Name name ∷ []) ≡ true
+pub ends : (name : Label) → ends_with_name (segment.Name name ∷ []) ≡ true
 ends name = ap (λ (s : Step). is_name s) (out_name name)
 
-one_name : (name : Label) → is_static (segment.Name name ∷ []) ≡ true
+pub one_name : (name : Label) → is_static (segment.Name name ∷ []) ≡ true
 one_name name = ap (λ (s : Step). is_name s && true) (out_name name)
 
-two_names : (name other : Label) → is_static (segment.Name name ∷ segment.Name other ∷ []) ≡ true
+pub two_names : (name other : Label) → is_static (segment.Name name ∷ segment.Name other ∷ []) ≡ true
 two_names name other = ap (λ (s : Step). is_name s && (is_name (out-Segment (segment.Name other)) && true)) (out_name name) ∙ ap (λ (s : Step). is_name s && true) (out_name other)
 
-has_item : (name : Label) (args : List Value) (at : List Segment) → is_static (segment.Name name ∷ segment.Item args ∷ at) ≡ false
+pub has_item : (name : Label) (args : List Value) (at : List Segment) → is_static (segment.Name name ∷ segment.Item args ∷ at) ≡ false
 has_item name args at =
     ap (λ (s : Step). is_name s && (is_name (out-Segment (segment.Item args)) && is_static at)) (out_name name) ∙ ap (λ (s : Step). is_name s && is_static at) (out_item args)
 
-one_bound : (name : Label) (n : ℤ) → bound (record { name = name; default = None } ∷ []) (Int n ∷ []) ≡ Int n ∷ []
+pub one_bound : (name : Label) (n : ℤ) → bound (record { name = name; default = None } ∷ []) (Int n ∷ []) ≡ Int n ∷ []
 one_bound name n = ap (λ (v : Value). v ∷ []) (normal_int n)
 
-small : (name : Label) (n : ℤ) → is_allowed (segment.Name name ∷ segment.Item (Int n ∷ []) ∷ []) ≡ true
+pub small : (name : Label) (n : ℤ) → is_allowed (segment.Name name ∷ segment.Item (Int n ∷ []) ∷ []) ≡ true
 small name n =
     ap (λ (size : ℕ). nat_le size 1_000_000)
     (size_space (segment.Name name ∷ segment.Item (Int n ∷ []) ∷ [])
@@ -59,7 +59,7 @@ small name n =
 
 -- ---- a parameter hides a reference
 
-hiding_item : RunsTo row.hiding (Item (row.named (codes "S") ∷ []) (Int (pos 2) ∷ [])) (Looked (key.Params row.space_s) ∷ []) (Gives row.item_reply)
+pub hiding_item : RunsTo row.hiding (Item (row.named (codes "S") ∷ []) (Int (pos 2) ∷ [])) (Looked (key.Params row.space_s) ∷ []) (Gives row.item_reply)
 hiding_item = bare_item (Int (pos 2) ∷ []) (top (codes "S")) (ends (codes "S")) refl refl (one_bound row.x (pos 2)) (small (codes "S") (pos 2))
 
 abbrev hiding_space : Namespace

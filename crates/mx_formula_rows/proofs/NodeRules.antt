@@ -13,7 +13,6 @@ use Rattle.mx_syntax.specs.declared.stmt.Stmt.{Stmt}
 use Rattle.mx_syntax.specs.declared.stmt.Stmt.TheVariants as stmt
 use Rattle.mx_syntax.specs.declared.stmt.Param.{Param}
 use Rattle.mx_syntax.specs.declared.stmt.Params.{Params}
-use Rattle.mx_syntax.specs.declared.stmt.Formula.{Formula}
 use Rattle.mx_syntax.specs.declared.stmt.ItemEntry.{ItemEntry}
 use Rattle.mx_syntax.specs.declared.stmt.ItemEntry.TheVariants as entry
 use Rattle.mx_syntax.specs.Locals.{add_all}
@@ -36,12 +35,12 @@ use Rattle.mx_formulas.specs.Expressions.{reading, values_beside}
 use Rattle.mx_formulas.specs.Statements.{Returned, Plain, Display, Doing, named_reading, displayed_from, done_from, done_by, doing, body_done}
 use Rattle.mx_formulas.specs.Nodes.{arguments_of, set_locals, unset_locals, first_env, value_given, cells_returned, cells_found, cells_run, input_or, item_returned, item_done, item_made, item_found, item_run, body}
 use Rattle.mx_formulas.specs.Laws.{model_of}
-use Rattle.mx_formulas.proofs.Equations.{doing-return, bound-return, first_line-return, doing-display, bound-display, first_line-display}
-use Rattle.mx_formulas.proofs.Rules.{Walks, Comes, from}
+use Rattle.mx_formula_rows.proofs.Equations.{doing-return, bound-return, first_line-return, doing-display, bound-display, first_line-display}
+use Rattle.mx_formula_rows.proofs.Rules.{Walks, Comes, from}
 
 -- where a formula of one line runs
 abbrev pub line_env : Node → Namespace → Overlay → Env
-line_env n ns given = record { node = n; space = ns; line = 1; locals = set_locals given ++ [] }
+line_env n ns given = record { node = n; namespace = ns; line = 1; locals = set_locals given ++ [] }
 
 abbrev pub one_line : Expr → List Stmt
 one_line e = stmt.Return (Some e) ∷ []
@@ -53,7 +52,7 @@ module _ (n : Node) (ns : Namespace) (given : Overlay) (e : Expr) (back : Return
   line_done : body_done (one_line e) (first_env n ns given (one_line e)) back ≡ reading e (line_env n ns given) (λ v. back (Plain v))
   line_done =
       ap (λ (line : ℕ). done_from (map done_by (one_line e)) line (first_env n ns given (one_line e)) (λ x. back (Plain Nothing)) back) (first_line-return e)
-      ∙ ap (λ (us : Locals). doing (stmt.Return (Some e)) (record { node = n; space = ns; line = 1; locals = set_locals given ++ us }) (λ x. back (Plain Nothing)) back) (none_unset e)
+      ∙ ap (λ (us : Locals). doing (stmt.Return (Some e)) (record { node = n; namespace = ns; line = 1; locals = set_locals given ++ us }) (λ x. back (Plain Nothing)) back) (none_unset e)
       ∙ ap (λ (d : Doing). d (line_env n ns given) (λ x. back (Plain Nothing)) back) (doing-return e)
 
 -- the whole run of a node, as a record: its node is found from it
@@ -115,14 +114,16 @@ pub static_run : {look : Key → KeyResult} {ns : Namespace} {name : Label} {par
     → Comes look (line_env (Cell ns.at name vs) ns (arguments_of params vs)) e fs v → cells_returned allow (Cell ns.at name vs) (Plain v) ≡ value_given v
     → RunsTo look (Cell ns.at name vs) (Looked (key.Input (Cell ns.at name vs)) ∷ es ++ Looked (key.Cells ns.source name) ∷ fs) (Gives (given_value v))
 static_run {look = look} {ns = ns} {name = name} {params = params} {e = e} {allow = allow} {es = es} {fs = fs} {v = v} vs s w input here count binds p ends = record {
-  leads = static_lead look ns name params (one_line e) allow vs es fs (value_given v) w here count binds (line_ends look (Cell ns.at name vs) ns (arguments_of params vs) e allow fs v p ends) s input }
+  leads = static_lead look ns name params (one_line e) allow vs es fs (value_given v) w here count binds (line_ends look (Cell ns.at name vs) ns (arguments_of params vs) e allow fs v p ends) s input;
+}
 
 pub within_run : {look : Key → KeyResult} {ns : Namespace} {name : Label} {params : List Param} {e : Expr} {allow : Bool} {es fs : List Event} {v : Value} (vs : List Value) → is_static ns.at ≡ false → Walks look ns es
     → look (key.Cells ns.source name) ≡ found.Formula (record { params = params; body = one_line e }) allow → is_wrong_count params (length vs) ≡ false → bound params vs ≡ vs
     → Comes look (line_env (Cell ns.at name vs) ns (arguments_of params vs)) e fs v → cells_returned allow (Cell ns.at name vs) (Plain v) ≡ value_given v
     → RunsTo look (Cell ns.at name vs) (es ++ Looked (key.Cells ns.source name) ∷ fs) (Gives (given_value v))
 within_run {look = look} {ns = ns} {name = name} {params = params} {e = e} {allow = allow} {es = es} {fs = fs} {v = v} vs s w here count binds p ends = record {
-  leads = within_lead look ns name params (one_line e) allow vs es fs (value_given v) w here count binds (line_ends look (Cell ns.at name vs) ns (arguments_of params vs) e allow fs v p ends) s }
+  leads = within_lead look ns name params (one_line e) allow vs es fs (value_given v) w here count binds (line_ends look (Cell ns.at name vs) ns (arguments_of params vs) e allow fs v p ends) s;
+}
 
 -- ---- items
 
@@ -202,10 +203,10 @@ abbrev pub display_line : List ItemEntry → List Stmt
 display_line entries = stmt.ReturnItem entries ∷ []
 
 module _ (n : Node) (ns : Namespace) (given : Overlay) (entries : List ItemEntry) (back : Returned → Run) where
-  display_done : body_done (display_line entries) (first_env n ns given (display_line entries)) back ≡ displayed_from entries [] None (line_env n ns given) back
+  pub display_done : body_done (display_line entries) (first_env n ns given (display_line entries)) back ≡ displayed_from entries [] None (line_env n ns given) back
   display_done =
       ap (λ (line : ℕ). done_from (map done_by (display_line entries)) line (first_env n ns given (display_line entries)) (λ x. back (Plain Nothing)) back) (first_line-display entries)
-      ∙ ap (λ (names : List Label). doing (stmt.ReturnItem entries) (record { node = n; space = ns; line = 1; locals = set_locals given ++ map (λ (name : Label). (name, None)) (add_all [] (names ++ [])) }) (λ x. back (Plain Nothing)) back) (bound-display entries)
+      ∙ ap (λ (names : List Label). doing (stmt.ReturnItem entries) (record { node = n; namespace = ns; line = 1; locals = set_locals given ++ map (λ (name : Label). (name, None)) (add_all [] (names ++ [])) }) (λ x. back (Plain Nothing)) back) (bound-display entries)
       ∙ ap (λ (d : Doing). d (line_env n ns given) (λ x. back (Plain Nothing)) back) (doing-display entries)
 
 -- of a space whose parameter formula is a display

@@ -49,7 +49,7 @@ use Rattle.mx_formulas.specs.Expressions.{Behind, Call, Index, Attr, values_from
 use Rattle.mx_formulas.specs.Laws.{model_of}
 use Rattle.mx_formulas.proofs.Walking.{out_item, walked_push, further, name_steps}
 use Rattle.mx_formulas.proofs.Forms.{trailer_read, sum_read, product_read}
-use Rattle.mx_formulas.proofs.Equations.{out_space, out_cells, out_table, part-lit, part-name, part-sum, sum-part, part-product, product-part, part-post, trailer-call, trailer-index, trailer-attr}
+use Rattle.mx_formula_rows.proofs.Equations.{out_space, out_cells, out_table, part-lit, part-name, part-sum, sum-part, part-product, product-part, part-post, trailer-call, trailer-index, trailer-attr}
 
 pub from : (look : Key → KeyResult) (run other rest : Run) (es : List Event) → run ≡ other → Leads (model_of look) other es rest → Leads (model_of look) run es rest
 from look run other rest es e l = subst (λ r. Leads (model_of look) r es rest) (sym e) l
@@ -148,7 +148,7 @@ in_source {look = look} {ns = ns} {name = name} {env = env} {es = es} {v = v} r 
 }
 
 -- a name in a formula that is no local
-pub name_sought : {look : Key → KeyResult} {env : Env} {name : Label} {es : List Event} {v : Value} → local_of env.locals name ≡ None → SoughtComes look env.space name env es v → Comes look env (expr.Name name) es v
+pub name_sought : {look : Key → KeyResult} {env : Env} {name : Label} {es : List Event} {v : Value} → local_of env.locals name ≡ None → SoughtComes look env.namespace name env es v → Comes look env (expr.Name name) es v
 name_sought {look = look} {env = env} {name = name} {es = es} {v = v} free p = record {
   leads = λ go.
       from look _ (sought name env go) (go (Called v)) es (part-name name env go ∙ ap (λ (o : Option (Option Value)). local_or o name env go) free)

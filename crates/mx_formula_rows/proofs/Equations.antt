@@ -12,6 +12,7 @@ use Rattle.mx_value.specs.declared.value.Segment.TheFolds.{para-roll-Value}
 use Rattle.mx_value.specs.declared.value.CellsAt.{CellsAt}
 use Rattle.mx_value.specs.Plain.{is_plain}
 use Rattle.mx_value.specs.Normal.{normal_of}
+use Rattle.mx_value.specs.Nesting.{nesting_of, greatest}
 use Rattle.mx_value.specs.Size.{size_of, size_of_segment}
 use Rattle.mx_syntax.specs.declared.expr.Expr.{Expr, the_lemmas}
 use Rattle.mx_syntax.specs.declared.expr.Expr.TheVariants as expr
@@ -28,20 +29,23 @@ use Rattle.mx_syntax.specs.declared.expr.SumPart.{SumPart, roll-SumPart}
 use Rattle.mx_syntax.specs.declared.expr.SumOp.{SumOp}
 use Rattle.mx_syntax.specs.declared.expr.ProductPart.{ProductPart, roll-ProductPart}
 use Rattle.mx_syntax.specs.declared.expr.ProductOp.{ProductOp}
+use Rattle.mx_syntax.specs.declared.stmt.ArithOp.{ArithOp}
 use Rattle.mx_syntax.specs.declared.stmt.ItemEntry.{ItemEntry}
-use Rattle.mx_syntax.specs.declared.stmt.Stmt.{fold-roll-Stmt}
+use Rattle.mx_syntax.specs.declared.stmt.Stmt.{Stmt, fold-roll-Stmt}
 use Rattle.mx_syntax.specs.declared.stmt.Stmt.TheVariants as stmt
 use Rattle.mx_syntax.specs.declared.stmt.Stmt.TheOpen.{Stmt-F}
 use Rattle.mx_syntax.specs.declared.stmt.Stmt.TheFolds.{para-roll-Stmt}
+use Rattle.mx_syntax.specs.Lists.{flat}
 use Rattle.mx_syntax.specs.Heights.{first_line, returns, returns_step, any_arm, height, stmt_step as height_step, arm_step as height_arm}
 use Rattle.mx_syntax.specs.Locals.{bound_by, stmt_step as bound_step, arm_step as bound_arm}
 use Rattle.mx_ops.specs.Answers.{made}
+use Rattle.mx_ops.specs.Kinds.{items_of}
 use Rattle.mx_runs.specs.Runs.{Run}
-use Rattle.mx_formulas.specs.Environments.{Env, Reading, computed, with_local}
+use Rattle.mx_formulas.specs.Environments.{Env, computed, with_local}
 use Rattle.mx_formulas.specs.Lookup.{Callee, Called, named, valued}
-use Rattle.mx_formulas.specs.Operations.{adding, multiplying, comparing, denied, signed}
-use Rattle.mx_formulas.specs.Expressions.{Behind, Call, Over, Index, Attr, By, values_from, joined_from, chosen_from, compared_from, deciding, powered_by, applied_from, part_read, reading}
-use Rattle.mx_formulas.specs.Statements.{Doing, ArmDoing, Plain, doing, stmt_step, arm_step, displayed_from}
+use Rattle.mx_formulas.specs.Operations.{adding, multiplying, comparing, changing, of_two, denied, signed}
+use Rattle.mx_formulas.specs.Expressions.{Call, Over, Index, Attr, By, values_from, joined_from, chosen_from, compared_from, deciding, powered_by, applied_from, part_read, reading, items_or_fault}
+use Rattle.mx_formulas.specs.Statements.{Doing, ArmDoing, Plain, doing, stmt_step, arm_step, displayed_from, done_by, looped_from}
 use Rattle.mx_formulas.proofs.Forms.{trailer_read, sum_read, product_read, arm_read, comparison_read, power_read}
 
 -- ---- values and addresses
@@ -171,3 +175,38 @@ bound-assign name e = ap bound_by (sym (stmt.rolls-Assign name e)) ∙ fold-roll
 
 pub height-assign : (name : Label) (e : Expr) → height (stmt.Assign name e) ≡ 1
 height-assign name e = ap height (sym (stmt.rolls-Assign name e)) ∙ fold-roll-Stmt ℕ ℕ height_step height_arm (Stmt-F.Assign name e)
+
+pub doing-change : (name : Label) (op : ArithOp) (e : Expr) → doing (stmt.Change name op e) ≡ (λ env after back. valued (named name) env (λ old. reading e env (λ v. computed (of_two (changing op) old v) env (λ new. after (with_local name new env)))))
+doing-change name op e = ap doing (sym (stmt.rolls-Change name op e)) ∙ para-roll-Stmt Doing ArmDoing stmt_step arm_step (Stmt-F.Change name op e)
+
+pub doing-for : (name : Label) (over : Expr) (stmts : List Stmt) → doing (stmt.For name over stmts) ≡ (λ env after back. reading over env (λ v. items_or_fault (items_of v) env (λ items. looped_from name (map done_by stmts) items (env.line + 1) env after back)))
+doing-for name over stmts = ap doing (sym (stmt.rolls-For name over stmts)) ∙ para-roll-Stmt Doing ArmDoing stmt_step arm_step (Stmt-F.For name over stmts)
+
+pub bound-change : (name : Label) (op : ArithOp) (e : Expr) → bound_by (stmt.Change name op e) ≡ name ∷ []
+bound-change name op e = ap bound_by (sym (stmt.rolls-Change name op e)) ∙ fold-roll-Stmt (List Label) (List Label) bound_step bound_arm (Stmt-F.Change name op e)
+
+pub bound-for : (name : Label) (over : Expr) (stmts : List Stmt) → bound_by (stmt.For name over stmts) ≡ name ∷ flat (map bound_by stmts)
+bound-for name over stmts = ap bound_by (sym (stmt.rolls-For name over stmts)) ∙ fold-roll-Stmt (List Label) (List Label) bound_step bound_arm (Stmt-F.For name over stmts)
+
+-- ---- tuples
+
+pub out_tuple : (items : List Value) → out-Value (Tup items) ≡ Value-F.Tup items
+out_tuple items = search (values, rules)
+
+pub out_flag : (b : Bool) → out-Value (value.Flag b) ≡ Value-F.Flag b
+out_flag b = search (values, rules)
+
+pub size_tuple : (items : List Value) → size_of (Tup items) ≡ 1 + sum (map size_of items)
+size_tuple items = search (values, rules)
+
+pub nesting_tuple : (items : List Value) → nesting_of (Tup items) ≡ 1 + greatest (map nesting_of items)
+nesting_tuple items = search (values, rules)
+
+pub nesting_int : (n : ℤ) → nesting_of (value.Int n) ≡ 0
+nesting_int n = search (values, rules)
+
+pub height-change : (name : Label) (op : ArithOp) (e : Expr) → height (stmt.Change name op e) ≡ 1
+height-change name op e = ap height (sym (stmt.rolls-Change name op e)) ∙ fold-roll-Stmt ℕ ℕ height_step height_arm (Stmt-F.Change name op e)
+
+pub height-for : (name : Label) (over : Expr) (stmts : List Stmt) → height (stmt.For name over stmts) ≡ sum (map height stmts) + 1
+height-for name over stmts = ap height (sym (stmt.rolls-For name over stmts)) ∙ fold-roll-Stmt ℕ ℕ height_step height_arm (Stmt-F.For name over stmts)
