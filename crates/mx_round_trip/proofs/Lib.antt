@@ -40,3 +40,4 @@ pub mod SpaceParameters
 pub mod Within
 pub mod ParsedLines
 pub mod Addresses
+pub mod Nodes

@@ -3,8 +3,10 @@
 ghost use Rattle.std.specs.Prelude.{◌≡◌, ℕ, List, Some, Ok};
 ghost use Rattle.mx_value.specs.declared.value.Value.{Value};
 ghost use Rattle.mx_value.specs.declared.value.Segment.{Segment};
-ghost use Rattle.mx_grammar.specs.Literals.{literal_text, addr_text};
+ghost use Rattle.mx_value.specs.declared.node.Node.{Node};
+ghost use Rattle.mx_grammar.specs.Literals.{literal_text, addr_text, node_text};
 ghost use Rattle.mx_print.specs.Values.{value_text, address_text};
+ghost use Rattle.mx_print.specs.Values as values;
 ghost use Rattle.mx_syntax.specs.declared.expr.Expr.{Expr};
 ghost use Rattle.mx_syntax.specs.declared.stmt.Stmt.{Stmt};
 ghost use Rattle.mx_syntax.specs.declared.stmt.Formula.{Formula};
@@ -28,6 +30,11 @@ pub fn literals_read_back()
 /// The printed text of an address spells it again, unless it is longer than a source may be.
 pub fn addresses_read_back()
     ensures { (source : List ℕ) (a : List Segment) → ReadsBack addr_text source a (address_text a) }
+{}
+
+/// The printed text of a node spells it again, unless it is longer than a source may be.
+pub fn nodes_read_back()
+    ensures { (source : List ℕ) (n : Node) → ReadsBack node_text source n (values.node_text n) }
 {}
 
 /// The printed text of an expression spells it again, unless it is past a limit of sources.
