@@ -41,3 +41,5 @@ pub mod Within
 pub mod ParsedLines
 pub mod Addresses
 pub mod Nodes
+pub mod Weights
+pub mod Proper

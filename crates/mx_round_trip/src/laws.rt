@@ -17,6 +17,8 @@ ghost use Rattle.mx_print.specs.Statements.{print, print_params};
 ghost use Rattle.mx_parse.specs.Formulas.{formula_text, params_text};
 ghost use Rattle.mx_parse.specs.FormulaLimits.{formula_limits, params_limits};
 ghost use Rattle.mx_grammar.specs.Limits.{AnswersWithin};
+ghost use Rattle.mx_grammar.specs.Spelling.{SpellsIn};
+ghost use Rattle.mx_round_trip.specs.Proper.{IsProper};
 ghost use Rattle.mx_round_trip.specs.ReadBack.{ReadsBack, ReadsBackWithin, GivenAgain};
 ghost use Rattle.mx_round_trip.specs.ParsedLines.{HasItsLines};
 
@@ -35,6 +37,12 @@ pub fn addresses_read_back()
 /// The printed text of a node spells it again, unless it is longer than a source may be.
 pub fn nodes_read_back()
     ensures { (source : List ℕ) (n : Node) → ReadsBack node_text source n (values.node_text n) }
+{}
+
+/// A node that a source spells is proper: its arguments and the items of its address are plain values within the limits on size and
+/// nesting, and its address begins with a name, has no item directly behind another, and is no larger than a value may be.
+pub fn nodes_are_proper()
+    ensures { (source : List ℕ) (n : Node) → SpellsIn node_text source n → IsProper n }
 {}
 
 /// The printed text of an expression spells it again, unless it is past a limit of sources.
