@@ -1,0 +1,8 @@
+use Rattle.mx_script.proofs.ByLines.{commands_are, commands_only}
+use Rattle.mx_script.proofs.laws.commands_by_lines.Goals as goal
+
+pub returns-clause-are : goal.returns-clause-are
+returns-clause-are c = commands_are
+
+pub returns-clause-only : goal.returns-clause-only
+returns-clause-only c = commands_only
