@@ -6,7 +6,7 @@ use Rattle.mx_lex.proofs.Cases.{both}
 use Rattle.mx_words.specs.declared.table.CommandWord.{CommandWord}
 use Rattle.mx_words.specs.Texts.{behind_spaces}
 use Rattle.mx_words.specs.Words.{takes_lines}
-use Rattle.mx_script.specs.Script.{Command, Taken, without_cr, is_blank, goes_on, started, taken, complete, pending_after, commands}
+use Rattle.mx_script.specs.Script.{Command, Taken, without_cr, is_blank, goes_on, started, taken, complete, pending_after, commands, complete_commands, split_lines}
 use Rattle.mx_script.specs.ByLines.{lines_of, with_lines, GoesOn, BeginsAnew, AreCommands}
 
 module _ (words : List CommandWord) where
@@ -152,3 +152,6 @@ commands_are words script = (found words (lines_of script)).own 1
 
 pub commands_only : (words : List CommandWord) (script : List ℕ) (cs : List Command) → AreCommands words 1 (lines_of script) cs → cs ≡ commands words script
 commands_only words script cs h = only words 1 (lines_of script) cs h
+
+pub whole_lines_say : (words : List CommandWord) (read : List ℕ) → (last : Option Command) × AreCommands words 1 (split_lines read).whole (complete_commands words read ++ option_to_list last)
+whole_lines_say words read = (pending_after words 1 None (split_lines read).whole, (found words (split_lines read).whole).own 1)
