@@ -1,5 +1,5 @@
 -- The commands of a script, said by its lines.
-use Rattle.std.specs.Prelude.{◌≡◌, ℕ, ◌+◌, true, false, List, [], ◌∷◌, ◌++◌, length, map}
+use Rattle.std.specs.Prelude.{◌≡◌, ℕ, ◌+◌, true, false, List, [], ◌∷◌, ◌++◌, length, map, Option, option_to_list}
 use Rattle.std.specs.List.{concat, AllByRecursion}
 use Rattle.mx_words.specs.declared.table.CommandWord.{CommandWord}
 use Rattle.mx_words.specs.Texts.{behind_spaces}
@@ -32,3 +32,18 @@ pub data AreCommands (words : List CommandWord) : ℕ → List (List ℕ) → Li
       → AreCommands words n (line ∷ (more ++ lines)) (record { number = n; text = with_lines (without_cr line) more } ∷ cs)
   single : {n : ℕ} {lines : List (List ℕ)} {cs : List Command} (line : List ℕ) → is_blank (behind_spaces (without_cr line)) ≡ false → takes_lines words (behind_spaces (without_cr line)) ≡ false
       → AreCommands words (n + 1) lines cs → AreCommands words n (line ∷ lines) (record { number = n; text = without_cr line } ∷ cs)
+
+abbrev pub Words : Type 0
+Words = List CommandWord
+
+-- the lines of a script say these commands
+abbrev pub Says : Words → List ℕ → List Command → Type 0
+Says words script cs = AreCommands words 1 (lines_of script) cs
+
+-- and no others
+abbrev pub SaysNoOther : Words → List ℕ → List Command → Type 0
+SaysNoOther words script cs = (ds : List Command) → Says words script ds → ds ≡ cs
+
+-- The lines that are whole in bytes that may go on say these commands, and maybe a last one that may go on.
+abbrev pub SaysSoFar : Words → List ℕ → List Command → Type 0
+SaysSoFar words read cs = (last : Option Command) × AreCommands words 1 (split_lines read).whole (cs ++ option_to_list last)
