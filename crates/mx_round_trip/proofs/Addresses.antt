@@ -32,31 +32,31 @@ use Rattle.mx_round_trip.proofs.Back.{reads_back}
 
 -- ---- texts
 
-name_text : (n : List ℕ) → segment_text (segment.Name n) ≡ 46 ∷ n
+pub name_text : (n : List ℕ) → segment_text (segment.Name n) ≡ 46 ∷ n
 name_text n = ap segment_text (sym (segment.rolls-Name n)) ∙ fold-roll-Segment Text Text Text segment_step value_step cells_step (Segment-F.Name n)
 
 item_text : (xs : List Value) → segment_text (segment.Item xs) ≡ 91 ∷ (commas (map value_text xs) ++ 93 ∷ [])
 item_text xs = ap segment_text (sym (segment.rolls-Item xs)) ∙ fold-roll-Segment Text Text Text segment_step value_step cells_step (Segment-F.Item xs)
 
 -- an address with a point before each name
-abbrev dotted : List Segment → Text
+abbrev pub dotted : List Segment → Text
 dotted a = concat (map segment_text a)
 
-dotted_both : (a b : List Segment) → dotted (a ++ b) ≡ dotted a ++ dotted b
+pub dotted_both : (a b : List Segment) → dotted (a ++ b) ≡ dotted a ++ dotted b
 dotted_both a b = ap concat (map-append segment_text a b) ∙ concat-append (map segment_text a) (map segment_text b)
 
 -- an address begins with a name
-record Begun (a : List Segment) (text : Text) : Type 0 where
-  name : List ℕ
-  more : List Segment
-  named : IsName name
-  is : a ≡ segment.Name name ∷ more
-  says : text ≡ name ++ dotted more
+pub record Begun (a : List Segment) (text : Text) : Type 0 where
+  pub name : List ℕ
+  pub more : List Segment
+  pub named : IsName name
+  pub is : a ≡ segment.Name name ∷ more
+  pub says : text ≡ name ++ dotted more
 
 begun_dotted : (a : List Segment) (text : Text) → Begun a text → dotted a ≡ 46 ∷ text
 begun_dotted a text h = ap dotted h.is ∙ ap (λ (t : Text). t ++ dotted h.more) (name_text h.name) ∙ ap (λ (t : Text). 46 ∷ t) (sym h.says)
 
-begun_text : (a : List Segment) (text : Text) → Begun a text → address_text a ≡ text
+pub begun_text : (a : List Segment) (text : Text) → Begun a text → address_text a ≡ text
 begun_text a text h = ap address_text h.is ∙ ap (λ (t : Text). after_dot t ++ dotted h.more) (name_text h.name) ∙ sym h.says
 
 begun_both : (a b : List Segment) (s t : Text) → Begun a s → Begun b t → Begun (a ++ b) (s ++ 46 ∷ t)
@@ -76,10 +76,10 @@ begun_no_digit a text rest h =
 
 -- ---- brackets
 
-closed_square : (us : List Word) → IsClosed us → IsClosed (word.Symbol symbol.OpenSquare ∷ us ++ word.Symbol symbol.CloseSquare ∷ [])
+pub closed_square : (us : List Word) → IsClosed us → IsClosed (word.Symbol symbol.OpenSquare ∷ us ++ word.Symbol symbol.CloseSquare ∷ [])
 closed_square us h = record { same = λ n. behind_append us (word.Symbol symbol.CloseSquare ∷ []) (bracketed n) ∙ ap unbracketed (h.same (bracketed n)) ∙ closes n }
 
-no_deeper_square : (us ws : List Word) → IsClosed us → IsClosed ws → IsNoDeeper us ws → IsNoDeeper (word.Symbol symbol.OpenSquare ∷ us ++ word.Symbol symbol.CloseSquare ∷ []) (word.Symbol symbol.OpenSquare ∷ ws ++ word.Symbol symbol.CloseSquare ∷ [])
+pub no_deeper_square : (us ws : List Word) → IsClosed us → IsClosed ws → IsNoDeeper us ws → IsNoDeeper (word.Symbol symbol.OpenSquare ∷ us ++ word.Symbol symbol.CloseSquare ∷ []) (word.Symbol symbol.OpenSquare ∷ ws ++ word.Symbol symbol.CloseSquare ∷ [])
 no_deeper_square us ws cu cw h = let inner = no_deeper_both cu cw h (same_depth (word.Symbol symbol.CloseSquare ∷ [])) in record { shallow = λ d n s. (s.0, inner.shallow d (bracketed n) s.1) }
 
 -- a token that opens and closes nothing, before others
@@ -90,13 +90,13 @@ module _ (In : Spelling Value) (inner : (u : List Word) (x : Value) → AreSaid 
   -- ---- arguments
 
   -- a list with at least one item, as it stands in brackets
-  record SomeAgain (u : List Word) (xs : List Value) : Type 0 where
-    words : List Word
-    spelled : Listed In words xs
-    flat : Flat glues (commas (map value_text xs)) words
-    source_closed : IsClosed u
-    closed : IsClosed words
-    few : IsNoDeeper u words
+  pub record SomeAgain (u : List Word) (xs : List Value) : Type 0 where
+    pub words : List Word
+    pub spelled : Listed In words xs
+    pub flat : Flat glues (commas (map value_text xs)) words
+    pub source_closed : IsClosed u
+    pub closed : IsClosed words
+    pub few : IsNoDeeper u words
 
   last_again : (u : List Word) (x : Value) (us : List Word) → IsClosed us → IsNoDeeper us u → Again glues In u x (value_text x) → SomeAgain us (x ∷ [])
   last_again u x us source less g = record {
@@ -119,7 +119,7 @@ module _ (In : Spelling Value) (inner : (u : List Word) (x : Value) → AreSaid 
     few = no_deeper_both g.source_closed g.closed g.few (no_deeper_both comma_closed comma_closed (same_depth (word.Symbol symbol.Comma ∷ [])) h.few);
   }
 
-  some_again : (u : List Word) (x : Value) (xs : List Value) → AreSaid u → Listed In u (x ∷ xs) → SomeAgain u (x ∷ xs)
+  pub some_again : (u : List Word) (x : Value) (xs : List Value) → AreSaid u → Listed In u (x ∷ xs) → SomeAgain u (x ∷ xs)
   some_again _ _ _ said (Listed.one {u} {x} h) = let g = inner u x said h in last_again u x u g.source_closed (same_depth u) g
   some_again _ _ _ said (Listed.more {u} {v} {x} {xs} h k) =
       let parts = said_split u (word.Symbol symbol.Comma ∷ v) said in
@@ -127,12 +127,12 @@ module _ (In : Spelling Value) (inner : (u : List Word) (x : Value) → AreSaid 
 
   -- ---- steps
 
-  record Part (R : Spelling (List Segment)) (u : List Word) (s : List Segment) : Type 0 where
-    text : Text
-    begun : Begun s text
-    again : Again continues_name R u s text
+  pub record Part (R : Spelling (List Segment)) (u : List Word) (s : List Segment) : Type 0 where
+    pub text : Text
+    pub begun : Begun s text
+    pub again : Again continues_name R u s text
 
-  child_part : (n : List ℕ) → IsName n → Part (Step In) (word.Name n ∷ []) (segment.Name n ∷ [])
+  pub child_part : (n : List ℕ) → IsName n → Part (Step In) (word.Name n ∷ []) (segment.Name n ∷ [])
   child_part n name = record {
     text = n;
     begun = record { name = n; more = []; named = name; is = refl; says = sym (append-nil n) };
@@ -180,18 +180,18 @@ module _ (In : Spelling Value) (inner : (u : List Word) (x : Value) → AreSaid 
   dot_closed = record { same = λ n. refl }
 
   -- steps with points behind them, and a last one
-  record Led (u : List Word) (a : List Segment) (v : List Word) (s : List Segment) : Type 0 where
-    lead : List Word
-    step : List Word
-    led : Leading In lead a
-    stepped : Step In step s
-    text : Text
-    begun : Begun (a ++ s) text
-    flat : Flat continues_name text (lead ++ step)
-    starts : first_passes starts text ≡ true
-    source_closed : IsClosed (u ++ v)
-    closed : IsClosed (lead ++ step)
-    few : IsNoDeeper (u ++ v) (lead ++ step)
+  pub record Led (u : List Word) (a : List Segment) (v : List Word) (s : List Segment) : Type 0 where
+    pub lead : List Word
+    pub step : List Word
+    pub led : Leading In lead a
+    pub stepped : Step In step s
+    pub text : Text
+    pub begun : Begun (a ++ s) text
+    pub flat : Flat continues_name text (lead ++ step)
+    pub starts : first_passes starts text ≡ true
+    pub source_closed : IsClosed (u ++ v)
+    pub closed : IsClosed (lead ++ step)
+    pub few : IsNoDeeper (u ++ v) (lead ++ step)
 
   led_last : (v : List Word) (s : List Segment) → Part (Step In) v s → Led [] [] v s
   led_last v s p =
@@ -219,7 +219,7 @@ module _ (In : Spelling Value) (inner : (u : List Word) (x : Value) → AreSaid 
         few = subst (λ l. IsNoDeeper l ((g.words ++ word.Symbol symbol.Dot ∷ r.lead) ++ r.step)) (sym source) (subst (IsNoDeeper (u ++ (word.Symbol symbol.Dot ∷ (w ++ v)))) (sym words) few);
       }
 
-  led_all : (u : List Word) (a : List Segment) (v : List Word) (s : List Segment) → AreSaid u → Part (Step In) v s → Leading In u a → Led u a v s
+  pub led_all : (u : List Word) (a : List Segment) (v : List Word) (s : List Segment) → AreSaid u → Part (Step In) v s → Leading In u a → Led u a v s
   led_all _ _ v s said last Leading.none = led_last v s last
   led_all _ _ v s said last (Leading.more {u} {v = w} {s = t} {a} h k) =
       let parts = said_split u (word.Symbol symbol.Dot ∷ w) said in

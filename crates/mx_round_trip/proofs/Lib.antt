@@ -40,3 +40,6 @@ pub mod SpaceParameters
 pub mod Within
 pub mod ParsedLines
 pub mod Addresses
+pub mod Nodes
+pub mod Weights
+pub mod Proper

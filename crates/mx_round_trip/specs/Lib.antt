@@ -1,2 +1,3 @@
 pub mod ParsedLines
 pub mod ReadBack
+pub mod Proper

@@ -3,8 +3,10 @@
 ghost use Rattle.std.specs.Prelude.{◌≡◌, ℕ, List, Some, Ok};
 ghost use Rattle.mx_value.specs.declared.value.Value.{Value};
 ghost use Rattle.mx_value.specs.declared.value.Segment.{Segment};
-ghost use Rattle.mx_grammar.specs.Literals.{literal_text, addr_text};
+ghost use Rattle.mx_value.specs.declared.node.Node.{Node};
+ghost use Rattle.mx_grammar.specs.Literals.{literal_text, addr_text, node_text};
 ghost use Rattle.mx_print.specs.Values.{value_text, address_text};
+ghost use Rattle.mx_print.specs.Values as values;
 ghost use Rattle.mx_syntax.specs.declared.expr.Expr.{Expr};
 ghost use Rattle.mx_syntax.specs.declared.stmt.Stmt.{Stmt};
 ghost use Rattle.mx_syntax.specs.declared.stmt.Formula.{Formula};
@@ -15,6 +17,8 @@ ghost use Rattle.mx_print.specs.Statements.{print, print_params};
 ghost use Rattle.mx_parse.specs.Formulas.{formula_text, params_text};
 ghost use Rattle.mx_parse.specs.FormulaLimits.{formula_limits, params_limits};
 ghost use Rattle.mx_grammar.specs.Limits.{AnswersWithin};
+ghost use Rattle.mx_grammar.specs.Spelling.{SpellsIn};
+ghost use Rattle.mx_round_trip.specs.Proper.{IsProper};
 ghost use Rattle.mx_round_trip.specs.ReadBack.{ReadsBack, ReadsBackWithin, GivenAgain};
 ghost use Rattle.mx_round_trip.specs.ParsedLines.{HasItsLines};
 
@@ -28,6 +32,17 @@ pub fn literals_read_back()
 /// The printed text of an address spells it again, unless it is longer than a source may be.
 pub fn addresses_read_back()
     ensures { (source : List ℕ) (a : List Segment) → ReadsBack addr_text source a (address_text a) }
+{}
+
+/// The printed text of a node spells it again, unless it is longer than a source may be.
+pub fn nodes_read_back()
+    ensures { (source : List ℕ) (n : Node) → ReadsBack node_text source n (values.node_text n) }
+{}
+
+/// A node that a source spells is proper: its arguments and the items of its address are plain values within the limits on size and
+/// nesting, and its address begins with a name, has no item directly behind another, and is no larger than a value may be.
+pub fn nodes_are_proper()
+    ensures { (source : List ℕ) (n : Node) → SpellsIn node_text source n → IsProper n }
 {}
 
 /// The printed text of an expression spells it again, unless it is past a limit of sources.

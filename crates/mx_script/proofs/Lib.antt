@@ -2,3 +2,4 @@ pub mod Lists
 pub mod OneCommand
 pub mod Sequels
 pub mod Parted
+pub mod ByLines

@@ -1,3 +1,4 @@
 pub mod Later
 pub mod Commands
 pub mod Script
+pub mod ByLines

@@ -3,6 +3,7 @@
 
 mod command;
 mod later;
+pub mod laws;
 
 pub use command::read_command;
 pub use mx_words::command::{Command, FormRefusal};
