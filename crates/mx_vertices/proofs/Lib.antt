@@ -18,3 +18,4 @@ pub mod Settled
 pub mod Walking
 pub mod Begun
 pub mod Takers
+pub mod Statics

@@ -140,3 +140,15 @@ module _ {X : Type 0} (of : List Source → List X) (push : (xs ys : List Source
       a
       ∙ ap (λ (xs : List NodeId). of (sources_of slots xs)) (take_whole ids i l ∙ is)
       ∙ ap of (read_sources slots id edges)
+
+  -- the same behind others
+  pub gathered_behind : (first : List X) (d : NodeId) (old new : List X) → i < length ids → old ≡ first ++ of (sources_of slots (take i ids)) → new ≡ old ++ of (source_in (get_or ids i d).at (slot_at slots (get_or ids i d).at) ∷ []) → new ≡ first ++ of (sources_of slots (take (i + 1) ids))
+  gathered_behind first d old new l e f =
+      let last : List X = of (source_in (get_or ids i d).at (slot_at slots (get_or ids i d).at) ∷ []) in
+      f
+      ∙ ap (λ (xs : List X). xs ++ last) e
+      ∙ append_assoc first (of (sources_of slots (take i ids))) last
+      ∙ ap (λ (xs : List X). first ++ xs) (gathered d (of (sources_of slots (take i ids))) (of (sources_of slots (take i ids)) ++ last) l refl refl)
+
+  pub gathered_behind_all : (first : List X) (edges : List Entry) (id : NodeId) (all : List X) → length ids ≤ i → ids ≡ reads_in id edges → all ≡ first ++ of (sources_of slots (take i ids)) → all ≡ first ++ of (sources_at slots id.at edges)
+  gathered_behind_all first edges id all l is e = e ∙ ap (λ (xs : List X). first ++ xs) (gathered_all edges id (of (sources_of slots (take i ids))) l is refl)

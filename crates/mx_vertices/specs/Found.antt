@@ -20,6 +20,10 @@ node_at slots q = (body_of (slot_at slots q)).node
 abbrev pub IsFound : (Asked → Option Standing) → List Slot → List (Option NodeId) → Type 0
 IsFound look slots order = (p : ℕ) (id : NodeId) → at order p ≡ Some id → look (node_at slots id.at) ≡ Some (Ended id)
 
+-- the table leads to each vertex that is a held node
+abbrev pub LeadsTo : (Asked → Option Standing) → List Slot → Type 0
+LeadsTo look slots = (q : ℕ) (h : Held) → slot_at slots q ≡ Node h → (id : NodeId) × (look h.body.node ≡ Some (Ended id)) × (id.at ≡ q)
+
 -- the table without what a slot holds
 abbrev pub look_without : Slot → (Asked → Option Standing) → Asked → Option Standing
 look_without Free look n = look n

@@ -8,6 +8,7 @@ ghost use Rattle.mx_vertices.specs.Places.{held_in, slot_at};
 ghost use Rattle.mx_vertices.specs.Kept.{IsTouched, HasChanged, IsToGo, Sifts, IsNode, IsWhole, entries};
 
 use crate::finding::Table;
+use crate::inputs::mark_inputs;
 use crate::marking::{mark_after, mark_changed, mark_where};
 use crate::slot::Slot;
 use crate::sweep::sweep;
@@ -16,7 +17,7 @@ use crate::test_of_node::NodeTest;
 use crate::unread::drop_unread;
 use mx_graph::{NodeId, ReadGraph};
 
-/// Drops each node that read a changed key, with all that reach it.
+/// Drops each node that read a changed key, its own input among them, with all that reach it.
 pub fn drop_changed<T: KeyTest>(
     graph: &mut ReadGraph,
     slots: &mut Vec<Slot>,
@@ -39,6 +40,7 @@ pub fn drop_changed<T: KeyTest>(
 {
     graph.relation();
     mark_changed(graph, slots.as_slice(), keys.as_slice(), test);
+    mark_inputs(graph, slots.as_slice(), table, test.changed_inputs());
     sweep(graph, slots, order, keys, count, table);
     drop_unread(graph, slots, order, keys, count, table);
 }

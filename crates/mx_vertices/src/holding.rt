@@ -2,7 +2,7 @@
 ghost use Rattle.std.specs.Prelude.{◌≡◌, ◌<◌, ◌≤◌, ◌+◌, ◌++◌, ◌∷◌, [], ℕ, Some, length, IfOk, OnOk, OnErr, map as map_list};
 ghost use Rattle.mx_vertices.specs.declared.slot.Slot.TheVariants.{Free, Node as Slot_Node};
 ghost use Rattle.mx_vertices.specs.Places.{slot_at};
-ghost use Rattle.mx_vertices.specs.Kept.{IsWhole, IsNode, looked, entries};
+ghost use Rattle.mx_vertices.specs.Kept.{IsWhole, IsNode, looked, own_key, entries};
 ghost use Rattle.mx_vertices.specs.Held.{sources_of, with_sources, AreThere, AreNodes, asked_id};
 
 use crate::slot::{Body, Slot};
@@ -102,7 +102,7 @@ pub fn hold_with(
     requires whole { IsWhole graph.old slots.old.items order.old.items keys.now }
     requires there { AreThere slots.old.items sources.now }
     ensures whole { IsWhole graph.new slots.new.items order.new.items keys.now }
-    ensures held { IfOk result (λ id. entries graph.new.edges slots.new.items 0 order.new.items ≡ entries graph.old.edges slots.old.items 0 order.old.items ++ record { stamp = length order.old.items + 1; id = id.at; body = body; sources = sources_of slots.old.items sources.now } ∷ []) }
+    ensures held { IfOk result (λ id. entries graph.new.edges slots.new.items 0 order.new.items ≡ entries graph.old.edges slots.old.items 0 order.old.items ++ record { stamp = length order.old.items + 1; id = id.at; body = body; sources = own_key body.node ++ sources_of slots.old.items sources.now } ∷ []) }
     ensures node { IfOk result (λ id. slot_at slots.new.items id.at ≡ Slot_Node (record { body = body; place = length order.old.items })) }
     ensures order { IfOk result (λ id. order.new.items ≡ order.old.items ++ Some id ∷ []) }
     ensures stays { (q : ℕ) → (slot_at slots.old.items q ≡ Free → ⊥) → slot_at slots.new.items q ≡ slot_at slots.old.items q }

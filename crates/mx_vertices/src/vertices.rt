@@ -4,7 +4,7 @@ ghost use Rattle.std.specs.FinMap as map;
 ghost use Rattle.mx_vertices.specs.declared.slot.Slot.TheVariants.{Free, Node as Slot_Node, Watch as Slot_Watch};
 ghost use Rattle.mx_vertices.specs.Places.{slot_at, at};
 ghost use Rattle.mx_vertices.specs.Found.{IsBodyAt};
-ghost use Rattle.mx_vertices.specs.Kept.{IsWhole, IsKeyAt, IsNode, with_read, source_in, entries};
+ghost use Rattle.mx_vertices.specs.Kept.{IsWhole, IsKeyAt, IsNode, with_read, own_key, source_in, entries};
 
 use crate::slot::{Body, Held, Slot, Watched};
 use mx_edit::equality::equality_laws;
@@ -79,7 +79,7 @@ pub fn hold_in(
 ) -> Result<NodeId, NoMemory>
     requires { IsWhole graph.old slots.old.items order.old.items keys.now }
     ensures whole { IsWhole graph.new slots.new.items order.new.items keys.now }
-    ensures held { IfOk result (λ id. entries graph.new.edges slots.new.items 0 order.new.items ≡ entries graph.old.edges slots.old.items 0 order.old.items ++ record { stamp = length order.old.items + 1; id = id.at; body = body; sources = [] } ∷ []) }
+    ensures held { IfOk result (λ id. entries graph.new.edges slots.new.items 0 order.new.items ≡ entries graph.old.edges slots.old.items 0 order.old.items ++ record { stamp = length order.old.items + 1; id = id.at; body = body; sources = own_key body.node } ∷ []) }
     ensures node { IfOk result (λ id. slot_at slots.new.items id.at ≡ Slot_Node (record { body = body; place = length order.old.items })) }
     ensures stays { (q : ℕ) → (slot_at slots.old.items q ≡ Free → ⊥) → slot_at slots.new.items q ≡ slot_at slots.old.items q }
     ensures room { OnOk result (reads ≤ graph.new.spare_edges) }
