@@ -17,14 +17,15 @@ use mx_value::node::Node;
 use mx_vertices::drops::{drop_after, drop_changed, drop_one, drop_where};
 use mx_vertices::finding::{Table, begin_in, end_in, holds_node, node_laws};
 use mx_vertices::holding::{hold_with, vertices_of};
+use mx_vertices::inputs::node_of_input;
 use mx_vertices::settle::settle;
 use mx_vertices::slot::{Body, Slot};
 use mx_vertices::stamps::{first_from, place_at};
 use mx_vertices::standing::Standing;
 use mx_vertices::test_of_key::KeyTest;
 use mx_vertices::test_of_node::NodeTest;
-use mx_vertices::vertices::{body_at, find_key};
-use mx_vertices::walks::{asks_at, keys_at, readers_at};
+use mx_vertices::vertices::body_at;
+use mx_vertices::walks::{asks_at, key_readers, keys_at, readers_at};
 use std::alloc::Global;
 use std::collections::HashMap;
 use std::marker::Model;
@@ -169,7 +170,8 @@ impl Memo {
         Some(place + 1)
     }
 
-    /// The keys that the run of a held node looked up, each once and in order of first occurrence.
+    /// The keys that the run of a held node looked up, in order of first occurrence: that of its own input first, where the
+    /// node is static, and then those that it was held with.
     pub fn keys_of(&self, alloc: Global, id: NodeId) -> Result<Vec<Key>, NoMemory>
         requires { IsHeld self.now.held id.at }
         ensures { IfOk result (λ keys. LookedUp self.now.held id.at keys.items) }
@@ -185,15 +187,17 @@ impl Memo {
         asks_at(alloc, &self.graph, &self.slots, id)
     }
 
-    /// The held nodes whose runs looked a key up.
+    /// The held nodes whose runs looked a key up. Where the key is that of an input, the input's own node is among them.
     pub fn readers_of(&self, alloc: Global, key: &Key) -> Result<Vec<NodeId>, NoMemory>
         ensures { IfOk result (λ ids. AreTakers self.now.held (looked key.now) ids.items) }
     {
         self.graph.relation();
-        let Some(id) = find_key(&self.slots, &self.keys, key) else {
-            return Ok(Vec::new(alloc));
+        let mut ids = key_readers(alloc, &self.graph, &self.slots, &self.keys, key)?;
+        let Some(id) = node_of_input(&self.slots, &self.table, key) else {
+            return Ok(ids);
         };
-        readers_at(alloc, &self.graph, id)
+        ids.push(id)?;
+        Ok(ids)
     }
 
     /// The held nodes whose runs asked a held node.
@@ -222,7 +226,8 @@ impl Memo {
     }
 
     /// Holds a node behind all others, with the keys that its run looked up and the held nodes that it asked, each once
-    /// and in order of first occurrence. Its run has ended before. `Full` comes exactly where as many are held as may be.
+    /// and in order of first occurrence. The key of its own input, which a static node looks up first, is not given: it is
+    /// seen among its keys all the same. Its run has ended before. `Full` comes exactly where as many are held as may be.
     /// After an error the memo is as before.
     pub fn hold(&mut self, body: Body, keys: &[Key], asks: &[NodeId]) -> Result<NodeId, HoldRefusal>
         requires new { IsNew self.old.held body.node }
@@ -287,7 +292,8 @@ impl Memo {
         );
     }
 
-    /// Keeps exactly the nodes that neither looked a changed key up nor reach one that did, and tells how many are dropped.
+    /// Keeps exactly the nodes that neither looked a changed key up, the key of their own input among them, nor reach one
+    /// that did, and tells how many are dropped.
     pub fn keep_unchanged<T: KeyTest>(&mut self, test: &T) -> u32
         ensures drops { Sifts (IsTouched (HasChanged (T.changed test.now)) self.old.held) self.old.held self.new.held }
         ensures count { result + length self.new.held ≡ length self.old.held }

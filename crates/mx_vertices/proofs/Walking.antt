@@ -10,7 +10,10 @@ use Rattle.mx_graph.specs.Relation.{Entry, by_reader, find, next_in, Walks, IsAp
 use Rattle.mx_edit.specs.declared.key.Key.{Key}
 use Rattle.mx_vertices.specs.declared.slot.Slot.{Slot}
 use Rattle.mx_vertices.specs.Places.{slot_at, Has}
-use Rattle.mx_vertices.specs.Kept.{Source, looked, asked, source_in, sources_at}
+use Rattle.mx_edit.specs.declared.key.Key.TheVariants.{Input}
+use Rattle.mx_value.specs.declared.node.Node.{Node as Asked}
+use Rattle.mx_vertices.specs.Inputs.{is_static}
+use Rattle.mx_vertices.specs.Kept.{Source, looked, asked, own_key, source_in, sources_at}
 use Rattle.mx_vertices.specs.Held.{sources_of}
 use Rattle.mx_vertices.specs.Reading.{keys_in, asks_in, entry_read, reads_in}
 use Rattle.mx_vertices.proofs.Edges.{has_find, filter_has}
@@ -119,6 +122,15 @@ pub asks_push : (xs ys : List Source) → asks_in (xs ++ ys) ≡ asks_in xs ++ a
 asks_push [] ys = refl
 asks_push (looked k ∷ xs) ys = asks_push xs ys
 asks_push (asked m ∷ xs) ys = ap (λ (ms : List ℕ). m ∷ ms) (asks_push xs ys)
+
+-- the key of its own input is nothing that a node asked
+pub asks_own : (n : Asked) (rs : List Source) → asks_in (own_key n ++ rs) ≡ asks_in rs
+unfolding own_key
+asks_own n rs = by (is_static n)
+  where
+    by : (b : Bool) → asks_in (cond b (looked (Input n) ∷ []) [] ++ rs) ≡ asks_in rs
+    by true = refl
+    by false = refl
 
 take_whole : (ids : List NodeId) (i : ℕ) → length ids ≤ i → take i ids ≡ ids
 take_whole [] zero l = refl
