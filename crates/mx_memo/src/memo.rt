@@ -7,24 +7,26 @@ ghost use Rattle.mx_vertices.specs.Held.{entry_with};
 ghost use Rattle.mx_vertices.specs.Reading.{LookedUp, Asked, AreTakers};
 ghost use Rattle.mx_vertices.specs.Stamps.{NoneAfter, IsNextAfter, IsHeldSince, renumbered};
 ghost use Rattle.mx_vertices.specs.Found.{HasCome, IsHeldAs, IsHeldWith, IsNew};
+ghost use Rattle.mx_memo.specs.Namespaces.{namespace_held};
 ghost use Rattle.mx_memo.specs.Memos.{AreHeld, HoldsLast, nothing_held, most_held};
 
 use crate::refusal::HoldRefusal;
 use mx_edit::key::Key;
 use mx_graph::{NoMemory, NodeId, ReadGraph};
 use mx_list::shared::Shared;
+use mx_value::namespace::Namespace;
 use mx_value::node::Node;
 use mx_vertices::drops::{drop_after, drop_changed, drop_one, drop_where};
 use mx_vertices::finding::{Table, begin_in, end_in, holds_node, node_laws};
 use mx_vertices::holding::{hold_with, vertices_of};
-use mx_vertices::inputs::node_of_input;
+use mx_vertices::inputs::{find_held, node_of_input};
 use mx_vertices::settle::settle;
 use mx_vertices::slot::{Body, Slot};
 use mx_vertices::stamps::{first_from, place_at};
 use mx_vertices::standing::Standing;
 use mx_vertices::test_of_key::KeyTest;
 use mx_vertices::test_of_node::NodeTest;
-use mx_vertices::vertices::body_at;
+use mx_vertices::vertices::{body_at, namespace_at};
 use mx_vertices::walks::{asks_at, key_readers, keys_at, readers_at};
 use std::alloc::Global;
 use std::collections::HashMap;
@@ -54,6 +56,7 @@ impl Model for Memo {
     ghost use Rattle.std.specs.Coded.{codes};
     ghost use Rattle.mx_value.specs.contracts.value.Value as value;
     ghost use Rattle.mx_value.specs.contracts.value.Segment as segment;
+    ghost use Rattle.mx_memo.specs.Namespaces.{namespace_held};
     ghost use Rattle.mx_memo.specs.Memos.{Memory, memory_of, IsSound};
 
     ghost Value = { Memory };
@@ -156,6 +159,17 @@ impl Memo {
         ensures { MatchOption result (IsHeld self.now.held id.at → ⊥) (λ body. IsHeldWith self.now.held id.at body.now) }
     {
         body_at(&self.slots, id)
+    }
+
+    /// The namespace of the space of an item node, where it is held. Takes no memory.
+    pub fn namespace_of(&self, node: &Shared<Node>) -> Option<&Namespace>
+        ensures { MatchOption result (namespace_held self.now.held node.now ≡ None) (λ n. namespace_held self.now.held node.now ≡ Some n.now) }
+    {
+        node_laws();
+        let Some(id) = find_held(&self.slots, &self.table, node) else {
+            return None;
+        };
+        namespace_at(&self.slots, id)
     }
 
     /// The stamp of a held node: its place in the order of holding, from 1. None exactly where no node of this id is held.

@@ -4,12 +4,13 @@ ghost use Rattle.std.specs.FinMap as map;
 ghost use Rattle.mx_vertices.specs.declared.slot.Slot.TheVariants.{Free, Node as Slot_Node, Watch as Slot_Watch};
 ghost use Rattle.mx_vertices.specs.Places.{slot_at, at};
 ghost use Rattle.mx_vertices.specs.Found.{IsBodyAt};
-ghost use Rattle.mx_vertices.specs.Kept.{IsWhole, IsKeyAt, IsNode, with_read, own_key, source_in, entries};
+ghost use Rattle.mx_vertices.specs.Kept.{body_of, IsWhole, IsKeyAt, IsNode, with_read, own_key, source_in, entries};
 
 use crate::slot::{Body, Held, Slot, Watched};
 use mx_edit::equality::equality_laws;
 use mx_edit::key::Key;
 use mx_graph::{NoMemory, NodeId, ReadGraph};
+use mx_value::namespace::Namespace;
 
 /// One slot more.
 fn push_free(slots: &mut Vec<Slot>) -> Result<(), NoMemory>
@@ -131,6 +132,22 @@ pub fn body_at(slots: &[Slot], id: NodeId) -> Option<&Body>
         Slot::Node(held) => Some(&held.body),
         Slot::Watch(_) => None,
         Slot::Free => None,
+    }
+}
+
+/// The namespace that a held node gives, where it gives one.
+pub fn namespace_at(slots: &[Slot], id: NodeId) -> Option<&Namespace>
+    ensures { MatchOption result ((body_of (slot_at slots.now id.at)).reply.namespace ≡ None) (λ n. (body_of (slot_at slots.now id.at)).reply.namespace ≡ Some n.now) }
+{
+    let Some(slot) = slots.get(id.index()) else {
+        return None;
+    };
+    let Slot::Node(held) = slot else {
+        return None;
+    };
+    match &held.body.reply.get().namespace {
+        None => None,
+        Some(namespace) => Some(namespace),
     }
 }
 

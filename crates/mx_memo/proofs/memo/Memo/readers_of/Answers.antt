@@ -1,4 +1,4 @@
-use Rattle.std.proofs.Common.{◌≡◌, ◌∙◌, ℕ, ◌++◌, List, [], ◌∷◌, Option, Some, None, ap, sym, subst}
+use Rattle.std.proofs.Common.{ℕ, ◌++◌, List, Option, sym, subst}
 use Rattle.std.specs.Prelude.{◌↔◌, map, option_to_list}
 use Rattle.std.specs.HashMap.{get as look_up}
 use Rattle.mx_value.specs.Equality.{node_eq}
@@ -6,7 +6,7 @@ use Rattle.mx_graph.specs.declared.ids.NodeId.{NodeId}
 use Rattle.mx_vertices.specs.declared.slot.Slot.{Slot}
 use Rattle.mx_vertices.specs.Places.{key_place, IsPlacedIn, Has}
 use Rattle.mx_vertices.specs.Found.{LeadsTo}
-use Rattle.mx_vertices.specs.Kept.{looked, entries}
+use Rattle.mx_vertices.specs.Kept.{looked}
 use Rattle.mx_vertices.specs.Reading.{id_at, IsOwnKeyAt, AreKeyReaders, AreTakers}
 use Rattle.mx_memo.specs.Memos.{Memory}
 use Rattle.mx_vertices.proofs.Statics.{leads}
