@@ -46,7 +46,7 @@ pub struct Memo {
     // The keys, each at the place that its slot tells.
     keys: Vec<Option<NodeId>>,
     count: u32,
-    // How far nodes have come.
+    // How far nodes have come, and where keys are.
     table: Table,
     // The nodes whose runs have begun.
     begun: Vec<Shared<Node>>,
@@ -80,7 +80,10 @@ impl Memo {
             order: Vec::new(alloc),
             keys: Vec::new(alloc),
             count: 0,
-            table: HashMap::new(alloc),
+            table: Table {
+                nodes: HashMap::new(alloc),
+                keys: HashMap::new(alloc),
+            },
             begun: Vec::new(alloc),
         })
     }
@@ -104,7 +107,7 @@ impl Memo {
         ensures some { IfSome result (λ standing. HasCome self.now.held self.now.begun node.now standing) }
         ensures none { IfNone result (IsNew self.now.held node.now × (Has self.now.begun node.now → ⊥)) }
     {
-        let Some(standing) = self.table.get(node) else {
+        let Some(standing) = self.table.nodes.get(node) else {
             return None;
         };
         let Standing::Ended(id) = *standing else {
@@ -121,7 +124,7 @@ impl Memo {
         ensures some { IfSome result (λ id. IsHeldAs self.now.held id.at node.now) }
         ensures none { IfNone result (IsNew self.now.held node.now) }
     {
-        let Some(standing) = self.table.get(node) else {
+        let Some(standing) = self.table.nodes.get(node) else {
             return None;
         };
         let Standing::Ended(id) = *standing else {
@@ -141,7 +144,7 @@ impl Memo {
         ensures lost { OnErr result (self.new ≡ self.old) }
     {
         node_laws();
-        begin_in(&mut self.table, &mut self.begun, node)
+        begin_in(&mut self.table.nodes, &mut self.begun, node)
     }
 
     /// Notes that the run that began last has ended, and gives its node. None exactly where none has begun. Takes no memory.
@@ -151,7 +154,7 @@ impl Memo {
         ensures begun { self.old.begun ≡ self.new.begun ++ option_to_list result }
     {
         node_laws();
-        end_in(&mut self.table, &mut self.begun)
+        end_in(&mut self.table.nodes, &mut self.begun)
     }
 
     /// What a held node is and gives, and what its run read. None exactly where no node of this id is held.
@@ -166,7 +169,7 @@ impl Memo {
         ensures { MatchOption result (namespace_held self.now.held node.now ≡ None) (λ n. namespace_held self.now.held node.now ≡ Some n.now) }
     {
         node_laws();
-        let Some(id) = find_held(&self.slots, &self.table, node) else {
+        let Some(id) = find_held(&self.slots, &self.table.nodes, node) else {
             return None;
         };
         namespace_at(&self.slots, id)
@@ -206,8 +209,8 @@ impl Memo {
         ensures { IfOk result (λ ids. AreTakers self.now.held (looked key.now) ids.items) }
     {
         self.graph.relation();
-        let mut ids = key_readers(alloc, &self.graph, &self.slots, &self.keys, key)?;
-        let Some(id) = node_of_input(&self.slots, &self.table, key) else {
+        let mut ids = key_readers(alloc, &self.graph, &self.slots, &self.table.keys, key)?;
+        let Some(id) = node_of_input(&self.slots, &self.table.nodes, key) else {
             return Ok(ids);
         };
         ids.push(id)?;
@@ -258,7 +261,7 @@ impl Memo {
         let Ok(node) = body.node.copy() else {
             return Err(HoldRefusal::NoMemory);
         };
-        let Ok(()) = self.table.reserve(1) else {
+        let Ok(()) = self.table.nodes.reserve(1) else {
             return Err(HoldRefusal::NoMemory);
         };
         let found = vertices_of(
@@ -267,6 +270,7 @@ impl Memo {
             &mut self.slots,
             &self.order,
             &mut self.keys,
+            &mut self.table.keys,
             keys,
             asks,
         );
@@ -285,7 +289,7 @@ impl Memo {
             return Err(HoldRefusal::NoMemory);
         };
         self.count += 1;
-        let _ = self.table.insert(node, Standing::Ended(id));
+        let _ = self.table.nodes.insert(node, Standing::Ended(id));
         Ok(id)
     }
 

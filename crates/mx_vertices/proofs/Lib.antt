@@ -19,3 +19,4 @@ pub mod Walking
 pub mod Begun
 pub mod Takers
 pub mod Statics
+pub mod Watching

@@ -104,3 +104,7 @@ pub record IsInputFrom (slots : List Slot) (edges : List Entry) (nodes : List As
 -- each held node is in the graph
 abbrev pub AreNodesLive : map.FinMap nat_cmp Bool → List Slot → Type 0
 AreNodesLive graph slots = (q : ℕ) (h : Held) → slot_at slots q ≡ Node h → IsSome (map.get graph q)
+
+-- each key is in the graph
+abbrev pub AreKeysLive : map.FinMap nat_cmp Bool → List Slot → Type 0
+AreKeysLive graph slots = (q : ℕ) (w : Watched) → slot_at slots q ≡ Watch w → IsSome (map.get graph q)

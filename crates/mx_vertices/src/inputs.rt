@@ -11,7 +11,7 @@ ghost use Rattle.mx_vertices.specs.Kept.{own_key};
 ghost use Rattle.mx_vertices.specs.Marked.{IsInputBy, IsInputFrom, AreNodesLive};
 ghost use Rattle.mx_vertices.specs.Reading.{keys_in, id_at, IsOwnKeyAt};
 
-use crate::finding::{Table, holds_node};
+use crate::finding::{Nodes, holds_node};
 use crate::slot::Slot;
 use crate::standing::Standing;
 use mx_edit::key::Key;
@@ -54,7 +54,7 @@ pub fn is_static(node: &Node) -> bool
 }
 
 /// The held node that is this one.
-pub fn find_held(slots: &[Slot], table: &Table, node: &Shared<Node>) -> Option<NodeId>
+pub fn find_held(slots: &[Slot], table: &Nodes, node: &Shared<Node>) -> Option<NodeId>
     requires { LeadsTo (look_up node_eq table.now) slots.now }
     ensures { (q : ℕ) → IsNodeAt slots.now q node.now ↔ Has (map_list id_at (option_to_list result)) q }
 {
@@ -71,7 +71,7 @@ pub fn find_held(slots: &[Slot], table: &Table, node: &Shared<Node>) -> Option<N
 }
 
 /// The held static node whose own input the key is.
-pub fn node_of_input(slots: &[Slot], table: &Table, key: &Key) -> Option<NodeId>
+pub fn node_of_input(slots: &[Slot], table: &Nodes, key: &Key) -> Option<NodeId>
     requires { LeadsTo (look_up node_eq table.now) slots.now }
     ensures { (q : ℕ) → IsOwnKeyAt slots.now q key.now ↔ Has (map_list id_at (option_to_list result)) q }
 {
@@ -85,7 +85,7 @@ pub fn node_of_input(slots: &[Slot], table: &Table, key: &Key) -> Option<NodeId>
 }
 
 /// Marks a node with all that reach it, where it is held and static.
-fn mark_input(graph: &mut ReadGraph, slots: &[Slot], table: &Table, node: &Shared<Node>)
+fn mark_input(graph: &mut ReadGraph, slots: &[Slot], table: &Nodes, node: &Shared<Node>)
     requires nodes { AreNodesLive graph.old.nodes slots.now }
     requires found { LeadsTo (look_up node_eq table.now) slots.now }
     ensures live { (q : ℕ) → IsSome (map.get graph.new.nodes q) ↔ IsSome (map.get graph.old.nodes q) }
@@ -101,7 +101,7 @@ fn mark_input(graph: &mut ReadGraph, slots: &[Slot], table: &Table, node: &Share
 }
 
 /// Marks each of these nodes that is held and static, with all that reach it.
-pub fn mark_inputs(graph: &mut ReadGraph, slots: &[Slot], table: &Table, nodes: &[Shared<Node>])
+pub fn mark_inputs(graph: &mut ReadGraph, slots: &[Slot], table: &Nodes, nodes: &[Shared<Node>])
     requires nodes { AreNodesLive graph.old.nodes slots.now }
     requires found { LeadsTo (look_up node_eq table.now) slots.now }
     ensures live { (q : ℕ) → IsSome (map.get graph.new.nodes q) ↔ IsSome (map.get graph.old.nodes q) }

@@ -1,11 +1,15 @@
 //! Copies of what the run of a held node looked up and asked.
 ghost use Rattle.std.specs.Prelude.{◌≡◌, ◌++◌, ◌∷◌, [], IfOk, OnOk, map as map_list};
 ghost use Rattle.mx_graph.specs.Relation.{IsLive};
-ghost use Rattle.mx_vertices.specs.Places.{slot_at, key_place, IsPlacedIn};
-ghost use Rattle.mx_vertices.specs.Found.{node_at};
+ghost use Rattle.mx_vertices.specs.Places.{slot_at};
+ghost use Rattle.std.specs.HashMap.{get as look_up};
+ghost use Rattle.mx_edit.specs.Equality.{key_eq};
+ghost use Rattle.mx_vertices.specs.Marked.{AreKeysLive};
+ghost use Rattle.mx_vertices.specs.Found.{node_at, AreWatched};
 ghost use Rattle.mx_vertices.specs.Kept.{own_key, source_in, sources_at};
 ghost use Rattle.mx_vertices.specs.Reading.{keys_in, asks_in, id_at, reads_in, readers_in, AreKeyReaders};
 
+use crate::finding::Keys;
 use crate::inputs::own_keys;
 use crate::slot::Slot;
 use crate::vertices::find_key;
@@ -112,13 +116,14 @@ pub fn key_readers(
     alloc: Global,
     graph: &ReadGraph,
     slots: &[Slot],
-    keys: &[Option<NodeId>],
+    table: &Keys,
     key: &Key,
 ) -> Result<Vec<NodeId>, NoMemory>
-    requires { IsPlacedIn key_place graph.now.nodes slots.now keys.now }
+    requires live { AreKeysLive graph.now.nodes slots.now }
+    requires watched { AreWatched (look_up key_eq table.now) slots.now }
     ensures { IfOk result (λ ids. AreKeyReaders slots.now graph.now.edges key.now ids.items) }
 {
-    let Some(id) = find_key(slots, keys, key) else {
+    let Some(id) = find_key(slots, table, key) else {
         return Ok(Vec::new(alloc));
     };
     readers_at(alloc, graph, id)

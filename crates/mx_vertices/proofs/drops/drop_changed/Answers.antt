@@ -29,8 +29,8 @@ mark_inputs-requires-clause-nodes g c =
 
 pub mark_inputs-requires-clause-found : goal.mark_inputs-requires-clause-found
 mark_inputs-requires-clause-found g c =
-    subst (λ (xs : List Slot). LeadsTo (look_up node_eq c.args.table.now) xs) (sym c.as_slice-3.ensures.value)
-    (leads (look_up node_eq c.args.table.now) c.args.graph.now.nodes c.args.slots.now.items c.args.order.now.items c.requires.whole.placed.nodes_in c.requires.found)
+    subst (λ (xs : List Slot). LeadsTo (look_up node_eq c.args.table.now.nodes) xs) (sym c.as_slice-3.ensures.value)
+    (leads (look_up node_eq c.args.table.now.nodes) c.args.graph.now.nodes c.args.slots.now.items c.args.order.now.items c.requires.whole.placed.nodes_in c.requires.found.nodes)
 
 pub sweep-requires-clause-placed : goal.sweep-requires-clause-placed
 sweep-requires-clause-placed g c = placed_live c.args.graph.now.nodes c.mark_inputs.new.graph.nodes c.args.slots.now.items c.args.order.now.items c.args.keys.now.items (inputs_live g ((goal.at.sweep-requires-clause-placed g c).After-mark_inputs)) c.requires.whole.placed
