@@ -7,7 +7,8 @@ Each workload is a script. It is run by `PATH run` (the built program, as tools/
 where Python can run it, by tools/baseline.py with and without --traced. A line gives the best time of each, the formula
 runs a second, the greatest memory of the engine's own process, and the ratios: above 1.0 the engine is the faster. A
 ratio comes only where the values are the same. Machines are noisy: read the ratios, not the times. The last lines,
-`--only operators`, give the nanoseconds of an operator on its own, as mx_ops_bench measures them.
+`--only operators`, give the nanoseconds of an operator on its own, as mx_ops_bench measures them, and `--only memo` the
+times and the bytes of a million kept nodes, as mx_memo_bench makes them.
 """
 import argparse
 import os
@@ -21,6 +22,7 @@ HERE = os.path.dirname(os.path.abspath(__file__))
 CRATES = os.path.join(os.path.dirname(HERE), "crates")
 PROGRAM = os.path.join(CRATES, "mx_cli", "out", "mx_cli")
 OPERATORS = os.path.join(CRATES, "mx_ops_bench", "out", "mx_ops_bench")
+MEMO = os.path.join(CRATES, "mx_memo_bench", "out", "mx_memo_bench")
 
 
 def grid(cells, depth, rounds):
@@ -112,6 +114,19 @@ def operators(repeat):
     return "".join(f"{name}: {nanos} ns\n" for name, nanos in best.items())
 
 
+def memo(count):
+    """What mx_memo_bench prints for so many nodes, and the memory that a node takes."""
+    def run(nodes):
+        child = subprocess.Popen([MEMO, str(nodes)], stdout=subprocess.PIPE, text=True)
+        text = child.stdout.read()
+        _, status, usage = os.wait4(child.pid, 0)
+        child.returncode = os.waitstatus_to_exitcode(status)
+        return text, usage.ru_maxrss
+    text, most = run(count)
+    _, least = run(1)
+    return f"{text}memory: {(most - least) * 1024 // count} bytes a node\n"
+
+
 def main():
     parser = argparse.ArgumentParser(description=__doc__.splitlines()[0])
     parser.add_argument("--mx", default=PROGRAM)
@@ -129,6 +144,11 @@ def main():
             print(operators(args.repeat), end="")
         else:
             print("operators: not built: rt run in crates/mx_ops_bench")
+    if args.only in (None, "memo"):
+        if os.access(MEMO, os.X_OK):
+            print(memo(1_000_000), end="")
+        else:
+            print("memo: not built: rt run in crates/mx_memo_bench")
 
 
 if __name__ == "__main__":

@@ -3,7 +3,7 @@ use Rattle.std.specs.Prelude.{◌≡◌, ℕ, ◌≤◌, List, [], ◌++◌, ◌
 use Rattle.std.specs.HashMap.{get as look_up}
 use Rattle.mx_value.specs.Equality.{node_eq}
 use Rattle.mx_value.specs.declared.node.Node.{Node}
-use Rattle.mx_vertices.specs.Found.{IsFound, AreBegun, AreDistinct}
+use Rattle.mx_vertices.specs.Found.{IsIndexed, AreBegun, AreDistinct}
 use Rattle.mx_graph.specs.declared.ids.NodeId.{NodeId}
 use Rattle.mx_memo.specs.declared.memo.Memo.TheInside.{Inside}
 use Rattle.mx_vertices.specs.Places.{held_in, Has}
@@ -25,8 +25,8 @@ most_held = 4000000
 -- what is true of the fields of every memo
 pub record IsSound (s : Inside) : Type 0 where
   pub whole : IsWhole s.graph s.slots.items s.order.items s.keys.items
-  pub found : IsFound (look_up node_eq s.table) s.slots.items s.order.items
-  pub begun : AreBegun (look_up node_eq s.table) s.begun.items
+  pub found : IsIndexed s.table s.slots.items s.order.items
+  pub begun : AreBegun (look_up node_eq s.table.nodes) s.begun.items
   pub begun_once : AreDistinct s.begun.items
   pub counted : s.count ≡ held_in s.order.items
   pub few : s.count ≤ most_held

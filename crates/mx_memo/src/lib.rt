@@ -3,6 +3,7 @@
 //! Held nodes and keys are vertices of one graph of reads, so that what a change touches is found along its edges.
 #![tactic(auto)]
 
+mod items;
 mod laws;
 mod memo;
 mod refusal;

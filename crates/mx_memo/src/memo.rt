@@ -7,24 +7,27 @@ ghost use Rattle.mx_vertices.specs.Held.{entry_with};
 ghost use Rattle.mx_vertices.specs.Reading.{LookedUp, Asked, AreTakers};
 ghost use Rattle.mx_vertices.specs.Stamps.{NoneAfter, IsNextAfter, IsHeldSince, renumbered};
 ghost use Rattle.mx_vertices.specs.Found.{HasCome, IsHeldAs, IsHeldWith, IsNew};
+ghost use Rattle.mx_memo.specs.Namespaces.{namespace_held};
 ghost use Rattle.mx_memo.specs.Memos.{AreHeld, HoldsLast, nothing_held, most_held};
 
 use crate::refusal::HoldRefusal;
 use mx_edit::key::Key;
 use mx_graph::{NoMemory, NodeId, ReadGraph};
 use mx_list::shared::Shared;
+use mx_value::namespace::Namespace;
 use mx_value::node::Node;
 use mx_vertices::drops::{drop_after, drop_changed, drop_one, drop_where};
 use mx_vertices::finding::{Table, begin_in, end_in, holds_node, node_laws};
 use mx_vertices::holding::{hold_with, vertices_of};
+use mx_vertices::inputs::{find_held, node_of_input};
 use mx_vertices::settle::settle;
 use mx_vertices::slot::{Body, Slot};
 use mx_vertices::stamps::{first_from, place_at};
 use mx_vertices::standing::Standing;
 use mx_vertices::test_of_key::KeyTest;
 use mx_vertices::test_of_node::NodeTest;
-use mx_vertices::vertices::{body_at, find_key};
-use mx_vertices::walks::{asks_at, keys_at, readers_at};
+use mx_vertices::vertices::{body_at, namespace_at};
+use mx_vertices::walks::{asks_at, key_readers, keys_at, readers_at};
 use std::alloc::Global;
 use std::collections::HashMap;
 use std::marker::Model;
@@ -43,7 +46,7 @@ pub struct Memo {
     // The keys, each at the place that its slot tells.
     keys: Vec<Option<NodeId>>,
     count: u32,
-    // How far nodes have come.
+    // How far nodes have come, and where keys are.
     table: Table,
     // The nodes whose runs have begun.
     begun: Vec<Shared<Node>>,
@@ -53,6 +56,7 @@ impl Model for Memo {
     ghost use Rattle.std.specs.Coded.{codes};
     ghost use Rattle.mx_value.specs.contracts.value.Value as value;
     ghost use Rattle.mx_value.specs.contracts.value.Segment as segment;
+    ghost use Rattle.mx_memo.specs.Namespaces.{namespace_held};
     ghost use Rattle.mx_memo.specs.Memos.{Memory, memory_of, IsSound};
 
     ghost Value = { Memory };
@@ -76,7 +80,10 @@ impl Memo {
             order: Vec::new(alloc),
             keys: Vec::new(alloc),
             count: 0,
-            table: HashMap::new(alloc),
+            table: Table {
+                nodes: HashMap::new(alloc),
+                keys: HashMap::new(alloc),
+            },
             begun: Vec::new(alloc),
         })
     }
@@ -100,7 +107,7 @@ impl Memo {
         ensures some { IfSome result (λ standing. HasCome self.now.held self.now.begun node.now standing) }
         ensures none { IfNone result (IsNew self.now.held node.now × (Has self.now.begun node.now → ⊥)) }
     {
-        let Some(standing) = self.table.get(node) else {
+        let Some(standing) = self.table.nodes.get(node) else {
             return None;
         };
         let Standing::Ended(id) = *standing else {
@@ -117,7 +124,7 @@ impl Memo {
         ensures some { IfSome result (λ id. IsHeldAs self.now.held id.at node.now) }
         ensures none { IfNone result (IsNew self.now.held node.now) }
     {
-        let Some(standing) = self.table.get(node) else {
+        let Some(standing) = self.table.nodes.get(node) else {
             return None;
         };
         let Standing::Ended(id) = *standing else {
@@ -137,7 +144,7 @@ impl Memo {
         ensures lost { OnErr result (self.new ≡ self.old) }
     {
         node_laws();
-        begin_in(&mut self.table, &mut self.begun, node)
+        begin_in(&mut self.table.nodes, &mut self.begun, node)
     }
 
     /// Notes that the run that began last has ended, and gives its node. None exactly where none has begun. Takes no memory.
@@ -147,7 +154,7 @@ impl Memo {
         ensures begun { self.old.begun ≡ self.new.begun ++ option_to_list result }
     {
         node_laws();
-        end_in(&mut self.table, &mut self.begun)
+        end_in(&mut self.table.nodes, &mut self.begun)
     }
 
     /// What a held node is and gives, and what its run read. None exactly where no node of this id is held.
@@ -155,6 +162,17 @@ impl Memo {
         ensures { MatchOption result (IsHeld self.now.held id.at → ⊥) (λ body. IsHeldWith self.now.held id.at body.now) }
     {
         body_at(&self.slots, id)
+    }
+
+    /// The namespace of the space of an item node, where it is held. Takes no memory.
+    pub fn namespace_of(&self, node: &Shared<Node>) -> Option<&Namespace>
+        ensures { MatchOption result (namespace_held self.now.held node.now ≡ None) (λ n. namespace_held self.now.held node.now ≡ Some n.now) }
+    {
+        node_laws();
+        let Some(id) = find_held(&self.slots, &self.table.nodes, node) else {
+            return None;
+        };
+        namespace_at(&self.slots, id)
     }
 
     /// The stamp of a held node: its place in the order of holding, from 1. None exactly where no node of this id is held.
@@ -169,7 +187,8 @@ impl Memo {
         Some(place + 1)
     }
 
-    /// The keys that the run of a held node looked up, each once and in order of first occurrence.
+    /// The keys that the run of a held node looked up, in order of first occurrence: that of its own input first, where the
+    /// node is static, and then those that it was held with.
     pub fn keys_of(&self, alloc: Global, id: NodeId) -> Result<Vec<Key>, NoMemory>
         requires { IsHeld self.now.held id.at }
         ensures { IfOk result (λ keys. LookedUp self.now.held id.at keys.items) }
@@ -185,15 +204,17 @@ impl Memo {
         asks_at(alloc, &self.graph, &self.slots, id)
     }
 
-    /// The held nodes whose runs looked a key up.
+    /// The held nodes whose runs looked a key up. Where the key is that of an input, the input's own node is among them.
     pub fn readers_of(&self, alloc: Global, key: &Key) -> Result<Vec<NodeId>, NoMemory>
         ensures { IfOk result (λ ids. AreTakers self.now.held (looked key.now) ids.items) }
     {
         self.graph.relation();
-        let Some(id) = find_key(&self.slots, &self.keys, key) else {
-            return Ok(Vec::new(alloc));
+        let mut ids = key_readers(alloc, &self.graph, &self.slots, &self.table.keys, key)?;
+        let Some(id) = node_of_input(&self.slots, &self.table.nodes, key) else {
+            return Ok(ids);
         };
-        readers_at(alloc, &self.graph, id)
+        ids.push(id)?;
+        Ok(ids)
     }
 
     /// The held nodes whose runs asked a held node.
@@ -222,7 +243,8 @@ impl Memo {
     }
 
     /// Holds a node behind all others, with the keys that its run looked up and the held nodes that it asked, each once
-    /// and in order of first occurrence. Its run has ended before. `Full` comes exactly where as many are held as may be.
+    /// and in order of first occurrence. The key of its own input, which a static node looks up first, is not given: it is
+    /// seen among its keys all the same. Its run has ended before. `Full` comes exactly where as many are held as may be.
     /// After an error the memo is as before.
     pub fn hold(&mut self, body: Body, keys: &[Key], asks: &[NodeId]) -> Result<NodeId, HoldRefusal>
         requires new { IsNew self.old.held body.node }
@@ -239,7 +261,7 @@ impl Memo {
         let Ok(node) = body.node.copy() else {
             return Err(HoldRefusal::NoMemory);
         };
-        let Ok(()) = self.table.reserve(1) else {
+        let Ok(()) = self.table.nodes.reserve(1) else {
             return Err(HoldRefusal::NoMemory);
         };
         let found = vertices_of(
@@ -248,6 +270,7 @@ impl Memo {
             &mut self.slots,
             &self.order,
             &mut self.keys,
+            &mut self.table.keys,
             keys,
             asks,
         );
@@ -266,7 +289,7 @@ impl Memo {
             return Err(HoldRefusal::NoMemory);
         };
         self.count += 1;
-        let _ = self.table.insert(node, Standing::Ended(id));
+        let _ = self.table.nodes.insert(node, Standing::Ended(id));
         Ok(id)
     }
 
@@ -287,7 +310,8 @@ impl Memo {
         );
     }
 
-    /// Keeps exactly the nodes that neither looked a changed key up nor reach one that did, and tells how many are dropped.
+    /// Keeps exactly the nodes that neither looked a changed key up, the key of their own input among them, nor reach one
+    /// that did, and tells how many are dropped.
     pub fn keep_unchanged<T: KeyTest>(&mut self, test: &T) -> u32
         ensures drops { Sifts (IsTouched (HasChanged (T.changed test.now)) self.old.held) self.old.held self.new.held }
         ensures count { result + length self.new.held ≡ length self.old.held }

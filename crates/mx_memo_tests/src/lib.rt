@@ -6,4 +6,6 @@ mod plain;
 #[cfg(test)]
 mod scripts;
 #[cfg(test)]
+mod spaces;
+#[cfg(test)]
 mod tests;

@@ -1,8 +1,8 @@
 //! Nodes, keys and tests by their numbers.
 ghost use Rattle.std.specs.Prelude.{◌≡◌, IfOk, OnOk};
-ghost use Rattle.mx_edit.specs.Equality.{key_eq};
 ghost use Rattle.mx_value.specs.Equality.{node_eq};
 ghost use Rattle.mx_memo.specs.Memos.{AreHeld};
+ghost use Rattle.mx_memo_tests.specs.Edited.{has_node};
 
 use mx_edit::key::Key;
 use mx_edit::reply::Reply;
@@ -14,15 +14,21 @@ use mx_memo::{Body, KeyTest, Memo, NodeTest};
 use mx_value::label::Label;
 use mx_value::node::Node;
 use mx_value::value::{Segment, Value};
+use mx_vertices::finding::node_laws;
 use std::alloc::Global;
 use std::test::Fail;
 
-/// The cells `S.c(n)`.
+/// The cells `S.c(n)` for an even number, which are static, and `S[1].c(n)` for another.
 pub(crate) fn node(alloc: Global, n: usize) -> Result<Shared<Node>, Fail> {
     let mut arguments = Items::new(alloc);
     arguments.push(Value::Int(i64::try_from(n)?))?;
     let mut segments = Vec::new(alloc);
     segments.push(Segment::Name(Label::new(alloc, b"S".as_slice())?))?;
+    if n % 2 == 1 {
+        let mut item = Items::new(alloc);
+        item.push(Value::Int(1))?;
+        segments.push(Segment::Item(item))?;
+    }
     let node = Node::Cell(
         List::from_vec(alloc, segments)?,
         Label::new(alloc, b"c".as_slice())?,
@@ -31,11 +37,16 @@ pub(crate) fn node(alloc: Global, n: usize) -> Result<Shared<Node>, Fail> {
     Ok(Shared::new(alloc, node)?)
 }
 
-/// A reference of the model.
-pub(crate) fn key(alloc: Global, n: usize) -> Result<Key, Fail> {
+/// The name of a reference of the model.
+pub(crate) fn name(alloc: Global, n: usize) -> Result<Label, Fail> {
     let names: [&[u8]; 5] = [b"a", b"b", b"c", b"d", b"e"];
     let name = names.get(n % 5).ok_or("no name")?;
-    Ok(Key::Global(Label::new(alloc, *name)?))
+    Ok(Label::new(alloc, *name)?)
+}
+
+/// A reference of the model.
+pub(crate) fn key(alloc: Global, n: usize) -> Result<Key, Fail> {
+    Ok(Key::Global(name(alloc, n)?))
 }
 
 /// A body with a value.
@@ -56,19 +67,45 @@ pub(crate) fn body(alloc: Global, node: Shared<Node>, value: i64) -> Result<Body
     })
 }
 
-/// One key is changed.
-#[derive(Drop)]
-pub struct OneKey {
-    pub key: Key,
+/// Whether a node is one of these.
+fn has_node(nodes: &[Shared<Node>], node: &Shared<Node>) -> bool
+    ensures { result ≡ has_node nodes.now node.now }
+{
+    for other in nodes {
+        if *other == *node {
+            return true;
+        }
+    }
+    false
 }
 
-impl KeyTest for OneKey {
-    ghost use Rattle.mx_edit.specs.Equality.{key_eq};
+/// An edit that changes a reference of the model, and the inputs of some nodes.
+#[derive(Drop)]
+pub struct Edited {
+    pub name: Label,
+    pub inputs: Vec<Shared<Node>>,
+}
 
-    ghost changed = { λ s k. key_eq k s.key };
+impl KeyTest for Edited {
+    ghost use Rattle.mx_memo_tests.specs.Edited.{changed_in};
+
+    ghost changed = { λ s k. changed_in s.name s.inputs.items k };
 
     fn is_changed(&self, key: &Key) -> bool {
-        *key == self.key
+        match key {
+            Key::Global(name) => *name == self.name,
+            Key::Input(node) => has_node(&self.inputs, node),
+            Key::Name(_, _) => false,
+            Key::Cells(_, _) => false,
+            Key::Params(_) => false,
+            Key::Exists(_) => false,
+            Key::Table(_) => false,
+        }
+    }
+
+    fn changed_inputs(&self) -> &[Shared<Node>] {
+        node_laws();
+        self.inputs.as_slice()
     }
 }
 

@@ -2,7 +2,8 @@
 ghost use Rattle.mx_vertices.specs.Kept.{IsHeld};
 
 use crate::plain::{List, NODES, Plain, marks, set};
-use crate::scripts::{OneKey, OneNode, asks_of, body, key, node};
+use crate::scripts::{Edited, OneNode, asks_of, body, key, name, node};
+use mx_edit::key::Key;
 use mx_graph::NodeId;
 use mx_memo::{Every, Memo, Standing};
 use mx_value::value::Value;
@@ -94,17 +95,19 @@ impl Pair {
 
     fn edit(&mut self, rt: &impl Abort, alloc: Global, draws: &mut Draws) -> Result<(), Fail> {
         let changed = draws.below(5);
-        let test = OneKey {
-            key: key(alloc, changed)?,
+        let input = draws.below(20);
+        let mut inputs = Vec::new(alloc);
+        inputs.push(node(alloc, input)?)?;
+        let test = Edited {
+            name: name(alloc, changed)?,
+            inputs,
         };
         let dropped = self.memo.keep_unchanged(&test);
         let mut gone = marks(alloc)?;
         for (n, entry) in self.list.held.iter().enumerate() {
             if let Some(plain) = entry {
-                for k in &plain.keys {
-                    if *k == changed {
-                        set(&mut gone, n);
-                    }
+                if plain.keys.contains(&changed) || (n == input && n % 2 == 0) {
+                    set(&mut gone, n);
                 }
             }
         }
@@ -159,22 +162,46 @@ impl Pair {
         rt: &impl Abort,
         alloc: Global,
         id: NodeId,
+        n: usize,
         plain: &Plain,
     ) -> Result<(), Fail>
         requires { IsHeld self.now.memo.held id.at }
     {
         let keys = self.memo.keys_of(alloc, id).ok().ok_or("no memory")?;
         let asks = self.memo.asks_of(alloc, id).ok().ok_or("no memory")?;
-        assert_eq!(rt; keys.len(), plain.keys.len());
-        assert_eq!(rt; asks.len(), plain.asks.len());
-        for (place, k) in plain.keys.iter().enumerate() {
-            let looked = keys.get(place).ok_or("no key")?;
-            assert!(rt; *looked == key(alloc, *k)?);
+        let mut looked = keys.iter();
+        if n % 2 == 0 {
+            let own = looked.next().ok_or("no key")?;
+            assert!(rt; *own == Key::Input(node(alloc, n)?));
         }
+        assert_eq!(rt; asks.len(), plain.asks.len());
+        for k in &plain.keys {
+            let next = looked.next().ok_or("no key")?;
+            assert!(rt; *next == key(alloc, *k)?);
+        }
+        assert!(rt; looked.next().is_none());
         for (place, m) in plain.asks.iter().enumerate() {
             let asked = self.memo.find(&node(alloc, *m)?).ok_or("not held")?;
             assert_eq!(rt; asks.get(place).copied(), Some(asked));
         }
+        Ok(())
+    }
+
+    /// The key of the input of a static node is read by the node itself, that of another by none.
+    fn compare_input(
+        &self,
+        rt: &impl Abort,
+        alloc: Global,
+        id: NodeId,
+        n: usize,
+    ) -> Result<(), Fail> {
+        let own = Key::Input(node(alloc, n)?);
+        let readers = self.memo.readers_of(alloc, &own).ok().ok_or("no memory")?;
+        assert_eq!(rt; readers.len(), 1 - n % 2);
+        assert_eq!(rt;
+            readers.first().copied().is_none_or(|reader| reader == id),
+            true
+        );
         Ok(())
     }
 
@@ -193,7 +220,8 @@ impl Pair {
         assert_eq!(rt; self.memo.stamp(id), Some(plain.stamp));
         let next = self.memo.after(plain.stamp.saturating_sub(1));
         assert_eq!(rt; next, Some(id));
-        self.compare_sources(rt, alloc, id, plain)
+        self.compare_input(rt, alloc, id, n)?;
+        self.compare_sources(rt, alloc, id, n, plain)
     }
 
     /// A key's readers are the nodes that looked it up, and no other.

@@ -8,7 +8,7 @@ use Rattle.mx_vertices.specs.declared.slot.Slot.{Slot}
 use Rattle.mx_vertices.specs.declared.slot.Watched.{Watched}
 use Rattle.mx_vertices.specs.declared.slot.Slot.TheVariants.{Free, Watch}
 use Rattle.mx_vertices.specs.Places.{slot_at, at, IsPlaced, if_live, Has}
-use Rattle.mx_vertices.specs.Kept.{Kept, looked, kept, entries, IsWhole, IsTouched, Here, ByAsk, Sifts, Done, Keeps, Drops}
+use Rattle.mx_vertices.specs.Kept.{Kept, looked, sources_at, kept, entries, IsWhole, IsTouched, Here, ByAsk, Sifts, Done, Keeps, Drops}
 use Rattle.mx_vertices.proofs.Keeping.{IsDropped, sifted, left_whole}
 use Rattle.mx_vertices.proofs.Spreading.{Spreads, closed, touched_marked, marked_touched}
 
@@ -39,7 +39,7 @@ module _ (g marked left : Graph) (slots slots2 : List Slot) (order order2 keys k
 
   pub swept_sifts : (passes : Kept → Type 0) → ((r : Kept) → Has (entries g.edges slots 0 order) r → passes r → Spreads g.edges Start r.id)
       → ((p : ℕ) (id : NodeId) → at order p ≡ Some id → Start id.at → (stamp : ℕ) → stamp ≡ p + 1 → passes (kept g.edges slots stamp id))
-      → ((q : ℕ) (w : Watched) → slot_at slots q ≡ Watch w → Start q → (r : Kept) → Has (entries g.edges slots 0 order) r → Has r.sources (looked w.key) → passes r)
+      → ((q : ℕ) (w : Watched) → slot_at slots q ≡ Watch w → Start q → (stamp : ℕ) (id : NodeId) → Has (entries g.edges slots 0 order) (kept g.edges slots stamp id) → Has (sources_at slots id.at g.edges) (looked w.key) → passes (kept g.edges slots stamp id))
       → Sifts (IsTouched passes (entries g.edges slots 0 order)) (entries g.edges slots 0 order) (entries left.edges slots2 0 order2)
   swept_sifts passes started here by_key =
       sifted g marked left slots slots2 order order2 keys keys2 whole dropped (IsTouched passes (entries g.edges slots 0 order))

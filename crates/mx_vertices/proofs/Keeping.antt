@@ -1,5 +1,5 @@
 -- What a sweep leaves of a memo, where marks are closed.
-use Rattle.std.proofs.Common.{◌≡◌, ◌∙◌, ℕ, ◌+◌, Bool, true, false, cond, eqb, suc, List, [], ◌∷◌, length, Option, Some, None, is_some, map as map_list, refl, sym, ap, subst, arith, inl, inr}
+use Rattle.std.proofs.Common.{◌≡◌, ◌∙◌, ℕ, ◌+◌, Bool, true, false, cond, eqb, suc, List, [], ◌∷◌, ◌++◌, length, Option, Some, None, is_some, map as map_list, refl, sym, ap, subst, arith, inl, inr}
 use Rattle.std.proofs.lemmas.List.{get_or_past}
 use Rattle.std.specs.Prelude.{◌↔◌, IsSome, filter}
 use Rattle.std.specs.Ordering.{nat_cmp}
@@ -11,7 +11,7 @@ use Rattle.mx_vertices.specs.declared.slot.Slot.{Slot}
 use Rattle.mx_vertices.specs.declared.slot.Watched.{Watched}
 use Rattle.mx_vertices.specs.declared.slot.Slot.TheVariants.{Free, Watch}
 use Rattle.mx_vertices.specs.Places.{slot_at, node_place, key_place, at, IsPlaced, if_live, held_in, Has}
-use Rattle.mx_vertices.specs.Kept.{Kept, Source, sources_at, source_in, kept, entries, body_of, IsNode, IsWhole, Sifts, Done, Keeps, Drops}
+use Rattle.mx_vertices.specs.Kept.{Kept, Source, own_key, sources_at, source_in, kept, entries, body_of, IsNode, IsWhole, Sifts, Done, Keeps, Drops}
 use Rattle.mx_vertices.proofs.Places.{Nodes, if_live_same, if_live_gone}
 use Rattle.mx_vertices.proofs.Edges.{find_has, has_find, filter_has, marked_test, test_marked, both_unmarked, kept_unmarked}
 
@@ -71,8 +71,8 @@ module _ (g marked left : Graph) (slots slots2 : List Slot) (order order2 keys k
   kept_same stamp id n =
       let a : slot_at slots2 id.at ≡ slot_at slots id.at = slot_same id.at n in
       let b : sources_at slots2 id.at left.edges ≡ sources_at slots id.at g.edges = ap (sources_at slots2 id.at) d.edges ∙ reads_same id.at g.edges (unmarked_read id.at n) in
-      ap (λ (s : Slot). record { stamp = stamp; id = id.at; body = body_of s; sources = sources_at slots2 id.at left.edges }) a
-      ∙ ap (λ (rs : List Source). record { stamp = stamp; id = id.at; body = body_of (slot_at slots id.at); sources = rs }) b
+      ap (λ (s : Slot). record { stamp = stamp; id = id.at; body = body_of s; sources = own_key (body_of s).node ++ sources_at slots2 id.at left.edges }) a
+      ∙ ap (λ (rs : List Source). record { stamp = stamp; id = id.at; body = body_of (slot_at slots id.at); sources = own_key (body_of (slot_at slots id.at)).node ++ rs }) b
 
   module _ (Out : ℕ → Type 0) (outs : (p : ℕ) (id : NodeId) → at order p ≡ Some id → map.get marked.nodes id.at ≡ Some true → Out id.at) (ins : (q : ℕ) → Out q → map.get marked.nodes q ≡ Some true) where
     sift : (p : ℕ) (list : List (Option NodeId)) → AreIn list order → Sifts Out (entries g.edges slots p list) (entries left.edges slots2 p (map_list (if_live left.nodes) list))

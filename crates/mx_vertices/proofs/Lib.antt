@@ -18,3 +18,5 @@ pub mod Settled
 pub mod Walking
 pub mod Begun
 pub mod Takers
+pub mod Statics
+pub mod Watching

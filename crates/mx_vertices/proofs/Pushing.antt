@@ -6,7 +6,7 @@ use Rattle.std.specs.Cmp.{nat_cmp_total}
 use Rattle.std.specs.FinMap as map
 use Rattle.std.proofs.lemmas.Bool.{eqb-true, eq-eqb}
 use Rattle.std.proofs.lemmas.Bool.Decides.{nat_tests}
-use Rattle.std.proofs.lemmas.List.{get_or_past, get_or_append_left, get_or_push, set_at}
+use Rattle.std.proofs.lemmas.List.{get_or_past, get_or_append_left, get_or_push, set_at, append-nil}
 use Rattle.std.proofs.Math.ListN.{set}
 use Rattle.mx_graph.specs.declared.ids.NodeId.{NodeId}
 use Rattle.mx_graph.specs.Relation.{Entry, Graph, IsApart, IsRelation, find}
@@ -15,7 +15,7 @@ use Rattle.mx_vertices.specs.declared.slot.Held.{Held}
 use Rattle.mx_vertices.specs.declared.slot.Watched.{Watched}
 use Rattle.mx_vertices.specs.declared.slot.Slot.TheVariants.{Free, Node, Watch}
 use Rattle.mx_vertices.specs.Places.{slot_at, node_place, key_place, at, IsPlacedIn, Has}
-use Rattle.mx_vertices.specs.Kept.{Kept, Source, sources_at, source_in, kept, entries, body_of, IsNode, IsWhole}
+use Rattle.mx_vertices.specs.Kept.{Kept, Source, own_key, sources_at, source_in, kept, entries, body_of, IsNode, IsWhole}
 use Rattle.mx_vertices.proofs.Places.{Nodes, same_or, at_below}
 use Rattle.mx_vertices.proofs.Edges.{has_find}
 use Rattle.mx_vertices.proofs.Keeping.{at_has}
@@ -67,8 +67,8 @@ module _ (slots slots2 : List Slot) (edges : List Entry) where
 
   pub kept_live : ((e : Entry) → Has edges e → slot_at slots2 e.read.at ≡ slot_at slots e.read.at) → (stamp : ℕ) (id : NodeId) → slot_at slots2 id.at ≡ slot_at slots id.at → kept edges slots2 stamp id ≡ kept edges slots stamp id
   kept_live h stamp id a =
-      ap (λ (s : Slot). record { stamp = stamp; id = id.at; body = body_of s; sources = sources_at slots2 id.at edges }) a
-      ∙ ap (λ (rs : List Source). record { stamp = stamp; id = id.at; body = body_of (slot_at slots id.at); sources = rs }) (reads_live id.at edges h)
+      ap (λ (s : Slot). record { stamp = stamp; id = id.at; body = body_of s; sources = own_key (body_of s).node ++ sources_at slots2 id.at edges }) a
+      ∙ ap (λ (rs : List Source). record { stamp = stamp; id = id.at; body = body_of (slot_at slots id.at); sources = own_key (body_of (slot_at slots id.at)).node ++ rs }) (reads_live id.at edges h)
 
   pub entries_live : ((e : Entry) → Has edges e → slot_at slots2 e.read.at ≡ slot_at slots e.read.at) → (p : ℕ) (list : List (Option NodeId)) → ((id : NodeId) → Has list (Some id) → slot_at slots2 id.at ≡ slot_at slots id.at) → entries edges slots2 p list ≡ entries edges slots p list
   entries_live h p [] k = refl
@@ -204,7 +204,7 @@ module _ (g h : Graph) (slots slots2 : List Slot) (order keys : List (Option Nod
     once = λ q r u v a b e. w.once q r u v (old_key q u a) (old_key r v b) e;
   }
 
-  pub put_entries : entries h.edges slots2 0 (order ++ Some id ∷ []) ≡ entries g.edges slots 0 order ++ record { stamp = length order + 1; id = id.at; body = held.body; sources = [] } ∷ []
+  pub put_entries : entries h.edges slots2 0 (order ++ Some id ∷ []) ≡ entries g.edges slots 0 order ++ record { stamp = length order + 1; id = id.at; body = held.body; sources = own_key held.body.node } ∷ []
   put_entries =
       let same : entries g.edges slots2 0 order ≡ entries g.edges slots 0 order
       = entries_live slots slots2 g.edges (λ e i. slot_other e.read.at (live_other e.read.at (relation.between e.id.at e (has_find g.edges relation.apart e i)).1)) 0 order
@@ -215,8 +215,9 @@ module _ (g h : Graph) (slots slots2 : List Slot) (order keys : List (Option Nod
       ∙ entries_push g.edges slots2 0 order id
       ∙ ap (λ (rs : List Kept). rs ++ kept g.edges slots2 (0 + length order + 1) id ∷ []) same
       ∙ ap (λ n. entries g.edges slots 0 order ++ kept g.edges slots2 n id ∷ []) stamp
-      ∙ ap (λ (s : Slot). entries g.edges slots 0 order ++ record { stamp = length order + 1; id = id.at; body = body_of s; sources = sources_at slots2 id.at g.edges } ∷ []) slot_here
-      ∙ ap (λ (rs : List Source). entries g.edges slots 0 order ++ record { stamp = length order + 1; id = id.at; body = held.body; sources = rs } ∷ []) none
+      ∙ ap (λ (s : Slot). entries g.edges slots 0 order ++ record { stamp = length order + 1; id = id.at; body = body_of s; sources = own_key (body_of s).node ++ sources_at slots2 id.at g.edges } ∷ []) slot_here
+      ∙ ap (λ (rs : List Source). entries g.edges slots 0 order ++ record { stamp = length order + 1; id = id.at; body = held.body; sources = own_key held.body.node ++ rs } ∷ []) none
+      ∙ ap (λ (rs : List Source). entries g.edges slots 0 order ++ record { stamp = length order + 1; id = id.at; body = held.body; sources = rs } ∷ []) (append-nil (own_key held.body.node))
 
 -- the same entries where nothing is seen
 pub entries_same : (es fs : List Entry) (slots slots2 : List Slot) (order : List (Option NodeId)) → fs ≡ es → ((q : ℕ) → slot_at slots2 q ≡ slot_at slots q) → entries fs slots2 0 order ≡ entries es slots 0 order

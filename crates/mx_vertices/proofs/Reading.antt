@@ -1,5 +1,5 @@
 -- One more edge, and what is seen of it.
-use Rattle.std.proofs.Common.{◌≡◌, ◌∙◌, ℕ, ◌+◌, Bool, true, false, cond, eqb, List, [], ◌∷◌, ◌++◌, map as map_list, Option, Some, None, is_some, Result, Ok, Err, refl, sym, ap, subst, ◌⊎◌, inl, inr}
+use Rattle.std.proofs.Common.{◌≡◌, ◌∙◌, ℕ, ◌+◌, Bool, true, false, cond, eqb, List, [], ◌∷◌, ◌++◌, map as map_list, Option, Some, None, is_some, Result, Ok, Err, refl, sym, ap, subst, append_assoc, ◌⊎◌, inl, inr}
 use Rattle.std.specs.Prelude.{IsSome, OnOk, IfOk}
 use Rattle.std.specs.FinMap as map
 use Rattle.std.proofs.lemmas.Bool.{eqb-true, eqb-false, eq-eqb}
@@ -9,7 +9,7 @@ use Rattle.mx_edit.specs.declared.key.Key.{Key}
 use Rattle.mx_vertices.specs.declared.slot.Slot.{Slot}
 use Rattle.mx_vertices.specs.declared.slot.Slot.TheVariants.{Free, Node, Watch}
 use Rattle.mx_vertices.specs.Places.{slot_at, node_place, key_place, at, IsPlacedIn, IsPlaced, Has}
-use Rattle.mx_vertices.specs.Kept.{Kept, Source, asked, sources_at, source_in, kept, entries, IsNode, IsWhole, IsHeld, IsKeyAt, with_read}
+use Rattle.mx_vertices.specs.Kept.{Kept, Source, asked, own_key, body_of, sources_at, source_in, kept, entries, IsNode, IsWhole, IsHeld, IsKeyAt, with_read}
 use Rattle.mx_vertices.proofs.Places.{Nodes}
 use Rattle.mx_vertices.proofs.Edges.{find_has, has_find}
 use Rattle.mx_vertices.proofs.Touching.{entry_at, at_entry}
@@ -87,13 +87,13 @@ module _ (slots : List Slot) (edges : List Entry) (e : Entry) where
 
   kept_push : (stamp : ℕ) (id : NodeId) → kept (edges ++ e ∷ []) slots stamp id ≡ with_read e.reader.at (source_in e.read.at (slot_at slots e.read.at)) (kept edges slots stamp id)
   kept_push stamp id =
-      ap (λ (rs : List Source). record (kept edges slots stamp id) { sources = rs }) (reads_push id.at edges)
-      ∙ ap (λ b. record (kept edges slots stamp id) { sources = cond b (sources_at slots id.at edges ++ source_in e.read.at (slot_at slots e.read.at) ∷ []) (sources_at slots id.at edges) }) (same_test e.reader.at id.at)
-      ∙ out (eqb id.at e.reader.at)
+      ap (λ (rs : List Source). record (kept edges slots stamp id) { sources = own_key (body_of (slot_at slots id.at)).node ++ rs }) (reads_push id.at edges)
+      ∙ ap (λ b. record (kept edges slots stamp id) { sources = own_key (body_of (slot_at slots id.at)).node ++ cond b (sources_at slots id.at edges ++ source_in e.read.at (slot_at slots e.read.at) ∷ []) (sources_at slots id.at edges) }) (same_test e.reader.at id.at)
+      ∙ out (own_key (body_of (slot_at slots id.at)).node) (eqb id.at e.reader.at)
     where
-      out : (b : Bool) → record (kept edges slots stamp id) { sources = cond b (sources_at slots id.at edges ++ source_in e.read.at (slot_at slots e.read.at) ∷ []) (sources_at slots id.at edges) } ≡ cond b (record (kept edges slots stamp id) { sources = sources_at slots id.at edges ++ source_in e.read.at (slot_at slots e.read.at) ∷ [] }) (kept edges slots stamp id)
-      out true = refl
-      out false = refl
+      out : (own : List Source) (b : Bool) → record (kept edges slots stamp id) { sources = own ++ cond b (sources_at slots id.at edges ++ source_in e.read.at (slot_at slots e.read.at) ∷ []) (sources_at slots id.at edges) } ≡ cond b (record (kept edges slots stamp id) { sources = (own ++ sources_at slots id.at edges) ++ source_in e.read.at (slot_at slots e.read.at) ∷ [] }) (record (kept edges slots stamp id) { sources = own ++ sources_at slots id.at edges })
+      out own true = ap (λ (rs : List Source). record (kept edges slots stamp id) { sources = rs }) (sym (append_assoc own (sources_at slots id.at edges) (source_in e.read.at (slot_at slots e.read.at) ∷ [])))
+      out own false = refl
 
   pub entries_read : (p : ℕ) (list : List (Option NodeId)) → entries (edges ++ e ∷ []) slots p list ≡ map_list (with_read e.reader.at (source_in e.read.at (slot_at slots e.read.at))) (entries edges slots p list)
   entries_read p [] = refl

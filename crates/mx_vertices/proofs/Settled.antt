@@ -1,5 +1,5 @@
 -- What is seen of a memo whose vertices were told new places.
-use Rattle.std.proofs.Common.{◌≡◌, ◌∙◌, ℕ, ◌+◌, true, false, cond, eqb, List, [], ◌∷◌, length, Option, Some, None, refl, sym, ap, subst, arith}
+use Rattle.std.proofs.Common.{◌++◌, ◌≡◌, ◌∙◌, ℕ, ◌+◌, true, false, cond, eqb, List, [], ◌∷◌, length, Option, Some, None, refl, sym, ap, subst, arith}
 use Rattle.mx_graph.specs.declared.ids.NodeId.{NodeId}
 use Rattle.mx_graph.specs.Relation.{Entry, Graph}
 use Rattle.mx_value.specs.declared.node.Node.{Node as Asked}
@@ -8,7 +8,7 @@ use Rattle.mx_vertices.specs.declared.slot.Slot.{Slot}
 use Rattle.mx_vertices.specs.declared.standing.Standing.{Standing}
 use Rattle.mx_vertices.specs.declared.slot.Slot.TheVariants.{Free, Node, Watch}
 use Rattle.mx_vertices.specs.Places.{slot_at, node_place, key_place, at, with_place, IsAlike, IsPlacedIn, IsSettled, StandOnce, held_in}
-use Rattle.mx_vertices.specs.Kept.{Kept, Source, sources_at, source_in, kept, entries, body_of, IsWhole}
+use Rattle.mx_vertices.specs.Kept.{Kept, Source, own_key, sources_at, source_in, kept, entries, body_of, IsWhole}
 use Rattle.mx_vertices.specs.Stamps.{renumbered}
 use Rattle.mx_vertices.specs.Found.{IsFound}
 use Rattle.mx_vertices.proofs.Places.{Nodes}
@@ -27,8 +27,8 @@ module _ (slots slots2 : List Slot) (alike : (q : ℕ) → IsAlike (slot_at slot
 
   kept_alike : (edges : List Entry) (stamp : ℕ) (id : NodeId) → kept edges slots2 stamp id ≡ kept edges slots stamp id
   kept_alike edges stamp id =
-      ap (λ (b : Body). record { stamp = stamp; id = id.at; body = b; sources = sources_at slots2 id.at edges }) (alike_body (slot_at slots id.at) (slot_at slots2 id.at) (alike id.at))
-      ∙ ap (λ (rs : List Source). record { stamp = stamp; id = id.at; body = body_of (slot_at slots id.at); sources = rs }) (reads_alike id.at edges)
+      ap (λ (b : Body). record { stamp = stamp; id = id.at; body = b; sources = own_key b.node ++ sources_at slots2 id.at edges }) (alike_body (slot_at slots id.at) (slot_at slots2 id.at) (alike id.at))
+      ∙ ap (λ (rs : List Source). record { stamp = stamp; id = id.at; body = body_of (slot_at slots id.at); sources = own_key (body_of (slot_at slots id.at)).node ++ rs }) (reads_alike id.at edges)
 
   pub entries_alike : (edges : List Entry) (p : ℕ) (list : List (Option NodeId)) → entries edges slots2 p list ≡ entries edges slots p list
   entries_alike edges p [] = refl

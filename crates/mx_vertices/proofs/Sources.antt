@@ -99,15 +99,15 @@ with_none id (k ∷ es) = let a : with_sources id [] k ≡ k = one (eqb k.id id)
     one false = refl
 
 -- what is held under other ids stays, and the last one has its sources
-pub with_last : (id : ℕ) (rs : List Source) (es : List Kept) (k : Kept) → k.id ≡ id → k.sources ≡ [] → ((r : Kept) → Has es r → r.id ≡ id → ⊥) → map_list (with_sources id rs) (es ++ k ∷ []) ≡ es ++ record k { sources = rs } ∷ []
-with_last id rs [] k e s h =
+pub with_last : (id : ℕ) (rs : List Source) (es : List Kept) (k : Kept) → k.id ≡ id → ((r : Kept) → Has es r → r.id ≡ id → ⊥) → map_list (with_sources id rs) (es ++ k ∷ []) ≡ es ++ record k { sources = k.sources ++ rs } ∷ []
+with_last id rs [] k e h =
     let t : eqb k.id id ≡ true = subst (λ n. eqb k.id n ≡ true) e (same k.id) in
-    ap (λ b. cond b (record k { sources = k.sources ++ rs }) k ∷ []) t ∙ ap (λ (xs : List Source). record k { sources = xs ++ rs } ∷ []) s
+    ap (λ b. cond b (record k { sources = k.sources ++ rs }) k ∷ []) t
   where
     same : (n : ℕ) → eqb n n ≡ true
     same n = grind arith
-with_last id rs (x ∷ es) k e s h =
-    let more = with_last id rs es k e s (λ r i. h r (inr i)) in
+with_last id rs (x ∷ es) k e h =
+    let more = with_last id rs es k e (λ r i. h r (inr i)) in
     let a : with_sources id rs x ≡ x
     = elim (eqb x.id id) as (λ b. eqb x.id id ≡ b → cond b (record x { sources = x.sources ++ rs }) x ≡ x) [
       | true ↦ λ t. absurd (h x (inl refl) (eqb-true x.id id t))

@@ -8,9 +8,9 @@ use Rattle.mx_vertices.specs.declared.slot.Slot.{Slot}
 use Rattle.mx_vertices.specs.declared.slot.Watched.{Watched}
 use Rattle.mx_vertices.specs.declared.slot.Slot.TheVariants.{Free, Node, Watch}
 use Rattle.mx_vertices.specs.Places.{slot_at, node_place, at, Has}
-use Rattle.mx_vertices.specs.Kept.{Kept, looked, asked, sources_at, source_in, kept, entries, IsNode, IsWhole, IsTouched, Here, ByAsk}
+use Rattle.mx_vertices.specs.Kept.{Kept, looked, asked, own_key, body_of, sources_at, source_in, kept, entries, IsNode, IsWhole, IsTouched, Here, ByAsk}
 use Rattle.mx_vertices.proofs.Edges.{find_has, has_find}
-use Rattle.mx_vertices.proofs.Touching.{read_edge, edge_read, entry_at, at_entry, node_read}
+use Rattle.mx_vertices.proofs.Touching.{read_edge, edge_read, entry_at, at_entry, node_read, asked_behind, has_behind}
 
 -- the vertex q reaches one of these
 pub record Spreads (edges : List Entry) (Start : ℕ → Type 0) (q : ℕ) : Type 0 where
@@ -43,12 +43,12 @@ module _ (g marked : Graph) (slots : List Slot) (order keys : List (Option NodeI
 
   module _ (passes : Kept → Type 0) (started : (r : Kept) → Has held r → passes r → Spreads g.edges Start r.id)
       (here : (p : ℕ) (id : NodeId) → at order p ≡ Some id → Start id.at → (stamp : ℕ) → stamp ≡ p + 1 → passes (kept g.edges slots stamp id))
-      (by_key : (s : ℕ) (w : Watched) → slot_at slots s ≡ Watch w → Start s → (r : Kept) → Has held r → Has r.sources (looked w.key) → passes r) where
+      (by_key : (s : ℕ) (w : Watched) → slot_at slots s ≡ Watch w → Start s → (stamp : ℕ) (id : NodeId) → Has held (kept g.edges slots stamp id) → Has (sources_at slots id.at g.edges) (looked w.key) → passes (kept g.edges slots stamp id)) where
     pub touched_marked : (q : ℕ) → IsTouched passes held q → map.get marked.nodes q ≡ Some true
     touched_marked q (Here r h c) = spread r.id (started r h c)
     touched_marked q (ByAsk r h m a t) =
         let i = entry_at g.edges slots 0 order r h in
-        let f = read_edge slots i.id.at g.edges (asked m) (subst (λ (r : Kept). Has r.sources (asked m)) (sym i.is) a) in
+        let f = read_edge slots i.id.at g.edges (asked m) (asked_behind (body_of (slot_at slots i.id.at)).node (sources_at slots i.id.at g.edges) m (subst (λ (r : Kept). Has r.sources (asked m)) (sym i.is) a)) in
         let n = node_read f.edge.read.at (slot_at slots f.edge.read.at) m f.is in
         subst (λ n. map.get marked.nodes n ≡ Some true) (f.reader ∙ ap (λ (r : Kept). r.id) i.is)
         (closed f.edge.id.at f.edge (has_find g.edges relation.apart f.edge f.among) (subst (λ k. map.get marked.nodes k ≡ Some true) (sym n) (touched_marked m t)))
@@ -61,10 +61,10 @@ module _ (g marked : Graph) (slots : List Slot) (order keys : List (Option NodeI
     reader_touched s b k e f more stamp id among read next (Watch w) t =
         let same : s ≡ e.read.at = key_end s e.read.at w t more in
         Here (kept g.edges slots stamp id) among
-        (by_key e.read.at w t (subst Start same b) (kept g.edges slots stamp id) among (subst (λ u. Has (sources_at slots id.at g.edges) (source_in e.read.at u)) t read))
+        (by_key e.read.at w t (subst Start same b) stamp id among (subst (λ u. Has (sources_at slots id.at g.edges) (source_in e.read.at u)) t read))
     reader_touched s b k e f more stamp id among read next (Node h) t =
         let st = whole.placed.nodes_in.stands e.read.at h.place (ap node_place t) in
-        ByAsk (kept g.edges slots stamp id) among e.read.at (subst (λ u. Has (sources_at slots id.at g.edges) (source_in e.read.at u)) t read) (next h.place st.id st.there st.is)
+        ByAsk (kept g.edges slots stamp id) among e.read.at (has_behind (own_key (body_of (slot_at slots id.at)).node) (sources_at slots id.at g.edges) (asked e.read.at) (subst (λ u. Has (sources_at slots id.at g.edges) (source_in e.read.at u)) t read)) (next h.place st.id st.there st.is)
 
     reach_touched : (s : ℕ) → Start s → (q : ℕ) → Reaches g.edges s q → (p : ℕ) (id : NodeId) → at order p ≡ Some id → id.at ≡ q → IsTouched passes held q
     reach_touched s b q Itself p id there is =

@@ -1,19 +1,24 @@
 -- From which vertices each marking starts, and which held nodes pass with them.
-use Rattle.std.proofs.Common.{◌≡◌, ◌∙◌, ℕ, ◌+◌, ◌<◌, ◌≤◌, Bool, true, false, cond, List, [], ◌∷◌, length, Option, Some, None, refl, ap, sym, subst, arith, inl, inr}
+use Rattle.std.proofs.Common.{◌≡◌, ◌∙◌, ℕ, ◌+◌, ◌<◌, ◌≤◌, Bool, true, false, cond, List, [], ◌∷◌, length, Option, Some, None, refl, ap, sym, subst, arith, ◌⊎◌, inl, inr}
 use Rattle.mx_graph.specs.declared.ids.NodeId.{NodeId}
 use Rattle.std.proofs.lemmas.Bool.{eq-eqb}
 use Rattle.mx_graph.specs.Relation.{Entry, Graph, IsRelation, Reaches, Itself, Through, by_read, first_in}
 use Rattle.mx_edit.specs.declared.key.Key.{Key}
+use Rattle.mx_edit.specs.declared.key.Key.TheVariants.{Input}
+use Rattle.mx_value.specs.declared.node.Node.{Node as Asked}
+use Rattle.mx_vertices.specs.declared.slot.Held.{Held}
+use Rattle.mx_vertices.specs.Inputs.{is_static, AreChanged}
+use Rattle.mx_vertices.specs.Found.{node_at}
 use Rattle.mx_vertices.specs.declared.slot.Body.{Body}
 use Rattle.mx_vertices.specs.declared.slot.Slot.{Slot}
 use Rattle.mx_vertices.specs.declared.slot.Watched.{Watched}
 use Rattle.mx_vertices.specs.declared.slot.Slot.TheVariants.{Free, Node, Watch}
 use Rattle.mx_vertices.specs.Places.{slot_at, node_place, key_place, at, Has}
-use Rattle.mx_vertices.specs.Marked.{IsChangedKey, IsMarkedBy, IsMarkedFrom, DoesReach, IsReaching, AreLive, IsGoing, DoesGo, IsGoingFrom, IsUnreadBy, IsUnreadFrom}
-use Rattle.mx_vertices.specs.Kept.{Kept, looked, kept, entries, body_of, IsNode, IsWhole, HasChanged, IsToGo}
+use Rattle.mx_vertices.specs.Marked.{IsChangedKey, IsInputChanged, IsChangedStart, IsInputFrom, IsMarkedBy, IsMarkedFrom, DoesReach, IsReaching, AreLive, IsGoing, DoesGo, IsGoingFrom, IsUnreadBy, IsUnreadFrom}
+use Rattle.mx_vertices.specs.Kept.{Kept, looked, own_key, sources_at, kept, entries, body_of, IsNode, IsWhole, HasChanged, IsToGo}
 use Rattle.mx_vertices.proofs.Places.{at_below}
 use Rattle.mx_vertices.proofs.Edges.{has_find}
-use Rattle.mx_vertices.proofs.Touching.{read_edge, entry_at, key_read}
+use Rattle.mx_vertices.proofs.Touching.{read_edge, entry_at, key_read, has_behind, looked_either, own_looked}
 use Rattle.mx_vertices.proofs.Settled.{not_both}
 use Rattle.mx_vertices.proofs.Spreading.{Spreads}
 
@@ -32,40 +37,89 @@ module _ (g : Graph) (slots : List Slot) (order keys : List (Option NodeId)) (wh
   in_order p id there = (whole.placed.nodes_in.told p id there).0
 
   module _ (changed : Key → Bool) where
-    key_by : (o : Option NodeId) (q : ℕ) → IsMarkedBy slots changed g.edges o q → Spreads g.edges (IsChangedKey slots changed) q
+    key_by : (o : Option NodeId) (q : ℕ) → IsMarkedBy slots changed g.edges o q → Spreads g.edges (IsChangedStart slots changed) q
     key_by None q m = absurd m
-    key_by (Some id) q m = record { start = id.at; begins = m.0; reaches = m.1 }
+    key_by (Some id) q m = record { start = id.at; begins = inl m.0; reaches = m.1 }
 
-    pub keys_spread : (q : ℕ) → IsMarkedFrom slots changed keys g.edges (length keys) q → Spreads g.edges (IsChangedKey slots changed) q
-    keys_spread q m = key_by (at keys m.place) q m.by
-
-    pub spread_keys : (q : ℕ) → Spreads g.edges (IsChangedKey slots changed) q → IsMarkedFrom slots changed keys g.edges (length keys) q
-    spread_keys q s =
-        let w = s.begins.watched in
-        let st = whole.placed.keys_in.stands s.start w.place (ap key_place s.begins.slot) in
+    spread_keys : (s q : ℕ) → IsChangedKey slots changed s → Reaches g.edges s q → IsMarkedFrom slots changed keys g.edges (length keys) q
+    spread_keys s q b reaches =
+        let w = b.watched in
+        let st = whole.placed.keys_in.stands s w.place (ap key_place b.slot) in
         let by : IsMarkedBy slots changed g.edges (Some st.id) q
-        = (subst (IsChangedKey slots changed) (sym st.is) s.begins, subst (λ k. Reaches g.edges k q) (sym st.is) s.reaches) in
+        = (subst (IsChangedKey slots changed) (sym st.is) b, subst (λ k. Reaches g.edges k q) (sym st.is) reaches) in
         record { place = w.place; below = at_below keys w.place st.id st.there; by = subst (λ o. IsMarkedBy slots changed g.edges o q) (sym st.there) by }
 
-    pub changed_started : (r : Kept) → Has held r → HasChanged changed r → Spreads g.edges (IsChangedKey slots changed) r.id
+    module _ (inputs : List Asked) (are : AreChanged changed inputs) where
+      pub changes_spread : (q : ℕ) → IsMarkedFrom slots changed keys g.edges (length keys) q ⊎ IsInputFrom slots g.edges inputs q → Spreads g.edges (IsChangedStart slots changed) q
+      changes_spread q m =
+          elim m [
+            | inl m ↦ key_by (at keys m.place) q m.by
+            | inr m ↦
+                let n : m.by.is.held.body.node ≡ m.node = m.by.is.is in
+                record {
+                  start = m.by.vertex;
+                  begins = inr (record { held = m.by.is.held; slot = m.by.is.slot; own = ap is_static n ∙ m.by.own; tells = ap (λ (k : Asked). changed (Input k)) n ∙ (are m.node).0 m.among });
+                  reaches = m.by.reaches;
+                }
+          ]
+
+      pub spread_changes : (q : ℕ) → Spreads g.edges (IsChangedStart slots changed) q → IsMarkedFrom slots changed keys g.edges (length keys) q ⊎ IsInputFrom slots g.edges inputs q
+      spread_changes q s =
+          elim s.begins [
+            | inl b ↦ inl (spread_keys s.start q b s.reaches)
+            | inr b ↦ inr (record { node = b.held.body.node; among = (are b.held.body.node).1 b.tells; by = record { vertex = s.start; is = record { held = b.held; slot = b.slot; is = refl }; own = b.own; reaches = s.reaches } })
+          ]
+
+    -- a held node with a slot
+    node_slot : (q p : ℕ) (t : Slot) → slot_at slots q ≡ t → node_place t ≡ Some p → (h : Held) × (slot_at slots q ≡ Node h)
+    node_slot q p Free e n = cc
+    node_slot q p (Watch w) e n = cc
+    node_slot q p (Node h) e n = (h, e)
+
+    pub changed_started : (r : Kept) → Has held r → HasChanged changed r → Spreads g.edges (IsChangedStart slots changed) r.id
     changed_started r h c =
         let i = entry_at g.edges slots 0 order r h in
-        let f = read_edge slots i.id.at g.edges (looked c.key) (subst (λ (r : Kept). Has r.sources (looked c.key)) (sym i.is) c.among) in
-        let k = key_read f.edge.read.at (slot_at slots f.edge.read.at) c.key f.is in
-        record {
-          start = f.edge.read.at;
-          begins = record { watched = k.0; slot = k.1; tells = ap changed k.2 ∙ c.tells };
-          reaches = subst (λ n. Reaches g.edges f.edge.read.at n) (f.reader ∙ ap (λ (r : Kept). r.id) i.is) (Through f.edge.id.at f.edge (has_find g.edges relation.apart f.edge f.among) Itself);
-        }
+        elim (looked_either (node_at slots i.id.at) (sources_at slots i.id.at g.edges) c.key (subst (λ (r : Kept). Has r.sources (looked c.key)) (sym i.is) c.among)) [
+          | inl own ↦
+              let s = node_slot i.id.at i.place (slot_at slots i.id.at) refl (in_order i.place i.id i.there) in
+              let n : s.0.body.node ≡ node_at slots i.id.at = ap (λ (s : Slot). (body_of s).node) (sym s.1) in
+              record {
+                start = i.id.at;
+                begins = inr (record { held = s.0; slot = s.1; own = ap is_static n ∙ own.0; tells = ap (λ (m : Asked). changed (Input m)) n ∙ ap changed own.1 ∙ c.tells });
+                reaches = subst (λ n. Reaches g.edges i.id.at n) (ap (λ (r : Kept). r.id) i.is) Itself;
+              }
+          | inr among ↦
+              let f = read_edge slots i.id.at g.edges (looked c.key) among in
+              let k = key_read f.edge.read.at (slot_at slots f.edge.read.at) c.key f.is in
+              record {
+                start = f.edge.read.at;
+                begins = inl (record { watched = k.0; slot = k.1; tells = ap changed k.2 ∙ c.tells });
+                reaches = subst (λ n. Reaches g.edges f.edge.read.at n) (f.reader ∙ ap (λ (r : Kept). r.id) i.is) (Through f.edge.id.at f.edge (has_find g.edges relation.apart f.edge f.among) Itself);
+              }
+        ]
 
-    pub changed_here : (p : ℕ) (id : NodeId) → at order p ≡ Some id → IsChangedKey slots changed id.at → (stamp : ℕ) → stamp ≡ p + 1 → HasChanged changed (kept g.edges slots stamp id)
-    changed_here p id there b stamp e = absurd (no_key slots id.at p b.watched (in_order p id there) b.slot)
+    pub changed_here : (p : ℕ) (id : NodeId) → at order p ≡ Some id → IsChangedStart slots changed id.at → (stamp : ℕ) → stamp ≡ p + 1 → HasChanged changed (kept g.edges slots stamp id)
+    changed_here p id there b stamp e =
+        elim b [
+          | inl b ↦ absurd (no_key slots id.at p b.watched (in_order p id there) b.slot)
+          | inr b ↦
+              let n : node_at slots id.at ≡ b.held.body.node = ap (λ (s : Slot). (body_of s).node) b.slot in
+              record {
+                key = Input (node_at slots id.at);
+                among = own_looked (node_at slots id.at) (sources_at slots id.at g.edges) (ap is_static n ∙ b.own);
+                tells = ap (λ (m : Asked). changed (Input m)) n ∙ b.tells;
+              }
+        ]
 
-    pub changed_key : (s : ℕ) (w : Watched) → slot_at slots s ≡ Watch w → IsChangedKey slots changed s → (r : Kept) → Has held r → Has r.sources (looked w.key) → HasChanged changed r
-    changed_key s w t b r i h =
-        let both : Watch b.watched ≡ Watch w = sym b.slot ∙ t in
-        let key : b.watched ≡ w = cc in
-        record { key = w.key; among = h; tells = ap (λ (v : Watched). changed v.key) (sym key) ∙ b.tells }
+    pub changed_key : (s : ℕ) (w : Watched) → slot_at slots s ≡ Watch w → IsChangedStart slots changed s → (stamp : ℕ) (id : NodeId) → Has held (kept g.edges slots stamp id) → Has (sources_at slots id.at g.edges) (looked w.key) → HasChanged changed (kept g.edges slots stamp id)
+    changed_key s w t b stamp id i h =
+        elim b [
+          | inl b ↦
+              let both : Watch b.watched ≡ Watch w = sym b.slot ∙ t in
+              let key : b.watched ≡ w = cc in
+              record { key = w.key; among = has_behind (own_key (node_at slots id.at)) (sources_at slots id.at g.edges) (looked w.key) h; tells = ap (λ (v : Watched). changed v.key) (sym key) ∙ b.tells }
+          | inr b ↦ let no : Watch w ≡ Node b.held = sym t ∙ b.slot in cc
+        ]
 
   module _ (goes : Body → Bool) where
     go_by : (o : Option NodeId) (q : ℕ) → DoesGo slots goes g.edges o q → Spreads g.edges (IsGoing slots goes) q
@@ -101,8 +155,8 @@ module _ (g : Graph) (slots : List Slot) (order keys : List (Option NodeId)) (wh
     pub goes_here : (p : ℕ) (id : NodeId) → at order p ≡ Some id → IsGoing slots goes id.at → (stamp : ℕ) → stamp ≡ p + 1 → IsToGo goes (kept g.edges slots stamp id)
     goes_here p id there b stamp e = ap (λ (t : Slot). goes (body_of t)) b.slot ∙ b.tells
 
-    pub goes_key : (s : ℕ) (w : Watched) → slot_at slots s ≡ Watch w → IsGoing slots goes s → (r : Kept) → Has held r → Has r.sources (looked w.key) → IsToGo goes r
-    goes_key s w t b r i h = absurd (no_key slots s b.held.place w (ap node_place b.slot) t)
+    pub goes_key : (s : ℕ) (w : Watched) → slot_at slots s ≡ Watch w → IsGoing slots goes s → (stamp : ℕ) (id : NodeId) → Has held (kept g.edges slots stamp id) → Has (sources_at slots id.at g.edges) (looked w.key) → IsToGo goes (kept g.edges slots stamp id)
+    goes_key s w t b n id i h = absurd (no_key slots s b.held.place w (ap node_place b.slot) t)
 
   module _ (stamp : ℕ) where
     -- the vertex q stands at the place of the stamp or a later one
@@ -149,8 +203,8 @@ module _ (g : Graph) (slots : List Slot) (order keys : List (Option NodeId)) (wh
         let l = b.above in
         omega (arith, e, z, l)
 
-    pub late_key : (s : ℕ) (w : Watched) → slot_at slots s ≡ Watch w → IsLate s → (r : Kept) → Has held r → Has r.sources (looked w.key) → stamp < r.stamp
-    late_key s w t b r i h = absurd (no_key slots s b.place w (ap (λ k. node_place (slot_at slots k)) (sym b.is) ∙ in_order b.place b.id b.there) t)
+    pub late_key : (s : ℕ) (w : Watched) → slot_at slots s ≡ Watch w → IsLate s → (n : ℕ) (id : NodeId) → Has held (kept g.edges slots n id) → Has (sources_at slots id.at g.edges) (looked w.key) → stamp < n
+    late_key s w t b n id i h = absurd (no_key slots s b.place w (ap (λ k. node_place (slot_at slots k)) (sym b.is) ∙ in_order b.place b.id b.there) t)
 
   module _ (from : NodeId) where
     pub one_spread : (q : ℕ) → Reaches g.edges from.at q → Spreads g.edges (λ s. s ≡ from.at) q
@@ -165,8 +219,8 @@ module _ (g : Graph) (slots : List Slot) (order keys : List (Option NodeId)) (wh
     pub one_here : (p : ℕ) (id : NodeId) → at order p ≡ Some id → id.at ≡ from.at → (stamp : ℕ) → stamp ≡ p + 1 → id.at ≡ from.at
     one_here p id there b stamp e = b
 
-    pub one_key : IsNode (slot_at slots from.at) → (s : ℕ) (w : Watched) → slot_at slots s ≡ Watch w → s ≡ from.at → (r : Kept) → Has held r → Has r.sources (looked w.key) → r.id ≡ from.at
-    one_key node s w t b r i h = absurd (subst IsNode (ap (slot_at slots) (sym b) ∙ t) node)
+    pub one_key : IsNode (slot_at slots from.at) → (s : ℕ) (w : Watched) → slot_at slots s ≡ Watch w → s ≡ from.at → (stamp : ℕ) (id : NodeId) → Has held (kept g.edges slots stamp id) → Has (sources_at slots id.at g.edges) (looked w.key) → id.at ≡ from.at
+    one_key node s w t b n id i h = absurd (subst IsNode (ap (slot_at slots) (sym b) ∙ t) node)
 
   -- the vertex q is a key that none reads
   pub record IsUnread (q : ℕ) : Type 0 where
@@ -204,10 +258,9 @@ module _ (g : Graph) (slots : List Slot) (order keys : List (Option NodeId)) (wh
         ]
       ] refl n
 
-  pub unread_key : (s : ℕ) (w : Watched) → slot_at slots s ≡ Watch w → IsUnread s → (r : Kept) → Has held r → Has r.sources (looked w.key) → ⊥
-  unread_key s w t b r h l =
-      let i = entry_at g.edges slots 0 order r h in
-      let f = read_edge slots i.id.at g.edges (looked w.key) (subst (λ (r : Kept). Has r.sources (looked w.key)) (sym i.is) l) in
+  pub unread_key : (s : ℕ) (w : Watched) → slot_at slots s ≡ Watch w → IsUnread s → (stamp : ℕ) (id : NodeId) → Has held (kept g.edges slots stamp id) → Has (sources_at slots id.at g.edges) (looked w.key) → ⊥
+  unread_key s w t b stamp id h l =
+      let f = read_edge slots id.at g.edges (looked w.key) l in
       let k = key_read f.edge.read.at (slot_at slots f.edge.read.at) w.key f.is in
       let same : f.edge.read.at ≡ s = whole.once f.edge.read.at s k.0 w k.1 t k.2 in
       none_first (by_read b.id) g.edges b.unread f.edge f.among (eq-eqb f.edge.read.at b.id.at (same ∙ sym b.is))

@@ -1,22 +1,19 @@
 -- Entries with their edges.
-use Rattle.std.proofs.Common.{◌≡◌, ◌∙◌, ℕ, ◌+◌, true, false, cond, eqb, suc, zero, List, [], ◌∷◌, Option, Some, None, refl, ap, arith, inl, inr}
+use Rattle.std.proofs.Common.{◌≡◌, ◌∙◌, ℕ, ◌+◌, true, false, cond, eqb, suc, zero, List, [], ◌∷◌, Option, Some, None, Bool, ◌++◌, refl, sym, ap, subst, arith, ◌⊎◌, inl, inr}
 use Rattle.std.proofs.lemmas.Bool.{eqb-true, eqb-false}
 use Rattle.mx_graph.specs.declared.ids.NodeId.{NodeId}
 use Rattle.mx_graph.specs.Relation.{Entry}
 use Rattle.mx_edit.specs.declared.key.Key.{Key}
+use Rattle.mx_edit.specs.declared.key.Key.TheVariants.{Input}
+use Rattle.mx_value.specs.declared.node.Node.{Node as Asked}
 use Rattle.mx_vertices.specs.declared.slot.Slot.{Slot}
 use Rattle.mx_vertices.specs.declared.slot.Watched.{Watched}
 use Rattle.mx_vertices.specs.declared.slot.Slot.TheVariants.{Free, Node, Watch}
+use Rattle.mx_vertices.specs.Inputs.{is_static}
 use Rattle.mx_vertices.specs.Places.{slot_at, at, Has}
-use Rattle.mx_vertices.specs.Kept.{Kept, Source, looked, asked, sources_at, source_in, kept, entries}
+use Rattle.mx_vertices.specs.Kept.{Kept, Source, looked, asked, own_key, sources_at, source_in, kept, entries}
+use Rattle.mx_vertices.specs.Reading.{ReadsBy}
 use Rattle.mx_vertices.proofs.Places.{at_below}
-
--- an edge of the vertex q that is read so
-pub record ReadsBy (slots : List Slot) (edges : List Entry) (q : ℕ) (r : Source) : Type 0 where
-  pub edge : Entry
-  pub among : Has edges edge
-  pub reader : edge.reader.at ≡ q
-  pub is : source_in edge.read.at (slot_at slots edge.read.at) ≡ r
 
 pub read_edge : (slots : List Slot) (q : ℕ) (es : List Entry) (r : Source) → Has (sources_at slots q es) r → ReadsBy slots es q r
 read_edge slots q [] r h = absurd h
@@ -85,3 +82,31 @@ pub node_read : (q : ℕ) (s : Slot) (m : ℕ) → source_in q s ≡ asked m →
 node_read q Free m e = cc
 node_read q (Node h) m e = cc
 node_read q (Watch w) m e = cc
+
+-- what is behind is there
+pub has_behind : {X : Type 0} (xs ys : List X) (x : X) → Has ys x → Has (xs ++ ys) x
+has_behind [] ys x h = h
+has_behind (y ∷ xs) ys x h = inr (has_behind xs ys x h)
+
+-- what a node asked is not the key of its own input
+pub asked_behind : (n : Asked) (rs : List Source) (m : ℕ) → Has (own_key n ++ rs) (asked m) → Has rs (asked m)
+unfolding own_key
+asked_behind n rs m = by (is_static n)
+  where
+    by : (b : Bool) → Has (cond b (looked (Input n) ∷ []) [] ++ rs) (asked m) → Has rs (asked m)
+    by true h = elim h [ inl e ↦ cc | inr i ↦ i ]
+    by false h = h
+
+-- a key that a node looked up is that of its own input, or one behind it
+pub looked_either : (n : Asked) (rs : List Source) (k : Key) → Has (own_key n ++ rs) (looked k) → ((is_static n ≡ true) × (Input n ≡ k)) ⊎ Has rs (looked k)
+unfolding own_key
+looked_either n rs k h = by (is_static n) refl h
+  where
+    by : (b : Bool) → is_static n ≡ b → Has (cond b (looked (Input n) ∷ []) [] ++ rs) (looked k) → ((is_static n ≡ true) × (Input n ≡ k)) ⊎ Has rs (looked k)
+    by true t h = elim h [ inl e ↦ let same : Input n ≡ k = cc in inl (t, same) | inr i ↦ inr i ]
+    by false t h = inr h
+
+-- a static node looks up the key of its own input
+pub own_looked : (n : Asked) (rs : List Source) → is_static n ≡ true → Has (own_key n ++ rs) (looked (Input n))
+unfolding own_key
+own_looked n rs t = subst (λ b. Has (cond b (looked (Input n) ∷ []) [] ++ rs) (looked (Input n))) (sym t) (inl refl)

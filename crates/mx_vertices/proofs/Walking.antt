@@ -10,7 +10,10 @@ use Rattle.mx_graph.specs.Relation.{Entry, by_reader, find, next_in, Walks, IsAp
 use Rattle.mx_edit.specs.declared.key.Key.{Key}
 use Rattle.mx_vertices.specs.declared.slot.Slot.{Slot}
 use Rattle.mx_vertices.specs.Places.{slot_at, Has}
-use Rattle.mx_vertices.specs.Kept.{Source, looked, asked, source_in, sources_at}
+use Rattle.mx_edit.specs.declared.key.Key.TheVariants.{Input}
+use Rattle.mx_value.specs.declared.node.Node.{Node as Asked}
+use Rattle.mx_vertices.specs.Inputs.{is_static}
+use Rattle.mx_vertices.specs.Kept.{Source, looked, asked, own_key, source_in, sources_at}
 use Rattle.mx_vertices.specs.Held.{sources_of}
 use Rattle.mx_vertices.specs.Reading.{keys_in, asks_in, entry_read, reads_in}
 use Rattle.mx_vertices.proofs.Edges.{has_find, filter_has}
@@ -120,6 +123,15 @@ asks_push [] ys = refl
 asks_push (looked k ∷ xs) ys = asks_push xs ys
 asks_push (asked m ∷ xs) ys = ap (λ (ms : List ℕ). m ∷ ms) (asks_push xs ys)
 
+-- the key of its own input is nothing that a node asked
+pub asks_own : (n : Asked) (rs : List Source) → asks_in (own_key n ++ rs) ≡ asks_in rs
+unfolding own_key
+asks_own n rs = by (is_static n)
+  where
+    by : (b : Bool) → asks_in (cond b (looked (Input n) ∷ []) [] ++ rs) ≡ asks_in rs
+    by true = refl
+    by false = refl
+
 take_whole : (ids : List NodeId) (i : ℕ) → length ids ≤ i → take i ids ≡ ids
 take_whole [] zero l = refl
 take_whole [] (suc i) l = refl
@@ -140,3 +152,15 @@ module _ {X : Type 0} (of : List Source → List X) (push : (xs ys : List Source
       a
       ∙ ap (λ (xs : List NodeId). of (sources_of slots xs)) (take_whole ids i l ∙ is)
       ∙ ap of (read_sources slots id edges)
+
+  -- the same behind others
+  pub gathered_behind : (first : List X) (d : NodeId) (old new : List X) → i < length ids → old ≡ first ++ of (sources_of slots (take i ids)) → new ≡ old ++ of (source_in (get_or ids i d).at (slot_at slots (get_or ids i d).at) ∷ []) → new ≡ first ++ of (sources_of slots (take (i + 1) ids))
+  gathered_behind first d old new l e f =
+      let last : List X = of (source_in (get_or ids i d).at (slot_at slots (get_or ids i d).at) ∷ []) in
+      f
+      ∙ ap (λ (xs : List X). xs ++ last) e
+      ∙ append_assoc first (of (sources_of slots (take i ids))) last
+      ∙ ap (λ (xs : List X). first ++ xs) (gathered d (of (sources_of slots (take i ids))) (of (sources_of slots (take i ids)) ++ last) l refl refl)
+
+  pub gathered_behind_all : (first : List X) (edges : List Entry) (id : NodeId) (all : List X) → length ids ≤ i → ids ≡ reads_in id edges → all ≡ first ++ of (sources_of slots (take i ids)) → all ≡ first ++ of (sources_at slots id.at edges)
+  gathered_behind_all first edges id all l is e = e ∙ ap (λ (xs : List X). first ++ xs) (gathered_all edges id (of (sources_of slots (take i ids))) l is refl)

@@ -5,6 +5,11 @@ use Rattle.mx_value.specs.declared.node.Node.{Node as Asked}
 use Rattle.mx_value.specs.Equality.{node_eq}
 use Rattle.mx_vertices.specs.declared.slot.Body.{Body}
 use Rattle.mx_vertices.specs.declared.slot.Held.{Held}
+use Rattle.std.specs.HashMap.{get as look_up}
+use Rattle.mx_edit.specs.declared.key.Key.{Key}
+use Rattle.mx_edit.specs.Equality.{key_eq}
+use Rattle.mx_vertices.specs.declared.finding.Table.{Table}
+use Rattle.mx_vertices.specs.declared.slot.Watched.{Watched}
 use Rattle.mx_vertices.specs.declared.slot.Slot.{Slot}
 use Rattle.mx_vertices.specs.declared.standing.Standing.{Standing}
 use Rattle.mx_vertices.specs.declared.standing.Standing.TheVariants.{Begun, Ended}
@@ -19,6 +24,25 @@ node_at slots q = (body_of (slot_at slots q)).node
 -- the table leads from each held node to its vertex
 abbrev pub IsFound : (Asked → Option Standing) → List Slot → List (Option NodeId) → Type 0
 IsFound look slots order = (p : ℕ) (id : NodeId) → at order p ≡ Some id → look (node_at slots id.at) ≡ Some (Ended id)
+
+-- the table leads to each vertex that is a held node
+abbrev pub LeadsTo : (Asked → Option Standing) → List Slot → Type 0
+LeadsTo look slots = (q : ℕ) (h : Held) → slot_at slots q ≡ Node h → (id : NodeId) × (look h.body.node ≡ Some (Ended id)) × (id.at ≡ q)
+
+-- the table leads to the vertex of each key
+abbrev pub AreWatched : (Key → Option NodeId) → List Slot → Type 0
+AreWatched look slots = (q : ℕ) (w : Watched) → slot_at slots q ≡ Watch w → (id : NodeId) × (look w.key ≡ Some id) × (id.at ≡ q)
+
+-- the table without the key of a slot
+abbrev pub key_without : Slot → (Key → Option NodeId) → Key → Option NodeId
+key_without Free look k = look k
+key_without (Node h) look k = look k
+key_without (Watch w) look k = if key_eq w.key k then None else look k
+
+-- the tables lead to each held node and to each key
+pub record IsIndexed (table : Table) (slots : List Slot) (order : List (Option NodeId)) : Type 0 where
+  pub nodes : IsFound (look_up node_eq table.nodes) slots order
+  pub keys : AreWatched (look_up key_eq table.keys) slots
 
 -- the table without what a slot holds
 abbrev pub look_without : Slot → (Asked → Option Standing) → Asked → Option Standing

@@ -6,7 +6,7 @@ use Rattle.mx_vertices.specs.declared.slot.Body.{Body}
 use Rattle.mx_vertices.specs.declared.slot.Slot.{Slot}
 use Rattle.mx_vertices.specs.declared.slot.Slot.TheVariants.{Free}
 use Rattle.mx_vertices.specs.Places.{slot_at, Has}
-use Rattle.mx_vertices.specs.Kept.{Kept, Source, looked, asked, source_in, IsNode}
+use Rattle.mx_vertices.specs.Kept.{Kept, Source, looked, asked, own_key, source_in, IsNode}
 
 -- what these vertices are as sources of a run
 abbrev pub sources_of : List Slot → List NodeId → List Source
@@ -28,6 +28,6 @@ with_sources id more k = if k.id == id then record k { sources = k.sources ++ mo
 abbrev pub asked_id : NodeId → Source
 asked_id id = asked id.at
 
--- a node as it is held: what its run looked up, then what it asked
+-- a node as it is held: its own input, where it is static, then what else its run looked up, then what it asked
 abbrev pub entry_with : ℕ → ℕ → Body → List Key → List NodeId → Kept
-entry_with stamp id body keys asks = record { stamp = stamp; id = id; body = body; sources = map looked keys ++ map asked_id asks }
+entry_with stamp id body keys asks = record { stamp = stamp; id = id; body = body; sources = own_key body.node ++ (map looked keys ++ map asked_id asks) }

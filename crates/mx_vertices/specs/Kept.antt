@@ -4,12 +4,15 @@ use Rattle.std.specs.FinMap as map
 use Rattle.mx_graph.specs.declared.ids.NodeId.{NodeId}
 use Rattle.mx_graph.specs.Relation.{Entry, Graph, find}
 use Rattle.mx_edit.specs.declared.key.Key.{Key}
+use Rattle.mx_edit.specs.declared.key.Key.TheVariants.{Input}
+use Rattle.mx_value.specs.declared.node.Node.{Node as Asked}
 use Rattle.mx_value.specs.declared.node.Node.TheVariants.{Item}
 use Rattle.mx_value.specs.declared.value.Value.TheVariants.{Nothing}
 use Rattle.mx_vertices.specs.declared.slot.Body.{Body}
 use Rattle.mx_vertices.specs.declared.slot.Slot.{Slot}
 use Rattle.mx_vertices.specs.declared.slot.Watched.{Watched}
 use Rattle.mx_vertices.specs.declared.slot.Slot.TheVariants.{Free, Node, Watch}
+use Rattle.mx_vertices.specs.Inputs.{is_static}
 use Rattle.mx_vertices.specs.Places.{slot_at, Has, IsPlaced}
 
 -- what a run took from elsewhere: a key that it looked up, or a held node that it asked, by its id
@@ -23,6 +26,10 @@ pub record Kept : Type 0 where
   pub id : ℕ
   pub body : Body
   pub sources : List Source
+
+-- the key of its own input, which a static node looks up before all else
+unfoldable pub own_key : Asked → List Source
+own_key n = if is_static n then looked (Input n) ∷ [] else []
 
 -- what is in no slot
 abbrev pub no_body : Body
@@ -48,7 +55,7 @@ kept edges slots stamp id = record {
   stamp = stamp;
   id = id.at;
   body = body_of (slot_at slots id.at);
-  sources = sources_at slots id.at edges;
+  sources = own_key (body_of (slot_at slots id.at)).node ++ sources_at slots id.at edges;
 }
 
 -- the held nodes that stand from a place on
@@ -89,11 +96,6 @@ pub data Sifts (Out : ℕ → Type 0) : List Kept → List Kept → Type 0 where
   Done : Sifts Out [] []
   Keeps : (r : Kept) (rs ks : List Kept) → (Out r.id → ⊥) → Sifts Out rs ks → Sifts Out (r ∷ rs) (r ∷ ks)
   Drops : (r : Kept) (rs ks : List Kept) → Out r.id → Sifts Out rs ks → Sifts Out (r ∷ rs) ks
-
--- a node stands behind all others, and has read nothing yet
-pub record IsHeldLast (old new : List Kept) (id : ℕ) (body : Body) : Type 0 where
-  pub stamp : ℕ
-  pub is : new ≡ old ++ record { stamp = stamp; id = id; body = body; sources = [] } ∷ []
 
 -- a node of this id is held
 pub record IsHeld (held : List Kept) (id : ℕ) : Type 0 where

@@ -5,3 +5,4 @@ pub mod Held
 pub mod Found
 pub mod Stamps
 pub mod Reading
+pub mod Inputs

@@ -1,5 +1,5 @@
 -- What is marked for an edit.
-use Rattle.std.specs.Prelude.{◌≡◌, ℕ, ◌<◌, ◌≤◌, List, Option, Some, None, Bool, true, IsSome}
+use Rattle.std.specs.Prelude.{◌≡◌, ◌⊎◌, ℕ, ◌<◌, ◌≤◌, List, Option, Some, None, Bool, true, IsSome}
 use Rattle.std.specs.Ordering.{nat_cmp}
 use Rattle.std.specs.FinMap as map
 use Rattle.mx_graph.specs.declared.ids.NodeId.{NodeId}
@@ -10,7 +10,11 @@ use Rattle.mx_vertices.specs.declared.slot.Held.{Held}
 use Rattle.mx_vertices.specs.declared.slot.Slot.{Slot}
 use Rattle.mx_vertices.specs.declared.slot.Watched.{Watched}
 use Rattle.mx_vertices.specs.declared.slot.Slot.TheVariants.{Node, Watch}
-use Rattle.mx_vertices.specs.Places.{slot_at, at}
+use Rattle.mx_edit.specs.declared.key.Key.TheVariants.{Input}
+use Rattle.mx_value.specs.declared.node.Node.{Node as Asked}
+use Rattle.mx_vertices.specs.Places.{slot_at, at, Has}
+use Rattle.mx_vertices.specs.Inputs.{is_static}
+use Rattle.mx_vertices.specs.Found.{IsNodeAt}
 
 -- the vertex is a key that is changed
 pub record IsChangedKey (slots : List Slot) (changed : Key → Bool) (q : ℕ) : Type 0 where
@@ -72,3 +76,35 @@ pub record IsUnreadFrom (keys : List (Option NodeId)) (edges : List Entry) (n q 
   pub place : ℕ
   pub below : place < n
   pub by : IsUnreadBy edges (at keys place) q
+
+-- the vertex is a held static node whose own input is changed
+pub record IsInputChanged (slots : List Slot) (changed : Key → Bool) (q : ℕ) : Type 0 where
+  pub held : Held
+  pub slot : slot_at slots q ≡ Node held
+  pub own : is_static held.body.node ≡ true
+  pub tells : changed (Input held.body.node) ≡ true
+
+-- what a change begins at: a changed key, or a held static node whose own input is changed
+abbrev pub IsChangedStart : List Slot → (Key → Bool) → ℕ → Type 0
+IsChangedStart slots changed q = IsChangedKey slots changed q ⊎ IsInputChanged slots changed q
+
+-- q reaches this node, which is held and static
+pub record IsInputBy (slots : List Slot) (edges : List Entry) (n : Asked) (q : ℕ) : Type 0 where
+  pub vertex : ℕ
+  pub is : IsNodeAt slots vertex n
+  pub own : is_static n ≡ true
+  pub reaches : Reaches edges vertex q
+
+-- q reaches one of these
+pub record IsInputFrom (slots : List Slot) (edges : List Entry) (nodes : List Asked) (q : ℕ) : Type 0 where
+  pub node : Asked
+  pub among : Has nodes node
+  pub by : IsInputBy slots edges node q
+
+-- each held node is in the graph
+abbrev pub AreNodesLive : map.FinMap nat_cmp Bool → List Slot → Type 0
+AreNodesLive graph slots = (q : ℕ) (h : Held) → slot_at slots q ≡ Node h → IsSome (map.get graph q)
+
+-- each key is in the graph
+abbrev pub AreKeysLive : map.FinMap nat_cmp Bool → List Slot → Type 0
+AreKeysLive graph slots = (q : ℕ) (w : Watched) → slot_at slots q ≡ Watch w → IsSome (map.get graph q)

@@ -3,11 +3,12 @@ ghost use Rattle.std.specs.Prelude.{◌≡◌, ◌<◌, ◌≤◌, length};
 ghost use Rattle.std.specs.HashMap.{get as look_up};
 ghost use Rattle.mx_value.specs.Equality.{node_eq};
 ghost use Rattle.mx_value.specs.declared.node.Node.{Node as Asked};
-ghost use Rattle.mx_vertices.specs.Found.{IsFound, is_begun};
+ghost use Rattle.mx_vertices.specs.Found.{IsIndexed, is_begun};
 ghost use Rattle.mx_vertices.specs.Places.{held_in, slot_at};
 ghost use Rattle.mx_vertices.specs.Kept.{IsTouched, HasChanged, IsToGo, Sifts, IsNode, IsWhole, entries};
 
 use crate::finding::Table;
+use crate::inputs::mark_inputs;
 use crate::marking::{mark_after, mark_changed, mark_where};
 use crate::slot::Slot;
 use crate::sweep::sweep;
@@ -16,7 +17,7 @@ use crate::test_of_node::NodeTest;
 use crate::unread::drop_unread;
 use mx_graph::{NodeId, ReadGraph};
 
-/// Drops each node that read a changed key, with all that reach it.
+/// Drops each node that read a changed key, its own input among them, with all that reach it.
 pub fn drop_changed<T: KeyTest>(
     graph: &mut ReadGraph,
     slots: &mut Vec<Slot>,
@@ -26,11 +27,11 @@ pub fn drop_changed<T: KeyTest>(
     table: &mut Table,
     test: &T,
 )
-    requires found { IsFound (look_up node_eq table.old) slots.old.items order.old.items }
+    requires found { IsIndexed table.old slots.old.items order.old.items }
     requires count { count.old ≡ held_in order.old.items }
     requires whole { IsWhole graph.old slots.old.items order.old.items keys.old.items }
-    ensures found { IsFound (look_up node_eq table.new) slots.new.items order.new.items }
-    ensures begun { (n : Asked) → is_begun (look_up node_eq table.new n) ≡ is_begun (look_up node_eq table.old n) }
+    ensures found { IsIndexed table.new slots.new.items order.new.items }
+    ensures begun { (n : Asked) → is_begun (look_up node_eq table.new.nodes n) ≡ is_begun (look_up node_eq table.old.nodes n) }
     ensures count { count.new ≡ held_in order.new.items }
     ensures less { count.new ≤ count.old }
     ensures last { length order.new.items ≡ length order.old.items }
@@ -39,6 +40,7 @@ pub fn drop_changed<T: KeyTest>(
 {
     graph.relation();
     mark_changed(graph, slots.as_slice(), keys.as_slice(), test);
+    mark_inputs(graph, slots.as_slice(), &table.nodes, test.changed_inputs());
     sweep(graph, slots, order, keys, count, table);
     drop_unread(graph, slots, order, keys, count, table);
 }
@@ -53,11 +55,11 @@ pub fn drop_after(
     table: &mut Table,
     stamp: usize,
 )
-    requires found { IsFound (look_up node_eq table.old) slots.old.items order.old.items }
+    requires found { IsIndexed table.old slots.old.items order.old.items }
     requires count { count.old ≡ held_in order.old.items }
     requires whole { IsWhole graph.old slots.old.items order.old.items keys.old.items }
-    ensures found { IsFound (look_up node_eq table.new) slots.new.items order.new.items }
-    ensures begun { (n : Asked) → is_begun (look_up node_eq table.new n) ≡ is_begun (look_up node_eq table.old n) }
+    ensures found { IsIndexed table.new slots.new.items order.new.items }
+    ensures begun { (n : Asked) → is_begun (look_up node_eq table.new.nodes n) ≡ is_begun (look_up node_eq table.old.nodes n) }
     ensures count { count.new ≡ held_in order.new.items }
     ensures less { count.new ≤ count.old }
     ensures last { length order.new.items ≡ length order.old.items }
@@ -80,11 +82,11 @@ pub fn drop_where<T: NodeTest>(
     table: &mut Table,
     test: &T,
 )
-    requires found { IsFound (look_up node_eq table.old) slots.old.items order.old.items }
+    requires found { IsIndexed table.old slots.old.items order.old.items }
     requires count { count.old ≡ held_in order.old.items }
     requires whole { IsWhole graph.old slots.old.items order.old.items keys.old.items }
-    ensures found { IsFound (look_up node_eq table.new) slots.new.items order.new.items }
-    ensures begun { (n : Asked) → is_begun (look_up node_eq table.new n) ≡ is_begun (look_up node_eq table.old n) }
+    ensures found { IsIndexed table.new slots.new.items order.new.items }
+    ensures begun { (n : Asked) → is_begun (look_up node_eq table.new.nodes n) ≡ is_begun (look_up node_eq table.old.nodes n) }
     ensures count { count.new ≡ held_in order.new.items }
     ensures less { count.new ≤ count.old }
     ensures last { length order.new.items ≡ length order.old.items }
@@ -107,12 +109,12 @@ pub fn drop_one(
     table: &mut Table,
     from: NodeId,
 )
-    requires found { IsFound (look_up node_eq table.old) slots.old.items order.old.items }
+    requires found { IsIndexed table.old slots.old.items order.old.items }
     requires count { count.old ≡ held_in order.old.items }
     requires whole { IsWhole graph.old slots.old.items order.old.items keys.old.items }
     requires node { IsNode (slot_at slots.old.items from.at) }
-    ensures found { IsFound (look_up node_eq table.new) slots.new.items order.new.items }
-    ensures begun { (n : Asked) → is_begun (look_up node_eq table.new n) ≡ is_begun (look_up node_eq table.old n) }
+    ensures found { IsIndexed table.new slots.new.items order.new.items }
+    ensures begun { (n : Asked) → is_begun (look_up node_eq table.new.nodes n) ≡ is_begun (look_up node_eq table.old.nodes n) }
     ensures count { count.new ≡ held_in order.new.items }
     ensures less { count.new ≤ count.old }
     ensures last { length order.new.items ≡ length order.old.items }

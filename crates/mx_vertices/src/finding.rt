@@ -4,11 +4,15 @@ ghost use Rattle.mx_vertices.specs.declared.standing.Standing.TheVariants.{Begun
 ghost use Rattle.std.specs.HashMap.{get as look_up};
 ghost use Rattle.mx_value.specs.declared.node.Node.{Node as Asked};
 ghost use Rattle.mx_value.specs.Equality.{node_eq};
+ghost use Rattle.mx_edit.specs.Equality.{key_eq};
+ghost use Rattle.mx_edit.specs.declared.key.Key.{Key as Looked};
 ghost use Rattle.mx_vertices.specs.Places.{slot_at};
-ghost use Rattle.mx_vertices.specs.Found.{IsNodeAt, look_without};
+ghost use Rattle.mx_vertices.specs.Found.{IsNodeAt, look_without, key_without};
 
 use crate::slot::Slot;
 use crate::standing::Standing;
+use mx_edit::equality::equality_laws as laws_of_keys;
+use mx_edit::key::Key;
 use mx_graph::{NoMemory, NodeId};
 use mx_list::shared::Shared;
 use mx_value::equality::equality_laws;
@@ -16,7 +20,19 @@ use mx_value::node::Node;
 use std::collections::HashMap;
 
 /// How far nodes have come.
-pub type Table = HashMap<Shared<Node>, Standing>;
+pub type Nodes = HashMap<Shared<Node>, Standing>;
+
+/// The vertices of keys.
+pub type Keys = HashMap<Key, NodeId>;
+
+/// Where nodes and keys are found.
+#[derive(Drop)]
+pub struct Table {
+    /// How far nodes have come.
+    pub nodes: Nodes,
+    /// The vertices of keys.
+    pub keys: Keys,
+}
 
 /// Whether two nodes are the same.
 fn is_same_node(a: &Shared<Node>, b: &Node) -> bool
@@ -42,18 +58,21 @@ pub fn holds_node(slots: &[Slot], id: NodeId, node: &Node) -> bool
     }
 }
 
-/// Takes the node of a slot out of the table.
+/// Takes the node or the key of a slot out of its table.
 pub fn forget(slots: &[Slot], table: &mut Table, at: usize)
-    ensures { (n : Asked) → look_up node_eq table.new n ≡ look_without (slot_at slots.now at) (look_up node_eq table.old) n }
+    ensures nodes { (n : Asked) → look_up node_eq table.new.nodes n ≡ look_without (slot_at slots.now at) (look_up node_eq table.old.nodes) n }
+    ensures keys { (k : Looked) → look_up key_eq table.new.keys k ≡ key_without (slot_at slots.now at) (look_up key_eq table.old.keys) k }
 {
     let Some(slot) = slots.get(at) else {
         return;
     };
     match slot {
         Slot::Node(held) => {
-            let _ = table.remove(&held.body.node);
+            let _ = table.nodes.remove(&held.body.node);
         }
-        Slot::Watch(_) => {}
+        Slot::Watch(watched) => {
+            let _ = table.keys.remove(&watched.key);
+        }
         Slot::Free => {}
     }
 }
@@ -65,9 +84,16 @@ pub fn node_laws()
     equality_laws();
 }
 
+/// The law of `==` on keys, for proofs. Does nothing when it runs.
+pub fn key_laws()
+    ensures { (a b : Looked) → (key_eq a b ≡ true → a ≡ b) × (a ≡ b → key_eq a b ≡ true) }
+{
+    laws_of_keys();
+}
+
 /// Marks a node whose run begins. After an error nothing is seen to change.
 pub fn begin_in(
-    table: &mut Table,
+    table: &mut Nodes,
     begun: &mut Vec<Shared<Node>>,
     node: &Shared<Node>,
 ) -> Result<(), NoMemory>
@@ -85,7 +111,7 @@ pub fn begin_in(
 }
 
 /// Takes the mark off the node whose run began last, and gives it.
-pub fn end_in(table: &mut Table, begun: &mut Vec<Shared<Node>>) -> Option<Shared<Node>>
+pub fn end_in(table: &mut Nodes, begun: &mut Vec<Shared<Node>>) -> Option<Shared<Node>>
     ensures begun { begun.old.items ≡ begun.new.items ++ option_to_list result }
     ensures table { MatchOption result ((n : Asked) → look_up node_eq table.new n ≡ look_up node_eq table.old n) (λ node. (n : Asked) → look_up node_eq table.new n ≡ (if node_eq node n then None else look_up node_eq table.old n)) }
 {

@@ -2,9 +2,13 @@
 ghost use Rattle.std.specs.Prelude.{◌≡◌, ◌<◌, ◌≤◌, ◌+◌, ◌++◌, ◌∷◌, [], ℕ, Some, length, IfOk, OnOk, OnErr, map as map_list};
 ghost use Rattle.mx_vertices.specs.declared.slot.Slot.TheVariants.{Free, Node as Slot_Node};
 ghost use Rattle.mx_vertices.specs.Places.{slot_at};
-ghost use Rattle.mx_vertices.specs.Kept.{IsWhole, IsNode, looked, entries};
+ghost use Rattle.mx_vertices.specs.Kept.{IsWhole, IsNode, looked, own_key, entries};
+ghost use Rattle.std.specs.HashMap.{get as look_up};
+ghost use Rattle.mx_edit.specs.Equality.{key_eq};
+ghost use Rattle.mx_vertices.specs.Found.{AreWatched};
 ghost use Rattle.mx_vertices.specs.Held.{sources_of, with_sources, AreThere, AreNodes, asked_id};
 
+use crate::finding::Keys;
 use crate::slot::{Body, Slot};
 use crate::vertices::{hold_in, key_vertex, read_next};
 use mx_edit::key::Key;
@@ -17,11 +21,14 @@ fn key_vertices(
     slots: &mut Vec<Slot>,
     order: &[Option<NodeId>],
     keys: &mut Vec<Option<NodeId>>,
+    table: &mut Keys,
     wanted: &[Key],
     sources: &mut Vec<NodeId>,
 ) -> Result<(), NoMemory>
     requires whole { IsWhole graph.old slots.old.items order.now keys.old.items }
+    requires watched { AreWatched (look_up key_eq table.old) slots.old.items }
     requires none { sources.old.items ≡ [] }
+    ensures watched { AreWatched (look_up key_eq table.new) slots.new.items }
     ensures whole { IsWhole graph.new slots.new.items order.now keys.new.items }
     ensures same { entries graph.new.edges slots.new.items 0 order.now ≡ entries graph.old.edges slots.old.items 0 order.now }
     ensures stays { (q : ℕ) → (slot_at slots.old.items q ≡ Free → ⊥) → slot_at slots.new.items q ≡ slot_at slots.old.items q }
@@ -29,7 +36,7 @@ fn key_vertices(
     ensures there { AreThere slots.new.items sources.new.items }
 {
     for key in wanted {
-        let id = key_vertex(graph, slots, order, keys, key)?;
+        let id = key_vertex(graph, slots, order, keys, table, key)?;
         sources.push(id)?;
     }
     Ok(())
@@ -73,11 +80,14 @@ pub fn vertices_of(
     slots: &mut Vec<Slot>,
     order: &[Option<NodeId>],
     keys: &mut Vec<Option<NodeId>>,
+    table: &mut Keys,
     wanted: &[Key],
     asks: &[NodeId],
 ) -> Result<Vec<NodeId>, NoMemory>
     requires whole { IsWhole graph.old slots.old.items order.now keys.old.items }
+    requires watched { AreWatched (look_up key_eq table.old) slots.old.items }
     requires asks { AreNodes slots.old.items asks.now }
+    ensures watched { AreWatched (look_up key_eq table.new) slots.new.items }
     ensures whole { IsWhole graph.new slots.new.items order.now keys.new.items }
     ensures same { entries graph.new.edges slots.new.items 0 order.now ≡ entries graph.old.edges slots.old.items 0 order.now }
     ensures stays { (q : ℕ) → (slot_at slots.old.items q ≡ Free → ⊥) → slot_at slots.new.items q ≡ slot_at slots.old.items q }
@@ -85,7 +95,7 @@ pub fn vertices_of(
     ensures there { IfOk result (λ s. AreThere slots.new.items s.items) }
 {
     let mut sources = Vec::new(alloc);
-    key_vertices(graph, slots, order, keys, wanted, &mut sources)?;
+    key_vertices(graph, slots, order, keys, table, wanted, &mut sources)?;
     put_ids(&mut sources, asks)?;
     Ok(sources)
 }
@@ -102,7 +112,7 @@ pub fn hold_with(
     requires whole { IsWhole graph.old slots.old.items order.old.items keys.now }
     requires there { AreThere slots.old.items sources.now }
     ensures whole { IsWhole graph.new slots.new.items order.new.items keys.now }
-    ensures held { IfOk result (λ id. entries graph.new.edges slots.new.items 0 order.new.items ≡ entries graph.old.edges slots.old.items 0 order.old.items ++ record { stamp = length order.old.items + 1; id = id.at; body = body; sources = sources_of slots.old.items sources.now } ∷ []) }
+    ensures held { IfOk result (λ id. entries graph.new.edges slots.new.items 0 order.new.items ≡ entries graph.old.edges slots.old.items 0 order.old.items ++ record { stamp = length order.old.items + 1; id = id.at; body = body; sources = own_key body.node ++ sources_of slots.old.items sources.now } ∷ []) }
     ensures node { IfOk result (λ id. slot_at slots.new.items id.at ≡ Slot_Node (record { body = body; place = length order.old.items })) }
     ensures order { IfOk result (λ id. order.new.items ≡ order.old.items ++ Some id ∷ []) }
     ensures stays { (q : ℕ) → (slot_at slots.old.items q ≡ Free → ⊥) → slot_at slots.new.items q ≡ slot_at slots.old.items q }

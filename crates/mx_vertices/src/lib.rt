@@ -5,6 +5,7 @@
 pub mod drops;
 pub mod finding;
 pub mod holding;
+pub mod inputs;
 pub mod marking;
 pub mod settle;
 pub mod slot;

@@ -4,12 +4,12 @@ ghost use Rattle.std.specs.FinMap as map;
 ghost use Rattle.std.specs.HashMap.{get as look_up};
 ghost use Rattle.mx_value.specs.Equality.{node_eq};
 ghost use Rattle.mx_value.specs.declared.node.Node.{Node as Asked};
-ghost use Rattle.mx_vertices.specs.Found.{IsFound, is_begun};
+ghost use Rattle.mx_vertices.specs.Found.{IsIndexed, is_begun};
 ghost use Rattle.mx_graph.specs.Relation.{is_kept, is_marked_in};
 ghost use Rattle.mx_vertices.specs.declared.slot.Slot.TheVariants.{Free};
 ghost use Rattle.mx_vertices.specs.Places.{slot_at, node_place, key_place, cleared, CanClear, IsPlaced, if_live, held_in, counts};
 
-use crate::finding::{Table, forget, node_laws};
+use crate::finding::{Table, forget, key_laws, node_laws};
 use crate::slot::Slot;
 use mx_graph::{NodeId, ReadGraph};
 use std::mem;
@@ -50,11 +50,11 @@ pub fn sweep(
     count: &mut u32,
     table: &mut Table,
 )
-    requires found { IsFound (look_up node_eq table.old) slots.old.items order.old.items }
+    requires found { IsIndexed table.old slots.old.items order.old.items }
     requires count { count.old ≡ held_in order.old.items }
     requires placed { IsPlaced graph.old.nodes slots.old.items order.old.items keys.old.items }
-    ensures found { IsFound (look_up node_eq table.new) slots.new.items order.new.items }
-    ensures begun { (n : Asked) → is_begun (look_up node_eq table.new n) ≡ is_begun (look_up node_eq table.old n) }
+    ensures found { IsIndexed table.new slots.new.items order.new.items }
+    ensures begun { (n : Asked) → is_begun (look_up node_eq table.new.nodes n) ≡ is_begun (look_up node_eq table.old.nodes n) }
     ensures count { count.new ≡ held_in order.new.items }
     ensures less { count.new ≤ count.old }
     ensures placed { IsPlaced graph.new.nodes slots.new.items order.new.items keys.new.items }
@@ -65,6 +65,7 @@ pub fn sweep(
     ensures keys { keys.new.items ≡ map_list (if_live graph.new.nodes) keys.old.items }
 {
     node_laws();
+    key_laws();
     'marked: while let Some(id) = graph.take_marked() {
         let at = id.index();
         forget(slots.as_slice(), table, at);

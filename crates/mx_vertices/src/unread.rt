@@ -4,7 +4,7 @@ ghost use Rattle.std.specs.FinMap as map;
 ghost use Rattle.std.specs.HashMap.{get as look_up};
 ghost use Rattle.mx_value.specs.Equality.{node_eq};
 ghost use Rattle.mx_value.specs.declared.node.Node.{Node as Asked};
-ghost use Rattle.mx_vertices.specs.Found.{IsFound, is_begun};
+ghost use Rattle.mx_vertices.specs.Found.{IsIndexed, is_begun};
 ghost use Rattle.mx_vertices.specs.Places.{held_in};
 ghost use Rattle.mx_vertices.specs.Marked.{AreLive, IsUnreadBy, IsUnreadFrom};
 ghost use Rattle.mx_vertices.specs.Kept.{IsWhole, entries};
@@ -51,11 +51,11 @@ pub fn drop_unread(
     count: &mut u32,
     table: &mut Table,
 )
-    requires found { IsFound (look_up node_eq table.old) slots.old.items order.old.items }
+    requires found { IsIndexed table.old slots.old.items order.old.items }
     requires count { count.old ≡ held_in order.old.items }
     requires whole { IsWhole graph.old slots.old.items order.old.items keys.old.items }
-    ensures found { IsFound (look_up node_eq table.new) slots.new.items order.new.items }
-    ensures begun { (n : Asked) → is_begun (look_up node_eq table.new n) ≡ is_begun (look_up node_eq table.old n) }
+    ensures found { IsIndexed table.new slots.new.items order.new.items }
+    ensures begun { (n : Asked) → is_begun (look_up node_eq table.new.nodes n) ≡ is_begun (look_up node_eq table.old.nodes n) }
     ensures count { count.new ≡ held_in order.new.items }
     ensures less { count.new ≤ count.old }
     ensures last { length order.new.items ≡ length order.old.items }

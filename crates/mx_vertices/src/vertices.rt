@@ -1,15 +1,19 @@
 //! Vertices: held nodes, and the keys that they look up.
-ghost use Rattle.std.specs.Prelude.{◌≡◌, ◌<◌, ◌≤◌, ◌+◌, ◌++◌, ◌∷◌, ◌==◌, [], ℕ, Some, None, IfSome, IfNone, IsSomeAnd, MatchOption, true, false, length, IfOk, OnOk, OnErr, if◌then◌else◌, slice_set, map as map_list};
+ghost use Rattle.std.specs.Prelude.{◌≡◌, ◌<◌, ◌≤◌, ◌+◌, ◌++◌, ◌∷◌, ◌==◌, [], ℕ, Some, None, IfSome, IfNone, MatchOption, true, false, length, IfOk, OnOk, OnErr, if◌then◌else◌, slice_set, map as map_list};
 ghost use Rattle.std.specs.FinMap as map;
 ghost use Rattle.mx_vertices.specs.declared.slot.Slot.TheVariants.{Free, Node as Slot_Node, Watch as Slot_Watch};
 ghost use Rattle.mx_vertices.specs.Places.{slot_at, at};
-ghost use Rattle.mx_vertices.specs.Found.{IsBodyAt};
-ghost use Rattle.mx_vertices.specs.Kept.{IsWhole, IsKeyAt, IsNode, with_read, source_in, entries};
+ghost use Rattle.mx_vertices.specs.Found.{AreWatched, IsBodyAt};
+ghost use Rattle.std.specs.HashMap.{get as look_up};
+ghost use Rattle.mx_edit.specs.Equality.{key_eq};
+ghost use Rattle.mx_vertices.specs.Kept.{body_of, IsWhole, IsKeyAt, IsNode, with_read, own_key, source_in, entries};
 
+use crate::finding::{Keys, key_laws};
 use crate::slot::{Body, Held, Slot, Watched};
 use mx_edit::equality::equality_laws;
 use mx_edit::key::Key;
 use mx_graph::{NoMemory, NodeId, ReadGraph};
+use mx_value::namespace::Namespace;
 
 /// One slot more.
 fn push_free(slots: &mut Vec<Slot>) -> Result<(), NoMemory>
@@ -79,7 +83,7 @@ pub fn hold_in(
 ) -> Result<NodeId, NoMemory>
     requires { IsWhole graph.old slots.old.items order.old.items keys.now }
     ensures whole { IsWhole graph.new slots.new.items order.new.items keys.now }
-    ensures held { IfOk result (λ id. entries graph.new.edges slots.new.items 0 order.new.items ≡ entries graph.old.edges slots.old.items 0 order.old.items ++ record { stamp = length order.old.items + 1; id = id.at; body = body; sources = [] } ∷ []) }
+    ensures held { IfOk result (λ id. entries graph.new.edges slots.new.items 0 order.new.items ≡ entries graph.old.edges slots.old.items 0 order.old.items ++ record { stamp = length order.old.items + 1; id = id.at; body = body; sources = own_key body.node } ∷ []) }
     ensures node { IfOk result (λ id. slot_at slots.new.items id.at ≡ Slot_Node (record { body = body; place = length order.old.items })) }
     ensures stays { (q : ℕ) → (slot_at slots.old.items q ≡ Free → ⊥) → slot_at slots.new.items q ≡ slot_at slots.old.items q }
     ensures room { OnOk result (reads ≤ graph.new.spare_edges) }
@@ -134,15 +138,34 @@ pub fn body_at(slots: &[Slot], id: NodeId) -> Option<&Body>
     }
 }
 
-/// The vertex of a key, where it is there.
-pub fn find_key(slots: &[Slot], keys: &[Option<NodeId>], key: &Key) -> Option<NodeId>
-    ensures some { IfSome result (λ id. IsKeyAt slots.now id.at key.now) }
-    ensures none { IfNone result ((p : ℕ) (id : NodeId) → at keys.now p ≡ Some id → IsKeyAt slots.now id.at key.now → ⊥) }
+/// The namespace that a held node gives, where it gives one.
+pub fn namespace_at(slots: &[Slot], id: NodeId) -> Option<&Namespace>
+    ensures { MatchOption result ((body_of (slot_at slots.now id.at)).reply.namespace ≡ None) (λ n. (body_of (slot_at slots.now id.at)).reply.namespace ≡ Some n.now) }
 {
-    for entry in keys {
-        if is_key(slots, *entry, key) {
-            return *entry;
-        }
+    let Some(slot) = slots.get(id.index()) else {
+        return None;
+    };
+    let Slot::Node(held) = slot else {
+        return None;
+    };
+    match &held.body.reply.get().namespace {
+        None => None,
+        Some(namespace) => Some(namespace),
+    }
+}
+
+/// The vertex of a key, where it is there.
+pub fn find_key(slots: &[Slot], table: &Keys, key: &Key) -> Option<NodeId>
+    requires { AreWatched (look_up key_eq table.now) slots.now }
+    ensures some { IfSome result (λ id. IsKeyAt slots.now id.at key.now) }
+    ensures none { IfNone result ((q : ℕ) → IsKeyAt slots.now q key.now → ⊥) }
+{
+    let Some(entered) = table.get(key) else {
+        return None;
+    };
+    let id = *entered;
+    if is_key(slots, id, key) {
+        return Some(id);
     }
     None
 }
@@ -157,13 +180,10 @@ fn is_same(a: &Key, b: &Key) -> bool
 }
 
 /// Whether this is the vertex of a key.
-fn is_key(slots: &[Slot], entry: Option<NodeId>, key: &Key) -> bool
-    ensures yes { result ≡ true → IsSomeAnd entry (λ id. IsKeyAt slots.now id.at key.now) }
-    ensures no { result ≡ false → IfSome entry (λ id. IsKeyAt slots.now id.at key.now → ⊥) }
+fn is_key(slots: &[Slot], id: NodeId, key: &Key) -> bool
+    ensures yes { result ≡ true → IsKeyAt slots.now id.at key.now }
+    ensures no { IsKeyAt slots.now id.at key.now → result ≡ true }
 {
-    let Some(id) = entry else {
-        return false;
-    };
     let Some(slot) = slots.get(id.index()) else {
         return false;
     };
@@ -212,6 +232,8 @@ fn new_key(
     ensures same { entries graph.new.edges slots.new.items 0 order.now ≡ entries graph.old.edges slots.old.items 0 order.now }
     ensures stays { (q : ℕ) → (slot_at slots.old.items q ≡ Free → ⊥) → slot_at slots.new.items q ≡ slot_at slots.old.items q }
     ensures key { IfOk result (λ id. IsKeyAt slots.new.items id.at key) }
+    ensures others { IfOk result (λ id. (q : ℕ) → (id.at ≡ q → ⊥) → slot_at slots.new.items q ≡ slot_at slots.old.items q) }
+    ensures lost { OnErr result ((q : ℕ) → slot_at slots.new.items q ≡ slot_at slots.old.items q) }
 {
     graph.relation();
     let place = keys.len();
@@ -229,20 +251,25 @@ pub fn key_vertex(
     slots: &mut Vec<Slot>,
     order: &[Option<NodeId>],
     keys: &mut Vec<Option<NodeId>>,
+    table: &mut Keys,
     key: &Key,
 ) -> Result<NodeId, NoMemory>
-    requires { IsWhole graph.old slots.old.items order.now keys.old.items }
+    requires whole { IsWhole graph.old slots.old.items order.now keys.old.items }
+    requires watched { AreWatched (look_up key_eq table.old) slots.old.items }
     ensures whole { IsWhole graph.new slots.new.items order.now keys.new.items }
+    ensures watched { AreWatched (look_up key_eq table.new) slots.new.items }
     ensures same { entries graph.new.edges slots.new.items 0 order.now ≡ entries graph.old.edges slots.old.items 0 order.now }
     ensures stays { (q : ℕ) → (slot_at slots.old.items q ≡ Free → ⊥) → slot_at slots.new.items q ≡ slot_at slots.old.items q }
     ensures key { IfOk result (λ id. IsKeyAt slots.new.items id.at key.now) }
 {
-    let found = find_key(slots.as_slice(), keys.as_slice(), key);
-    match found {
-        Some(id) => Ok(id),
-        None => {
-            let looked = key.copy()?;
-            new_key(graph, slots, order, keys, looked)
-        }
+    if let Some(id) = find_key(slots.as_slice(), table, key) {
+        return Ok(id);
     }
+    key_laws();
+    let looked = key.copy()?;
+    let entered = key.copy()?;
+    table.reserve(1)?;
+    let id = new_key(graph, slots, order, keys, looked)?;
+    let _ = table.insert(entered, id);
+    Ok(id)
 }

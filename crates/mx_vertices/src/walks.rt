@@ -2,10 +2,17 @@
 ghost use Rattle.std.specs.Prelude.{◌≡◌, ◌++◌, ◌∷◌, [], IfOk, OnOk, map as map_list};
 ghost use Rattle.mx_graph.specs.Relation.{IsLive};
 ghost use Rattle.mx_vertices.specs.Places.{slot_at};
-ghost use Rattle.mx_vertices.specs.Kept.{source_in, sources_at};
-ghost use Rattle.mx_vertices.specs.Reading.{keys_in, asks_in, id_at, reads_in, readers_in};
+ghost use Rattle.std.specs.HashMap.{get as look_up};
+ghost use Rattle.mx_edit.specs.Equality.{key_eq};
+ghost use Rattle.mx_vertices.specs.Marked.{AreKeysLive};
+ghost use Rattle.mx_vertices.specs.Found.{node_at, AreWatched};
+ghost use Rattle.mx_vertices.specs.Kept.{own_key, source_in, sources_at};
+ghost use Rattle.mx_vertices.specs.Reading.{keys_in, asks_in, id_at, reads_in, readers_in, AreKeyReaders};
 
+use crate::finding::Keys;
+use crate::inputs::own_keys;
 use crate::slot::Slot;
+use crate::vertices::find_key;
 use mx_edit::key::Key;
 use mx_graph::{NoMemory, NodeId, ReadGraph};
 use std::alloc::Global;
@@ -68,7 +75,7 @@ fn push_ask(slots: &[Slot], vertex: NodeId, asks: &mut Vec<NodeId>) -> Result<()
     Ok(())
 }
 
-/// The keys that a vertex reads, in order.
+/// The keys that a held node looked up, in order: that of its own input, where it is static, then those that its vertex reads.
 pub fn keys_at(
     alloc: Global,
     graph: &ReadGraph,
@@ -76,10 +83,10 @@ pub fn keys_at(
     id: NodeId,
 ) -> Result<Vec<Key>, NoMemory>
     requires { IsLive graph.now id }
-    ensures { IfOk result (λ keys. keys.items ≡ keys_in (sources_at slots.now id.at graph.now.edges)) }
+    ensures { IfOk result (λ keys. keys.items ≡ keys_in (own_key (node_at slots.now id.at)) ++ keys_in (sources_at slots.now id.at graph.now.edges)) }
 {
     let reads = reads_of(alloc, graph, id)?;
-    let mut keys = Vec::new(alloc);
+    let mut keys = own_keys(alloc, slots, id)?;
     for vertex in &reads {
         push_key(slots, *vertex, &mut keys)?;
     }
@@ -102,4 +109,22 @@ pub fn asks_at(
         push_ask(slots, *vertex, &mut asks)?;
     }
     Ok(asks)
+}
+
+/// The vertices that read the vertex of a key, none where it has no vertex.
+pub fn key_readers(
+    alloc: Global,
+    graph: &ReadGraph,
+    slots: &[Slot],
+    table: &Keys,
+    key: &Key,
+) -> Result<Vec<NodeId>, NoMemory>
+    requires live { AreKeysLive graph.now.nodes slots.now }
+    requires watched { AreWatched (look_up key_eq table.now) slots.now }
+    ensures { IfOk result (λ ids. AreKeyReaders slots.now graph.now.edges key.now ids.items) }
+{
+    let Some(id) = find_key(slots, table, key) else {
+        return Ok(Vec::new(alloc));
+    };
+    readers_at(alloc, graph, id)
 }

@@ -13,6 +13,7 @@ loop-key-preserved c =
     let list : c.push.new.self.items ≡ c.loop-key.sources.items ++ c.in_ok-id.id ∷ [] = c.in_ok-push.ensures.items in
     record {
       whole = e.whole;
+      watched = e.watched;
       same = e.same ∙ i.same;
       stays = λ q n. e.stays q (λ f. n (sym (i.stays q n) ∙ f)) ∙ i.stays q n;
       sources =

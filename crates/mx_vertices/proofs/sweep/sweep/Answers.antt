@@ -2,7 +2,9 @@ use Rattle.std.proofs.Common.{◌≡◌, ◌∙◌, List, refl, sym, ap, subst, 
 use Rattle.std.specs.HashMap.{get as look_up}
 use Rattle.mx_value.specs.Equality.{node_eq}
 use Rattle.mx_vertices.specs.declared.slot.Slot.{Slot}
-use Rattle.mx_vertices.specs.Found.{look_without}
+use Rattle.mx_vertices.specs.Found.{look_without, key_without}
+use Rattle.mx_edit.specs.Equality.{key_eq}
+use Rattle.mx_vertices.proofs.Watching.{watched_turn}
 use Rattle.mx_vertices.proofs.Table.{found_turn, begun_turn}
 use Rattle.mx_graph.proofs.Removal.{rest-edges}
 use Rattle.mx_vertices.specs.Places.{slot_at, node_place, key_place, cleared, held_in}
@@ -32,13 +34,17 @@ marked-preserved c =
       sweeping =
           sweep_same c.args.graph.now c.args.slots.now.items c.args.order.now.items c.args.keys.now.items c.take_marked.new.self c.marked.slots.items c.clear.new.slots.items c.marked.order.items c.clear.new.order.items c.marked.keys.items c.clear.new.keys.items c.in-Some.id c.index-at.result c.index-at.ensures c.clear.ensures.slots c.clear.ensures.order c.clear.ensures.keys turn;
       begun = λ n.
-          begun_turn c.node_laws.ensures (look_up node_eq c.marked.table) (look_up node_eq c.forget.new.table) c.marked.graph.nodes c.marked.slots.items c.marked.order.items c.index-at.result c.marked.invariant.sweeping.placed.nodes_in c.marked.invariant.found
-          (λ n. subst (λ (xs : List Slot). look_up node_eq c.forget.new.table n ≡ look_without (slot_at xs c.index-at.result) (look_up node_eq c.marked.table) n) c.as_slice.ensures.value (c.forget.ensures n)) n
+          begun_turn c.node_laws.ensures (look_up node_eq c.marked.table.nodes) (look_up node_eq c.forget.new.table.nodes) c.marked.graph.nodes c.marked.slots.items c.marked.order.items c.index-at.result c.marked.invariant.sweeping.placed.nodes_in c.marked.invariant.found.nodes
+          (λ n. subst (λ (xs : List Slot). look_up node_eq c.forget.new.table.nodes n ≡ look_without (slot_at xs c.index-at.result) (look_up node_eq c.marked.table.nodes) n) c.as_slice.ensures.value (c.forget.ensures.nodes n)) n
           ∙ c.marked.invariant.begun n;
-      found =
-          found_turn c.node_laws.ensures (look_up node_eq c.marked.table) (look_up node_eq c.forget.new.table) c.marked.graph.nodes c.marked.slots.items c.marked.order.items c.index-at.result c.marked.invariant.sweeping.placed.nodes_in c.marked.invariant.found
-          (λ n. subst (λ (xs : List Slot). look_up node_eq c.forget.new.table n ≡ look_without (slot_at xs c.index-at.result) (look_up node_eq c.marked.table) n) c.as_slice.ensures.value (c.forget.ensures n))
-          c.clear.new.slots.items c.clear.new.order.items c.clear.ensures.slots c.clear.ensures.order;
+      found = record {
+        nodes = found_turn c.node_laws.ensures (look_up node_eq c.marked.table.nodes) (look_up node_eq c.forget.new.table.nodes) c.marked.graph.nodes c.marked.slots.items c.marked.order.items c.index-at.result c.marked.invariant.sweeping.placed.nodes_in c.marked.invariant.found.nodes
+            (λ n. subst (λ (xs : List Slot). look_up node_eq c.forget.new.table.nodes n ≡ look_without (slot_at xs c.index-at.result) (look_up node_eq c.marked.table.nodes) n) c.as_slice.ensures.value (c.forget.ensures.nodes n))
+            c.clear.new.slots.items c.clear.new.order.items c.clear.ensures.slots c.clear.ensures.order;
+        keys = watched_turn c.key_laws.ensures (look_up key_eq c.marked.table.keys) (look_up key_eq c.forget.new.table.keys) c.marked.slots.items c.clear.new.slots.items c.index-at.result
+            (λ k. subst (λ (xs : List Slot). look_up key_eq c.forget.new.table.keys k ≡ key_without (slot_at xs c.index-at.result) (look_up key_eq c.marked.table.keys) k) c.as_slice.ensures.value (c.forget.ensures.keys k))
+            c.clear.ensures.slots c.marked.invariant.found.keys;
+      };
       count =
           let counted = c.clear.ensures.count in
           let less = cleared_count c.marked.slots.items c.marked.order.items c.marked.graph.nodes c.index-at.result c.marked.invariant.sweeping.placed.nodes_in in

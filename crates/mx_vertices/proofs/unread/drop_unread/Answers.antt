@@ -15,6 +15,8 @@ use Rattle.mx_vertices.proofs.Dropping.{IsSwept, swept_whole, swept_sifts, left_
 use Rattle.mx_vertices.proofs.Settling.{taken}
 use Rattle.mx_vertices.proofs.Settled.{entries_alike, alike_found, keys_once, keys_there, keys_settled}
 use Rattle.mx_vertices.proofs.unread.drop_unread.Goals.{After-sweep}
+use Rattle.mx_edit.specs.Equality.{key_eq}
+use Rattle.mx_vertices.proofs.Watching.{watched_alike}
 use Rattle.mx_vertices.proofs.unread.drop_unread.Goals as goal
 
 pub mark_unread-requires : goal.mark_unread-requires
@@ -58,7 +60,10 @@ pub settle-requires-clause-once : goal.settle-requires-clause-once
 settle-requires-clause-once c = keys_once c.sweep.new.graph c.sweep.new.slots.items c.sweep.new.slots.items c.sweep.new.order.items c.sweep.new.keys.items (swept_is (goal.at.settle-requires-clause-once c).After-sweep)
 
 pub returns-clause-found : goal.returns-clause-found
-returns-clause-found c = alike_found c.sweep.new.slots.items c.settle.new.slots.items c.settle.ensures.settled.alike (look_up node_eq c.sweep.new.table) c.sweep.new.order.items c.sweep.ensures.found
+returns-clause-found c = record {
+  nodes = alike_found c.sweep.new.slots.items c.settle.new.slots.items c.settle.ensures.settled.alike (look_up node_eq c.sweep.new.table.nodes) c.sweep.new.order.items c.sweep.ensures.found.nodes;
+  keys = watched_alike c.sweep.new.slots.items c.settle.new.slots.items c.settle.ensures.settled.alike (look_up key_eq c.sweep.new.table.keys) c.sweep.ensures.found.keys;
+}
 
 pub returns-clause-last : goal.returns-clause-last
 returns-clause-last c = ap length c.sweep.ensures.order ∙ length-map c.args.order.now.items _

@@ -4,7 +4,7 @@ use Rattle.mx_graph.specs.declared.ids.NodeId.{NodeId}
 use Rattle.mx_graph.specs.Relation.{IsRelation}
 use Rattle.mx_vertices.specs.declared.slot.Held.{Held}
 use Rattle.mx_vertices.specs.Places.{at}
-use Rattle.mx_vertices.specs.Kept.{Kept, IsWhole, entries}
+use Rattle.mx_vertices.specs.Kept.{Kept, own_key, IsWhole, entries}
 use Rattle.mx_vertices.proofs.Pushing.{whole_same, put_last, put_whole, put_entries, entries_same, relation_same}
 use Rattle.mx_vertices.proofs.Reading.{stays_there}
 use Rattle.mx_vertices.proofs.vertices.hold_in.Goals as goal
@@ -48,7 +48,7 @@ returns-clause-held c =
     let e = c.put_node-id.ensures in
     ap (λ (xs : List (Option NodeId)). entries c.put_node-id.new.graph.edges c.put_node-id.new.slots.items 0 xs) (order_is c)
     ∙ put_entries c.reserve.new.self c.put_node-id.new.graph c.grow.new.slots.items c.put_node-id.new.slots.items c.args.order.now.items c.args.keys.now c.put_node-id.result (held_of c) (relation_of c) (whole_of c) e.fresh e.nodes e.edges e.slots (place_is c)
-    ∙ ap (λ (rs : List Kept). rs ++ record { stamp = length c.args.order.now.items + 1; id = c.put_node-id.result.at; body = c.args.body; sources = [] } ∷ [])
+    ∙ ap (λ (rs : List Kept). rs ++ record { stamp = length c.args.order.now.items + 1; id = c.put_node-id.result.at; body = c.args.body; sources = own_key c.args.body.node } ∷ [])
     (entries_same c.args.graph.now.edges c.reserve.new.self.edges c.args.slots.now.items c.grow.new.slots.items c.args.order.now.items c.reserve.ensures.same.1 c.grow.ensures.same)
 
 pub returns-clause-stays : goal.returns-clause-stays

@@ -1,4 +1,4 @@
-use Rattle.std.proofs.Common.{◌≡◌, ◌∙◌, ℕ, ◌++◌, ◌∷◌, [], List, Option, Some, None, cond, ap, sym, subst, refl, length, arith}
+use Rattle.std.proofs.Common.{◌≡◌, ◌∙◌, ℕ, true, false, eqb, ◌++◌, ◌∷◌, [], List, Option, Some, None, cond, ap, sym, subst, refl, length, arith}
 use Rattle.std.proofs.Math.ListN.{set}
 use Rattle.mx_graph.specs.declared.ids.NodeId.{NodeId}
 use Rattle.mx_graph.specs.Relation.{IsRelation}
@@ -9,7 +9,8 @@ use Rattle.mx_vertices.specs.Kept.{IsWhole}
 use Rattle.mx_vertices.proofs.Pushing.{whole_same, put_last, entries_same, relation_same}
 use Rattle.mx_vertices.proofs.Reading.{stays_there}
 use Rattle.mx_vertices.proofs.KeyPushing.{put_key_whole, put_key_entries}
-use Rattle.std.proofs.lemmas.Bool.{eq-eqb}
+use Rattle.std.proofs.lemmas.Bool.{eq-eqb, eqb-true}
+use Rattle.mx_vertices.proofs.vertices.new_key.Goals.{After-put_key-id}
 use Rattle.mx_vertices.proofs.vertices.new_key.Goals as goal
 
 pub returns-in_err-grow-clause-whole : goal.returns-in_err-grow-clause-whole
@@ -65,3 +66,12 @@ pub returns-clause-stays : goal.returns-clause-stays
 returns-clause-stays c q n =
     let e = c.put_key-id.ensures in
     stays_there c.reserve.new.self.nodes c.grow.new.slots.items c.put_key-id.new.slots.items c.args.order.now c.args.keys.now.items c.put_key-id.result q _ (whole_of c).placed e.fresh e.slots (λ f. n (sym (c.grow.ensures.same q) ∙ f)) ∙ c.grow.ensures.same q
+
+pub returns-clause-others : goal.returns-clause-others
+returns-clause-others c q n =
+    c.put_key-id.ensures.slots q
+    ∙ elim (eqb c.put_key-id.result.at q) as (λ b. eqb c.put_key-id.result.at q ≡ b → cond b (Watch (watched_of ((goal.at.returns-clause-others c).After-put_key-id))) (slot_at c.grow.new.slots.items q) ≡ slot_at c.grow.new.slots.items q) [
+      | true ↦ λ t. absurd (n (eqb-true c.put_key-id.result.at q t))
+      | false ↦ λ t. refl
+    ] refl
+    ∙ c.grow.ensures.same q

@@ -3,6 +3,8 @@ use Rattle.mx_vertices.specs.declared.slot.Slot.{Slot}
 use Rattle.mx_vertices.specs.Places.{slot_at}
 use Rattle.mx_vertices.specs.Kept.{IsHeld, kept, sources_at}
 use Rattle.mx_vertices.specs.Reading.{Asked, asks_in, id_at}
+use Rattle.mx_vertices.specs.Found.{node_at}
+use Rattle.mx_vertices.proofs.Walking.{asks_own}
 use Rattle.mx_memo.specs.Memos.{Memory}
 use Rattle.mx_vertices.proofs.Reading.{held_node, held_kept, held_live, node_not_free, ok_map}
 use Rattle.mx_memo.proofs.memo.Memo.asks_of.Goals as goal
@@ -23,6 +25,6 @@ returns c =
       entry = kept c.self.inside.graph.edges c.self.inside.slots.items k.0 k.1;
       among = k.2;
       id_is = k.3;
-      are = e ∙ ap (λ (xs : List Slot). asks_in (sources_at xs c.args.id.at c.self.inside.graph.edges)) c.deref.ensures.value ∙ ap (λ q. asks_in (sources_at c.self.inside.slots.items q c.self.inside.graph.edges)) (sym k.3);
+      are = e ∙ ap (λ (xs : List Slot). asks_in (sources_at xs c.args.id.at c.self.inside.graph.edges)) c.deref.ensures.value ∙ ap (λ q. asks_in (sources_at c.self.inside.slots.items q c.self.inside.graph.edges)) (sym k.3) ∙ sym (asks_own (node_at c.self.inside.slots.items k.1.at) (sources_at c.self.inside.slots.items k.1.at c.self.inside.graph.edges));
     }))
     c.asks_at.ensures

@@ -15,7 +15,7 @@ pub invariant_of-self : goal.invariant_of-self
 invariant_of-self c = record {
   whole = c.drop_one.ensures.whole;
   found = c.drop_one.ensures.found;
-  begun = begun_same (look_up node_eq c.self.inside.table) (look_up node_eq c.drop_one.new.table) c.self.inside.begun.items c.drop_one.ensures.begun c.self.invariant.begun;
+  begun = begun_same (look_up node_eq c.self.inside.table.nodes) (look_up node_eq c.drop_one.new.table.nodes) c.self.inside.begun.items c.drop_one.ensures.begun c.self.invariant.begun;
   begun_once = c.self.invariant.begun_once;
   counted = c.drop_one.ensures.count;
   few = let less = c.drop_one.ensures.less in let few = c.self.invariant.few in omega (arith, less, few);

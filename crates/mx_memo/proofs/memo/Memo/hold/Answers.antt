@@ -5,7 +5,7 @@ use Rattle.mx_value.specs.Equality.{node_eq}
 use Rattle.mx_vertices.specs.declared.slot.Held.{Held}
 use Rattle.mx_vertices.specs.declared.standing.Standing.{Standing}
 use Rattle.mx_vertices.specs.declared.standing.Standing.TheVariants.{Ended}
-use Rattle.mx_vertices.specs.Found.{IsFound, IsNew, is_begun}
+use Rattle.mx_vertices.specs.Found.{IsFound, AreWatched, IsNew, is_begun}
 use Rattle.mx_vertices.proofs.Begun.{begun_same, begun_held}
 use Rattle.mx_vertices.proofs.Table.{found_same, found_last, ok_on}
 use Rattle.mx_graph.specs.declared.ids.NodeId.{NodeId}
@@ -15,7 +15,19 @@ use Rattle.mx_memo.specs.Memos.{Memory}
 use Rattle.mx_vertices.proofs.Keeping.{entries_length}
 use Rattle.mx_vertices.proofs.Reading.{held_node}
 use Rattle.mx_vertices.proofs.Sources.{push_length}
+use Rattle.mx_edit.specs.Equality.{key_eq}
+use Rattle.mx_vertices.proofs.Watching.{watched_kept}
+use Rattle.mx_memo.proofs.memo.Memo.hold.Goals.{After-hold_with-held}
 use Rattle.mx_memo.proofs.memo.Memo.hold.Goals as goal
+
+-- the keys are found where a node is held
+held_keys : (c : After-hold_with-held) → AreWatched (look_up key_eq c.vertices_of-found.new.table) c.hold_with-held.new.slots.items
+held_keys c =
+    let was : IsWhole c.vertices_of-found.new.graph c.vertices_of-found.new.slots.items c.self.inside.order.items c.vertices_of-found.new.keys.items
+    = subst (λ (xs : List (Option NodeId)). IsWhole c.vertices_of-found.new.graph c.vertices_of-found.new.slots.items xs c.vertices_of-found.new.keys.items) c.deref.ensures.value c.vertices_of-found.ensures.whole in
+    let now : IsWhole c.hold_with-held.new.graph c.hold_with-held.new.slots.items c.hold_with-held.new.order.items c.vertices_of-found.new.keys.items
+    = subst (λ (xs : List (Option NodeId)). IsWhole c.hold_with-held.new.graph c.hold_with-held.new.slots.items c.hold_with-held.new.order.items xs) c.deref-2.ensures.value c.hold_with-held.ensures.whole in
+    watched_kept (look_up key_eq c.vertices_of-found.new.table) c.vertices_of-found.new.graph.nodes c.hold_with-held.new.graph.nodes c.vertices_of-found.new.slots.items c.hold_with-held.new.slots.items c.vertices_of-found.new.keys.items was.placed.keys_in now.placed.keys_in c.hold_with-held.ensures.stays c.vertices_of-found.ensures.watched
 
 pub vertices_of-found-requires-clause-asks : goal.vertices_of-found-requires-clause-asks
 vertices_of-found-requires-clause-asks c id i =
@@ -56,18 +68,21 @@ returns-clause-full c =
 pub invariant_of-self-2 : goal.invariant_of-self-2
 invariant_of-self-2 c = record {
   whole = subst (λ (xs : List (Option NodeId)). IsWhole c.hold_with-held.new.graph c.hold_with-held.new.slots.items c.hold_with-held.new.order.items xs) c.deref-2.ensures.value c.in-Ok-held.ensures.whole;
-  found =
-      let updates = ok_on c.insert.result _ (c.insert.ensures.succeeds c.in-Ok-reserve.ensures.ok) c.insert.ensures.updates in
-      let key : c.in-Ok.node ≡ c.args.body.node = c.in-Ok.ensures in
-      let held : Held = record { body = c.args.body; place = length c.self.inside.order.items } in
-      found_last c.node_laws.ensures (look_up node_eq c.self.inside.table) (look_up node_eq c.insert.new.self) c.self.inside.graph.nodes c.self.inside.graph.edges c.self.inside.slots.items c.hold_with-held.new.slots.items c.self.inside.order.items c.hold_with-held.new.order.items c.in-Ok-held.id held c.self.invariant.whole.placed.nodes_in
-      (λ n. updates.0 n ∙ ap (λ (k : Asked). cond (node_eq k n) (Some (Ended c.in-Ok-held.id)) (look_up node_eq c.reserve.new.self n)) key ∙ ap (λ (o : Option Standing). cond (node_eq c.args.body.node n) (Some (Ended c.in-Ok-held.id)) o) (c.reserve.ensures.entries.2 n))
-      c.in-Ok-held.ensures.order c.in-Ok-held.ensures.node (λ q n. c.hold_with-held.ensures.stays q (λ f. n (sym (c.vertices_of-found.ensures.stays q n) ∙ f)) ∙ c.vertices_of-found.ensures.stays q n)
-      (subst (λ (m : Memory). IsNew m.held c.args.body.node) (sym c.self.view_is) c.requires.new) c.self.invariant.found;
+  found = record {
+    nodes =
+        let updates = ok_on c.insert.result _ (c.insert.ensures.succeeds c.in-Ok-reserve.ensures.ok) c.insert.ensures.updates in
+        let key : c.in-Ok.node ≡ c.args.body.node = c.in-Ok.ensures in
+        let held : Held = record { body = c.args.body; place = length c.self.inside.order.items } in
+        found_last c.node_laws.ensures (look_up node_eq c.self.inside.table.nodes) (look_up node_eq c.insert.new.self) c.self.inside.graph.nodes c.self.inside.graph.edges c.self.inside.slots.items c.hold_with-held.new.slots.items c.self.inside.order.items c.hold_with-held.new.order.items c.in-Ok-held.id held c.self.invariant.whole.placed.nodes_in
+        (λ n. updates.0 n ∙ ap (λ (k : Asked). cond (node_eq k n) (Some (Ended c.in-Ok-held.id)) (look_up node_eq c.reserve.new.self n)) key ∙ ap (λ (o : Option Standing). cond (node_eq c.args.body.node n) (Some (Ended c.in-Ok-held.id)) o) (c.reserve.ensures.entries.2 n))
+        c.in-Ok-held.ensures.order c.in-Ok-held.ensures.node (λ q n. c.hold_with-held.ensures.stays q (λ f. n (sym (c.vertices_of-found.ensures.stays q n) ∙ f)) ∙ c.vertices_of-found.ensures.stays q n)
+        (subst (λ (m : Memory). IsNew m.held c.args.body.node) (sym c.self.view_is) c.requires.new) c.self.invariant.found.nodes;
+    keys = held_keys ((goal.at.invariant_of-self-2 c).After-hold_with-held);
+  };
   begun =
       let updates = ok_on c.insert.result _ (c.insert.ensures.succeeds c.in-Ok-reserve.ensures.ok) c.insert.ensures.updates in
       let key : c.in-Ok.node ≡ c.args.body.node = c.in-Ok.ensures in
-      begun_held c.node_laws.ensures (look_up node_eq c.self.inside.table) (look_up node_eq c.insert.new.self) c.self.inside.begun.items c.args.body.node c.in-Ok-held.id
+      begun_held c.node_laws.ensures (look_up node_eq c.self.inside.table.nodes) (look_up node_eq c.insert.new.self) c.self.inside.begun.items c.args.body.node c.in-Ok-held.id
       (λ n. updates.0 n ∙ ap (λ (k : Asked). cond (node_eq k n) (Some (Ended c.in-Ok-held.id)) (look_up node_eq c.reserve.new.self n)) key ∙ ap (λ (o : Option Standing). cond (node_eq c.args.body.node n) (Some (Ended c.in-Ok-held.id)) o) (c.reserve.ensures.entries.2 n))
       (subst (λ (m : Memory). Has m.begun c.args.body.node → ⊥) (sym c.self.view_is) c.requires.ended) c.self.invariant.begun;
   begun_once = c.self.invariant.begun_once;
@@ -99,10 +114,12 @@ returns-in_default-found-clause-full c =
 pub invariant_of-self-in_default-found : goal.invariant_of-self-in_default-found
 invariant_of-self-in_default-found c = record {
   whole = subst (λ (xs : List (Option NodeId)). IsWhole c.vertices_of-found.new.graph c.vertices_of-found.new.slots.items xs c.vertices_of-found.new.keys.items) c.deref.ensures.value c.vertices_of-found.ensures.whole;
-  found =
-      found_same (look_up node_eq c.self.inside.table) (look_up node_eq c.reserve.new.self) c.self.inside.graph.nodes c.self.inside.slots.items c.vertices_of-found.new.slots.items c.self.inside.order.items c.self.invariant.whole.placed.nodes_in
-      c.reserve.ensures.entries.2 c.vertices_of-found.ensures.stays c.self.invariant.found;
-  begun = begun_same (look_up node_eq c.self.inside.table) (look_up node_eq c.reserve.new.self) c.self.inside.begun.items (λ n. ap is_begun (c.reserve.ensures.entries.2 n)) c.self.invariant.begun;
+  found = record {
+    nodes = found_same (look_up node_eq c.self.inside.table.nodes) (look_up node_eq c.reserve.new.self) c.self.inside.graph.nodes c.self.inside.slots.items c.vertices_of-found.new.slots.items c.self.inside.order.items c.self.invariant.whole.placed.nodes_in
+        c.reserve.ensures.entries.2 c.vertices_of-found.ensures.stays c.self.invariant.found.nodes;
+    keys = c.vertices_of-found.ensures.watched;
+  };
+  begun = begun_same (look_up node_eq c.self.inside.table.nodes) (look_up node_eq c.reserve.new.self) c.self.inside.begun.items (λ n. ap is_begun (c.reserve.ensures.entries.2 n)) c.self.invariant.begun;
   begun_once = c.self.invariant.begun_once;
   counted = c.self.invariant.counted;
   few = c.self.invariant.few;
@@ -113,11 +130,13 @@ invariant_of-self-in_default-held c =
     let still : c.hold_with-held.new.order.items ≡ c.self.inside.order.items = c.in_default-held.ensures.still in
     record {
       whole = subst (λ (xs : List (Option NodeId)). IsWhole c.hold_with-held.new.graph c.hold_with-held.new.slots.items c.hold_with-held.new.order.items xs) c.deref-2.ensures.value c.hold_with-held.ensures.whole;
-      found =
-          subst (λ (xs : List (Option NodeId)). IsFound (look_up node_eq c.reserve.new.self) c.hold_with-held.new.slots.items xs) (sym still)
-          (found_same (look_up node_eq c.self.inside.table) (look_up node_eq c.reserve.new.self) c.self.inside.graph.nodes c.self.inside.slots.items c.hold_with-held.new.slots.items c.self.inside.order.items c.self.invariant.whole.placed.nodes_in
-          c.reserve.ensures.entries.2 (λ q n. c.hold_with-held.ensures.stays q (λ f. n (sym (c.vertices_of-found.ensures.stays q n) ∙ f)) ∙ c.vertices_of-found.ensures.stays q n) c.self.invariant.found);
-      begun = begun_same (look_up node_eq c.self.inside.table) (look_up node_eq c.reserve.new.self) c.self.inside.begun.items (λ n. ap is_begun (c.reserve.ensures.entries.2 n)) c.self.invariant.begun;
+      found = record {
+        nodes = subst (λ (xs : List (Option NodeId)). IsFound (look_up node_eq c.reserve.new.self) c.hold_with-held.new.slots.items xs) (sym still)
+            (found_same (look_up node_eq c.self.inside.table.nodes) (look_up node_eq c.reserve.new.self) c.self.inside.graph.nodes c.self.inside.slots.items c.hold_with-held.new.slots.items c.self.inside.order.items c.self.invariant.whole.placed.nodes_in
+            c.reserve.ensures.entries.2 (λ q n. c.hold_with-held.ensures.stays q (λ f. n (sym (c.vertices_of-found.ensures.stays q n) ∙ f)) ∙ c.vertices_of-found.ensures.stays q n) c.self.invariant.found.nodes);
+        keys = held_keys ((goal.at.invariant_of-self-in_default-held c).After-hold_with-held);
+      };
+      begun = begun_same (look_up node_eq c.self.inside.table.nodes) (look_up node_eq c.reserve.new.self) c.self.inside.begun.items (λ n. ap is_begun (c.reserve.ensures.entries.2 n)) c.self.invariant.begun;
       begun_once = c.self.invariant.begun_once;
       counted = c.self.invariant.counted ∙ ap held_in (sym still);
       few = c.self.invariant.few;

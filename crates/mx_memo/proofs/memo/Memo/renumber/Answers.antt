@@ -10,6 +10,8 @@ use Rattle.mx_memo.specs.Memos.{Memory}
 use Rattle.mx_vertices.proofs.Keeping.{entries_length}
 use Rattle.mx_vertices.proofs.Settling.{taken}
 use Rattle.mx_vertices.proofs.Settled.{entries_alike, entries_taken, alike_found, count_taken, length_taken, order_once, order_there, order_settled, found_taken}
+use Rattle.mx_edit.specs.Equality.{key_eq}
+use Rattle.mx_vertices.proofs.Watching.{watched_alike}
 use Rattle.mx_memo.proofs.memo.Memo.renumber.Goals as goal
 
 pub settle-requires-clause-there : goal.settle-requires-clause-there
@@ -24,9 +26,11 @@ invariant_of-self c =
     let settled : IsSettled c.self.inside.slots.items c.settle.new.slots.items (taken c.self.inside.order.items) = subst (λ (xs : List (Option NodeId)). IsSettled c.self.inside.slots.items c.settle.new.slots.items xs) list c.settle.ensures.settled in
     record {
       whole = subst (λ (xs : List (Option NodeId)). IsWhole c.self.inside.graph c.settle.new.slots.items xs c.self.inside.keys.items) (sym list) (order_settled c.self.inside.graph c.self.inside.slots.items c.settle.new.slots.items c.self.inside.order.items c.self.inside.keys.items c.self.invariant.whole settled);
-      found =
-          subst (λ (xs : List (Option NodeId)). IsFound (look_up node_eq c.self.inside.table) c.settle.new.slots.items xs) (sym list)
-          (alike_found c.self.inside.slots.items c.settle.new.slots.items settled.alike (look_up node_eq c.self.inside.table) (taken c.self.inside.order.items) (found_taken (look_up node_eq c.self.inside.table) c.self.inside.slots.items c.self.inside.order.items c.self.invariant.found));
+      found = record {
+        nodes = subst (λ (xs : List (Option NodeId)). IsFound (look_up node_eq c.self.inside.table.nodes) c.settle.new.slots.items xs) (sym list)
+            (alike_found c.self.inside.slots.items c.settle.new.slots.items settled.alike (look_up node_eq c.self.inside.table.nodes) (taken c.self.inside.order.items) (found_taken (look_up node_eq c.self.inside.table.nodes) c.self.inside.slots.items c.self.inside.order.items c.self.invariant.found.nodes));
+        keys = watched_alike c.self.inside.slots.items c.settle.new.slots.items settled.alike (look_up key_eq c.self.inside.table.keys) c.self.invariant.found.keys;
+      };
       begun = c.self.invariant.begun;
       begun_once = c.self.invariant.begun_once;
       counted = c.self.invariant.counted ∙ sym (count_taken c.self.inside.order.items) ∙ ap held_in (sym list);

@@ -10,7 +10,7 @@ pub invariant_of-self : goal.invariant_of-self
 invariant_of-self c = record {
   whole = c.drop_after.ensures.whole;
   found = c.drop_after.ensures.found;
-  begun = begun_same (look_up node_eq c.self.inside.table) (look_up node_eq c.drop_after.new.table) c.self.inside.begun.items c.drop_after.ensures.begun c.self.invariant.begun;
+  begun = begun_same (look_up node_eq c.self.inside.table.nodes) (look_up node_eq c.drop_after.new.table.nodes) c.self.inside.begun.items c.drop_after.ensures.begun c.self.invariant.begun;
   begun_once = c.self.invariant.begun_once;
   counted = c.drop_after.ensures.count;
   few = let less = c.drop_after.ensures.less in let few = c.self.invariant.few in omega (arith, less, few);

@@ -13,9 +13,9 @@ use Rattle.mx_memo.proofs.memo.Memo.standing.Goals as goal
 
 pub returns-in_default-clause-none : goal.returns-in_default-clause-none
 returns-in_default-clause-none c =
-    let none : look_up node_eq c.self.inside.table c.args.node.now ≡ None = sym c.get.ensures.value ∙ ap option_copied c.in_default.is in
+    let none : look_up node_eq c.self.inside.table.nodes c.args.node.now ≡ None = sym c.get.ensures.value ∙ ap option_copied c.in_default.is in
     subst (λ (m : Memory). IsNew m.held c.args.node.now × (Has m.begun c.args.node.now → ⊥)) c.self.view_is (
-      new_none c.self.inside.graph c.self.inside.slots.items c.self.inside.order.items c.self.inside.keys.items c.self.invariant.whole (look_up node_eq c.self.inside.table) c.self.invariant.found c.args.node.now none,
+      new_none c.self.inside.graph c.self.inside.slots.items c.self.inside.order.items c.self.inside.keys.items c.self.invariant.whole (look_up node_eq c.self.inside.table.nodes) c.self.invariant.found.nodes c.args.node.now none,
       λ h. let no : false ≡ true = sym (ap is_begun none) ∙ (c.self.invariant.begun c.args.node.now).1 h in cc,
     )
 
@@ -25,11 +25,11 @@ returns-then-holds_node-clause-some c =
     = subst (λ (n : Asked). IsNodeAt c.self.inside.slots.items c.in-Ended.id.at n) c.get-2.ensures
     (subst (λ (xs : List Slot). IsNodeAt xs c.in-Ended.id.at c.get-2.result.now) c.deref.ensures.value (c.holds_node.ensures.yes c.if-holds_node.true)) in
     subst (λ (m : Memory). IsHeldAs m.held c.in-Ended.id.at c.args.node.now) c.self.view_is
-    (held_as c.self.inside.graph c.self.inside.slots.items c.self.inside.order.items c.self.inside.keys.items c.self.invariant.whole (look_up node_eq c.self.inside.table) c.self.invariant.found c.args.node.now c.in-Ended.id.at there)
+    (held_as c.self.inside.graph c.self.inside.slots.items c.self.inside.order.items c.self.inside.keys.items c.self.invariant.whole (look_up node_eq c.self.inside.table.nodes) c.self.invariant.found.nodes c.args.node.now c.in-Ended.id.at there)
 
 pub returns-clause-none : goal.returns-clause-none
 returns-clause-none c =
-    let some : look_up node_eq c.self.inside.table c.args.node.now ≡ Some (Ended c.in-Ended.id) = sym c.get.ensures.value ∙ ap option_copied c.in-Some.is ∙ ap Some c.in-Ended.is in
+    let some : look_up node_eq c.self.inside.table.nodes c.args.node.now ≡ Some (Ended c.in-Ended.id) = sym c.get.ensures.value ∙ ap option_copied c.in-Some.is ∙ ap Some c.in-Ended.is in
     let other : IsNodeAt c.self.inside.slots.items c.in-Ended.id.at c.args.node.now → ⊥
     = λ a.
     let there : IsNodeAt c.deref.result.now c.in-Ended.id.at c.get-2.result.now
@@ -39,6 +39,6 @@ returns-clause-none c =
     let no = c.if-holds_node.false in
     cc in
     subst (λ (m : Memory). IsNew m.held c.args.node.now × (Has m.begun c.args.node.now → ⊥)) c.self.view_is (
-      new_other c.self.inside.graph c.self.inside.slots.items c.self.inside.order.items c.self.inside.keys.items c.self.invariant.whole (look_up node_eq c.self.inside.table) c.self.invariant.found c.args.node.now c.in-Ended.id some other,
+      new_other c.self.inside.graph c.self.inside.slots.items c.self.inside.order.items c.self.inside.keys.items c.self.invariant.whole (look_up node_eq c.self.inside.table.nodes) c.self.invariant.found.nodes c.args.node.now c.in-Ended.id some other,
       λ h. let no : false ≡ true = sym (ap is_begun some) ∙ (c.self.invariant.begun c.args.node.now).1 h in cc,
     )
