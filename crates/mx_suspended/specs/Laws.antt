@@ -41,11 +41,11 @@ Beginning = (model : Model) (ev : Evaluation) (flight : Flight) (m : Node) → A
 
 -- the run on top goes on past what is known
 abbrev pub Passing : Type 0
-Passing = (model : Model) (ev : Evaluation) (flight : Flight) (n : Node) (run rest : Run) (so_far last : Recorded) → GoesPast model flight.held run so_far rest last → IsTop model ev flight n so_far run → IsTop model ev flight n last rest
+Passing = (model : Model) (ev : Evaluation) (flight : Flight) (n : Node) (run rest : Run) (so_far last : Recorded) → InputsEnd model → GoesPast model flight.held run so_far rest last → IsTop model ev flight n so_far run → IsTop model ev flight n last rest
 
 -- what goes past and then past more goes past both
 abbrev pub PassingOn : Type 0
-PassingOn = (model : Model) (held : List Entry) (run half rest : Run) (so_far then_far last : Recorded) → GoesPast model held run so_far half then_far → GoesPast model held half then_far rest last → GoesPast model held run so_far rest last
+PassingOn = (model : Model) (held : List Entry) (run half rest : Run) (so_far mid last : Recorded) → GoesPast model held run so_far half mid → GoesPast model held half mid rest last → GoesPast model held run so_far rest last
 
 -- the run on top asks a node that is not known, and waits for it
 abbrev pub Asking : Type 0
