@@ -17,10 +17,10 @@ use Rattle.mx_answers.specs.Held.{most_held, nodes_of, Counts, IsKnown, IsRight}
 use Rattle.mx_answers.specs.Records.{IsRecordOf, IsRightMemo}
 use Rattle.mx_answers.specs.Answers.{Evaluation, IsShallow, IsCounted, PastMost, Completes}
 use Rattle.mx_answers.proofs.Held.{nodes_grow, nodes_added, nodes_cases, input_or_not, held_reach, named}
-use Rattle.mx_answers.proofs.Sifting.{holding}
+use Rattle.mx_answers.proofs.Sifting.{holding, rolling_back}
 use Rattle.mx_suspended.specs.Recorded.{Recorded, as_entry}
-use Rattle.mx_suspended.specs.Flights.{Suspended, Flight, nodes_waiting, IsTop, IsDone}
-use Rattle.mx_suspended.specs.Laws.{AnsweringHeld, AnsweringInput, Starting, Beginning, Passing, PassingOn, Asking, Giving, HandingDown, AnsweringValue, AnsweringFault, AnsweringNoSuch, AnsweringWrongCount, AnsweringRing, AnsweringTooDeep, AnsweringFull, BreakingOff}
+use Rattle.mx_suspended.specs.Flights.{Suspended, InFlight, nodes_waiting, IsTop, IsDone}
+use Rattle.mx_suspended.specs.Laws.{AnsweringHeld, AnsweringInput, Starting, Beginning, Passing, PassingOn, Asking, Giving, HandingDown, AnsweringValue, AnsweringFault, AnsweringNoSuch, AnsweringWrongCount, AnsweringRing, AnsweringTooDeep, AnsweringFull, StayingWithin, BreakingOff}
 use Rattle.mx_suspended.proofs.Growing.{asked_recorded, reached_on}
 use Rattle.mx_suspended.proofs.Standing.{stands_first, stands_past, past_then, stands_given, stands_shallow_end, shallow_more, put_in}
 use Rattle.mx_suspended.proofs.Waiting.{handed_down, asked_reaches, waits_closed, held_counts}
@@ -82,14 +82,14 @@ passing_on = past_then
 
 pub asking : Asking
 asking model ev flight n m so_far go t new = record {
-  under_way = record { memo = t.under_way.memo; more = t.under_way.more; grown = t.under_way.grown; counted = t.under_way.counted };
+  under_way = t.under_way;
   waits = (t.since, t.stands, t.waits);
   apart = t.apart;
   unknown = new;
 }
 
 -- the run on top gave a reply
-module _ (model : Model) (ev : Evaluation) (flight : Flight) (n : Node) (so_far : Recorded) (reply : Reply) (t : IsTop model ev flight n so_far (Ends (Gives reply))) where
+module _ (model : Model) (ev : Evaluation) (flight : InFlight) (n : Node) (so_far : Recorded) (reply : Reply) (t : IsTop model ev flight n so_far (Ends (Gives reply))) where
   top_means : Means model n (Gives reply)
   top_means = finished model n t.stands.comes.events (Gives reply) tt t.stands.comes.leads
 
@@ -166,7 +166,7 @@ answering_full model ev flight n so_far reply ticks t full = (top_past model ev 
 
 pub handing_down : HandingDown
 handing_down model ev held ticks f below n reply asks reads d a b = record {
-  under_way = record { memo = d.under_way.memo; more = d.under_way.more; grown = d.under_way.grown; counted = d.under_way.counted };
+  under_way = d.under_way;
   since = d.waits.0;
   waits = d.waits.2;
   stands = stands_given model ev.limit (suc (length below)) d.waits.0 d.since f.node n f.go f.so_far d.waits.1 reply (nodes_of held) asks reads a b (d.under_way.memo.right.own n d.kept) d.still d.newly d.kept d.means d.shallow;
@@ -189,7 +189,7 @@ answering_value model ev held ticks n reply ends d =
     )
 
 -- the run on top ended with no value
-module _ (model : Model) (ev : Evaluation) (flight : Flight) (n : Node) (so_far : Recorded) (o : Outcome) (ends : InputsEnd model) (fail : IsFailure o) (t : IsTop model ev flight n so_far (Ends o)) where
+module _ (model : Model) (ev : Evaluation) (flight : InFlight) (n : Node) (so_far : Recorded) (o : Outcome) (ends : InputsEnd model) (fail : IsFailure o) (t : IsTop model ev flight n so_far (Ends o)) where
   fail_means : Means model n o
   fail_means = finished model n t.stands.comes.events o (failure_reached o fail) t.stands.comes.leads
 
@@ -255,5 +255,14 @@ pub answering_too_deep : AnsweringTooDeep
 answering_too_deep model ev flight m ticks ends a new full =
     (deep model ev flight.held ends a.under_way.memo.right flight.waiting m a.waits a.apart a.unknown new full, refl)
 
+pub staying_within : StayingWithin
+staying_within model ev flight n so_far run t =
+    let i : length (nodes_waiting flight.waiting) ≡ length flight.waiting = length-map flight.waiting (λ (f : Suspended). f.node) in
+    let w : suc (length (nodes_waiting flight.waiting)) ≤ ev.limit = t.apart.within in
+    omega arith
+
 pub breaking_off : BreakingOff
-breaking_off model ev flight flying u = subst (λ es. take (length ev.held) es ≡ ev.held) u.grown (take_at ev.held u.more (length ev.held) refl)
+breaking_off model ev held ticks flying u = record {
+  is = subst (λ es. take (length ev.held) es ≡ ev.held) u.grown (take_at ev.held u.more (length ev.held) refl);
+  memo = rolling_back model ev.held u.more (subst (λ es. IsRightMemo model es) (sym u.grown) u.memo);
+}

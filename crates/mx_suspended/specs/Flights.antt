@@ -20,7 +20,7 @@ pub record Suspended : Type 0 where
   pub go : Reply → Run
 
 -- An evaluation in flight: what is held now, how many runs it has begun, and those that wait, the last one first.
-pub record Flight : Type 0 where
+pub record InFlight : Type 0 where
   pub held : List Entry
   pub ticks : ℕ
   pub waiting : List Suspended
@@ -55,17 +55,18 @@ pub record AreApart (model : Model) (limit : ℕ) (nodes held : List Node) : Typ
   pub unknown : AreUnknown model nodes held
   pub within : length nodes ≤ limit
 
--- An evaluation with so many runs in flight. What is held is right as a memo, and is what was held at the start with
--- more behind it. Each run that was begun gave a value that is newly held, or is in flight.
-pub record IsUnderWay (model : Model) (ev : Evaluation) (flight : Flight) (flying : ℕ) : Type 0 where
-  pub memo : IsRightMemo model flight.held
+-- An evaluation that has begun so many runs, of which so many are in flight. What is held is right as a memo, and is
+-- what was held at the start with more behind it. Each run that was begun gave a value that is newly held, or is in
+-- flight.
+pub record IsUnderWay (model : Model) (ev : Evaluation) (held : List Entry) (ticks flying : ℕ) : Type 0 where
+  pub memo : IsRightMemo model held
   pub more : List Entry
-  pub grown : ev.held ++ more ≡ flight.held
-  pub counted : flight.ticks + length ev.held ≡ length flight.held + flying
+  pub grown : ev.held ++ more ≡ held
+  pub counted : ticks + length ev.held ≡ length held + flying
 
 -- The run of n is on top: of it so much is recorded, and this is its rest.
-pub record IsTop (model : Model) (ev : Evaluation) (flight : Flight) (n : Node) (so_far : Recorded) (run : Run) : Type 0 where
-  pub under_way : IsUnderWay model ev flight (suc (length flight.waiting))
+pub record IsTop (model : Model) (ev : Evaluation) (flight : InFlight) (n : Node) (so_far : Recorded) (run : Run) : Type 0 where
+  pub under_way : IsUnderWay model ev flight.held flight.ticks (suc (length flight.waiting))
   pub since : List Node
   pub waits : Waits model ev flight.waiting n since
   pub stands : StandsAt model ev.limit (suc (length flight.waiting)) since (nodes_of flight.held) n so_far run
@@ -73,16 +74,16 @@ pub record IsTop (model : Model) (ev : Evaluation) (flight : Flight) (n : Node) 
 
 -- The last of those that wait asks m, which is neither held nor an input. Where none waits, m is the node that is asked
 -- for.
-pub record Awaits (model : Model) (ev : Evaluation) (flight : Flight) (m : Node) : Type 0 where
-  pub under_way : IsUnderWay model ev flight (length flight.waiting)
+pub record Awaits (model : Model) (ev : Evaluation) (flight : InFlight) (m : Node) : Type 0 where
+  pub under_way : IsUnderWay model ev flight.held flight.ticks (length flight.waiting)
   pub waits : Waits model ev flight.waiting m (nodes_of flight.held)
   pub apart : AreApart model ev.limit (nodes_waiting flight.waiting) (nodes_of flight.held)
   pub unknown : IsKnown model (nodes_of flight.held) m → ⊥
 
 -- n gave this reply and is held, and the last of those that wait is to go on with it. Where none waits, n is the node
 -- that is asked for.
-pub record IsDone (model : Model) (ev : Evaluation) (flight : Flight) (n : Node) (reply : Reply) : Type 0 where
-  pub under_way : IsUnderWay model ev flight (length flight.waiting)
+pub record IsDone (model : Model) (ev : Evaluation) (flight : InFlight) (n : Node) (reply : Reply) : Type 0 where
+  pub under_way : IsUnderWay model ev flight.held flight.ticks (length flight.waiting)
   pub since : List Node
   pub waits : Waits model ev flight.waiting n since
   pub means : Means model n (Gives reply)
