@@ -165,22 +165,23 @@ pub answering_full : AnsweringFull
 answering_full model ev flight n so_far reply ticks t full = (top_past model ev flight n so_far reply t full, refl)
 
 pub handing_down : HandingDown
-handing_down model ev held ticks f below n reply asks reads d a b = record {
+handing_down model ev flight f below n reply asks reads d a b = record {
   under_way = d.under_way;
   since = d.waits.0;
   waits = d.waits.2;
-  stands = stands_given model ev.limit (suc (length below)) d.waits.0 d.since f.node n f.go f.so_far d.waits.1 reply (nodes_of held) asks reads a b (d.under_way.memo.right.own n d.kept) d.still d.newly d.kept d.means d.shallow;
+  stands = stands_given model ev.limit (suc (length below)) d.waits.0 d.since f.node n f.go f.so_far d.waits.1 reply (nodes_of flight.held) asks reads a b (d.under_way.memo.right.own n d.kept) d.still d.newly d.kept d.means d.shallow;
   apart = d.apart;
 }
 
 pub answering_value : AnsweringValue
-answering_value model ev held ticks n reply ends d =
+answering_value model ev flight n reply ends d =
+    let held : List Entry = flight.held in
     let right : IsRight model held = d.under_way.memo.right in
     let means : Means model ev.node (Gives reply) = subst (λ x. Means model x (Gives reply)) d.waits.0 d.means in
     let whole : (x : Node) → Reaches model n x → Counts model x → Has (nodes_of held) x = λ x r c.
     elim (held_reach model held ends right n x d.kept r) [ inl k ↦ k | inr k ↦ absurd (let j = sym k ∙ c.own in cc) ] in (
       record { reply = reply; means = means; value = refl },
-      completes model ev held d.under_way.more ticks 0 right d.under_way.grown
+      completes model ev held d.under_way.more flight.ticks 0 right d.under_way.grown
           (subst (λ x. IsShallow model ev.limit 1 (nodes_of ev.held) x) d.waits.0 (subst (λ ns. IsShallow model ev.limit 1 ns n) d.waits.1 d.shallow))
           (held_counts model ev [] n d.since held d.waits right d.newly)
           (subst (λ y. (x : Node) → Reaches model y x → Counts model x → Has (nodes_of held) x) d.waits.0 whole)

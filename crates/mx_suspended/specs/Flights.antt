@@ -41,13 +41,17 @@ pub record StandsAt (model : Model) (limit depth : ℕ) (since held : List Node)
   pub still : (x : Node) → Has since x → Has held x
   pub newly : (x : Node) → Has held x → Has since x ⊎ ReachedFrom model so_far.asks x
   pub kept : (x : Node) → Has so_far.asks x → Has held x
-  pub shallow : (b : Node) (rest : List Node) → Has so_far.asks b → IsFirstChain model (n ∷ b ∷ rest) → AreUnknown model (n ∷ b ∷ rest) since → depth + length (b ∷ rest) ≤ limit
+  pub shallow : (b : Node) (rest : List Node) → Has so_far.asks b → IsFirstChain model (n ∷ b ∷ rest)
+      → AreUnknown model (n ∷ b ∷ rest) since → depth + length (b ∷ rest) ≤ limit
 
 -- These runs, the last one first, each wait for the next one's node, and the last for m; the first one's node is that
 -- which is asked for. `since` was held as m was asked.
 abbrev pub Waits : Model → Evaluation → List Suspended → Node → List Node → Type 0
 Waits model ev [] m since = (m ≡ ev.node) × (since ≡ nodes_of ev.held)
-Waits model ev (f ∷ below) m since = (before : List Node) × StandsAt model ev.limit (suc (length below)) before since f.node f.so_far (Asks m f.go) × Waits model ev below f.node before
+Waits model ev (f ∷ below) m since =
+    (before : List Node)
+    × StandsAt model ev.limit (suc (length below)) before since f.node f.so_far (Asks m f.go)
+    × Waits model ev below f.node before
 
 -- the nodes in flight: each once, none held and none an input, and no more than the limit
 pub record AreApart (model : Model) (limit : ℕ) (nodes held : List Node) : Type 0 where

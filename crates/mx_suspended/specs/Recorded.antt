@@ -48,12 +48,26 @@ pub data GoesPast (model : Model) (held : List Entry) : Run → Recorded → Run
   -- it stays where it is
   Stays : (run : Run) (so_far : Recorded) → GoesPast model held run so_far run so_far
   -- it looks a key up, which is recorded
-  PastLook : (key : Key) (go : KeyResult → Run) (rest : Run) (so_far last : Recorded) (keys : List Key) → Adds so_far.keys key keys → GoesPast model held (go (model.look key)) (record so_far { keys = keys }) rest last → GoesPast model held (Looks key go) so_far rest last
+  PastLook : (key : Key) (go : KeyResult → Run) (rest : Run) (so_far last : Recorded) (keys : List Key)
+      → Adds so_far.keys key keys
+      → GoesPast model held (go (model.look key)) (record so_far { keys = keys }) rest last
+      → GoesPast model held (Looks key go) so_far rest last
   -- it tests a key, of which nothing is recorded
-  PastTest : (key : Key) (go : KeyResult → Run) (rest : Run) (so_far last : Recorded) → GoesPast model held (go (model.look key)) so_far rest last → GoesPast model held (Tests key go) so_far rest last
+  PastTest : (key : Key) (go : KeyResult → Run) (rest : Run) (so_far last : Recorded)
+      → GoesPast model held (go (model.look key)) so_far rest last
+      → GoesPast model held (Tests key go) so_far rest last
   -- it notes what it read, which is recorded
-  PastNote : (noted : Read) (run rest : Run) (so_far last : Recorded) (reads : List Read) → Adds so_far.reads noted reads → GoesPast model held run (record so_far { reads = reads }) rest last → GoesPast model held (Notes noted run) so_far rest last
+  PastNote : (noted : Read) (run rest : Run) (so_far last : Recorded) (reads : List Read)
+      → Adds so_far.reads noted reads → GoesPast model held run (record so_far { reads = reads }) rest last
+      → GoesPast model held (Notes noted run) so_far rest last
   -- it asks a held node, which gives what is held; the node is recorded, and that it was read
-  PastHeld : (e : Entry) (go : Reply → Run) (rest : Run) (so_far last : Recorded) (asks : List Node) (reads : List Read) → Has held e → Adds so_far.asks e.node asks → Adds so_far.reads (read.Node e.node) reads → GoesPast model held (go e.reply) (record so_far { asks = asks; reads = reads }) rest last → GoesPast model held (Asks e.node go) so_far rest last
+  PastHeld : (e : Entry) (go : Reply → Run) (rest : Run) (so_far last : Recorded) (asks : List Node) (reads : List Read)
+      → Has held e → Adds so_far.asks e.node asks → Adds so_far.reads (read.Node e.node) reads
+      → GoesPast model held (go e.reply) (record so_far { asks = asks; reads = reads }) rest last
+      → GoesPast model held (Asks e.node go) so_far rest last
   -- it asks an input, which gives the value that was put in; its key is recorded, and that it was read
-  PastInput : (m : Node) (value : Value) (go : Reply → Run) (rest : Run) (so_far last : Recorded) (keys : List Key) (reads : List Read) → is_input model m ≡ true → model.look (Input m) ≡ found.Value value → Adds so_far.keys (Input m) keys → Adds so_far.reads (read.Node m) reads → GoesPast model held (go (record { value = value; namespace = None })) (record so_far { keys = keys; reads = reads }) rest last → GoesPast model held (Asks m go) so_far rest last
+  PastInput : (m : Node) (value : Value) (go : Reply → Run) (rest : Run) (so_far last : Recorded) (keys : List Key) (reads : List Read)
+      → is_input model m ≡ true → model.look (Input m) ≡ found.Value value → Adds so_far.keys (Input m) keys
+      → Adds so_far.reads (read.Node m) reads
+      → GoesPast model held (go (record { value = value; namespace = None })) (record so_far { keys = keys; reads = reads }) rest last
+      → GoesPast model held (Asks m go) so_far rest last

@@ -71,7 +71,7 @@ module _ (v : Value) (ev : Evaluation) where
       let w : Suspended = record { node = n; so_far = runs n; go = go } in
       let a : Awaits (small v) ev (flying [] 1 (w ∷ [])) inner = asking (small v) ev (flying [] 1 []) n inner (runs n) go t (unknown v 0 []) in
       let b : IsTop (small v) ev (flying [] 2 (w ∷ [])) inner (runs inner) (formula (0 ∷ [])) = begun [] 1 (w ∷ []) 0 [] a (λ h. elim h [ inl e ↦ other e | inr z ↦ z ]) room in
-      handing_down (small v) ev (inner_entry v ∷ []) 2 w [] inner (plain v) (inner ∷ []) (read.Node inner ∷ []) (given 2 (w ∷ []) b) (inr (λ z. z, refl)) (inr (λ z. z, refl))
+      handing_down (small v) ev (flying (inner_entry v ∷ []) 2 []) w [] inner (plain v) (inner ∷ []) (read.Node inner ∷ []) (given 2 (w ∷ []) b) (inr (λ z. z, refl)) (inr (λ z. z, refl))
 
   -- the outer node notes a reference and asks the inner one again, which is held; its value is the answer
   abbrev half : Recorded
@@ -104,7 +104,7 @@ pub outer_gives : OuterGives
 outer_gives v limit room =
     let ev : Evaluation = asking_for outer [] limit in
     let t = down v ev outer _ (λ e. let i : outer ≡ inner = e in absurd (cc)) (omega arith) (started v limit 0 (0 ∷ []) (omega arith)) in
-    answering_value (small v) ev (inner_entry v ∷ outer_entry v ∷ []) 2 outer (plain v) (inputs_end v) (outer_done v ev 2 t)
+    answering_value (small v) ev (flying (inner_entry v ∷ outer_entry v ∷ []) 2 []) outer (plain v) (inputs_end v) (outer_done v ev 2 t)
 
 pub inner_is_too_deep : InnerIsTooDeep
 inner_is_too_deep v ticks =
@@ -127,7 +127,7 @@ held_breaks_the_chain v =
     let t = begun v ev held 0 [] 0 (0 ∷ []) (starting (small v) ev (inner_memo v) new) (λ z. z) (omega arith) in
     let past : GoesPast (small v) held (formula (0 ∷ 0 ∷ [])) (runs outer) (rest v ev) (half v ev) =
     PastHeld (inner_entry v) _ (rest v ev) (runs outer) (half v ev) (inner ∷ []) (read.Node inner ∷ []) (inl refl) (inr (λ z. z, refl)) (inr (λ z. z, refl)) (Stays (rest v ev) (half v ev)) in
-    answering_value (small v) ev (inner_entry v ∷ outer_entry v ∷ []) 1 outer (plain v) (inputs_end v)
+    answering_value (small v) ev (flying (inner_entry v ∷ outer_entry v ∷ []) 1 []) outer (plain v) (inputs_end v)
     (outer_done v ev 1 (passing (small v) ev (flying held 1 []) outer (formula (0 ∷ 0 ∷ [])) (rest v ev) (runs outer) (half v ev) (inputs_end v) past t))
 
 pub held_needs_no_run : HeldNeedsNoRun
