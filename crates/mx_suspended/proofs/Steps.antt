@@ -1,5 +1,5 @@
 -- What each step does to an evaluation in flight.
-use Rattle.std.proofs.Common.{◌≡◌, true, false, suc, ◌+◌, ◌≤◌, ◌<◌, List, [], ◌∷◌, ◌++◌, length, ◌⊎◌, inl, inr, refl, sym, ◌∙◌, ap, subst, arith, length-append, None, take}
+use Rattle.std.proofs.Common.{◌≡◌, true, false, suc, ◌+◌, ◌≤◌, ◌<◌, List, [], ◌∷◌, ◌++◌, length, ◌⊎◌, inl, inr, refl, sym, ◌∙◌, ap, subst, arith, length-append, None, take, if◌then◌else◌}
 use Rattle.std.proofs.lemmas.List.{append-nil, append_assoc, length-map, take_at}
 use Rattle.mx_value.specs.declared.node.Node.{Node}
 use Rattle.mx_edit.specs.Entry.{Entry}
@@ -15,12 +15,13 @@ use Rattle.mx_runs.proofs.Meanings.{IsFailure, failure_reached, failure_no_value
 use Rattle.mx_runs.proofs.Inputs.{input_reaches}
 use Rattle.mx_answers.specs.Held.{most_held, nodes_of, Counts, IsKnown, IsRight}
 use Rattle.mx_answers.specs.Records.{IsRecordOf, IsRightMemo}
-use Rattle.mx_answers.specs.Answers.{Evaluation, IsShallow, IsCounted, PastMost, Completes}
+use Rattle.mx_answers.specs.Answers.{Answer, Evaluation, IsShallow, IsCounted, PastMost, Completes}
 use Rattle.mx_answers.proofs.Held.{nodes_grow, nodes_added, nodes_cases, input_or_not, held_reach, named}
 use Rattle.mx_answers.proofs.Sifting.{holding, rolling_back}
 use Rattle.mx_suspended.specs.Recorded.{Recorded, as_entry}
+use Rattle.mx_suspended.specs.Ended.{keeps, IsClosed}
 use Rattle.mx_suspended.specs.Flights.{Suspended, InFlight, nodes_waiting, IsTop, IsDone}
-use Rattle.mx_suspended.specs.Laws.{AnsweringHeld, AnsweringInput, Starting, Beginning, Passing, PassingOn, Asking, Giving, HandingDown, AnsweringValue, AnsweringFault, AnsweringNoSuch, AnsweringWrongCount, AnsweringRing, AnsweringTooDeep, AnsweringFull, StayingWithin, BreakingOff}
+use Rattle.mx_suspended.specs.Laws.{AnsweringHeld, AnsweringInput, Starting, Beginning, Passing, PassingOn, Asking, Giving, HandingDown, AnsweringValue, AnsweringFault, AnsweringNoSuch, AnsweringWrongCount, AnsweringRing, AnsweringTooDeep, AnsweringFull, StayingWithin, WantingMemory, Closing}
 use Rattle.mx_suspended.proofs.Growing.{asked_recorded, reached_on}
 use Rattle.mx_suspended.proofs.Standing.{stands_first, stands_past, past_then, stands_given, stands_shallow_end, shallow_more, put_in}
 use Rattle.mx_suspended.proofs.Waiting.{handed_down, asked_reaches, waits_closed, held_counts}
@@ -262,8 +263,18 @@ staying_within model ev flight n so_far run t =
     let w : suc (length (nodes_waiting flight.waiting)) ≤ ev.limit = t.apart.within in
     omega arith
 
-pub breaking_off : BreakingOff
-breaking_off model ev held ticks flying u = record {
-  is = subst (λ es. take (length ev.held) es ≡ ev.held) u.grown (take_at ev.held u.more (length ev.held) refl);
-  memo = rolling_back model ev.held u.more (subst (λ es. IsRightMemo model es) (sym u.grown) u.memo);
-}
+-- what was held at the start, of what is held now
+cut_off : (start more held : List Entry) → start ++ more ≡ held → take (length start) held ≡ start
+cut_off start more held e = subst (λ es. take (length start) es ≡ start) e (take_at start more (length start) refl)
+
+pub wanting_memory : WantingMemory
+wanting_memory model ev held ticks flying u = record { memo = u.memo; more = u.more; grown = u.grown; right = refl }
+
+pub closing : Closing
+closing model ev held ticks answer h =
+    let at : take (length ev.held) held ≡ ev.held = cut_off ev.held h.more held h.grown in
+    let first : IsRightMemo model (take (length ev.held) held) = subst (λ es. IsRightMemo model es) (sym at) (rolling_back model ev.held h.more (subst (λ es. IsRightMemo model es) (sym h.grown) h.memo)) in
+    elim (keeps answer) as (λ b. Answer model ev answer (if b then held else ev.held) ticks → IsClosed model ev answer (if b then held else take (length ev.held) held) ticks) [
+      | true ↦ λ r. record { right = r; memo = h.memo }
+      | false ↦ λ r. record { right = subst (λ es. Answer model ev answer es ticks) (sym at) r; memo = first }
+    ] h.right

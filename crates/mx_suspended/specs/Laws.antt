@@ -1,10 +1,11 @@
 -- Laws of runs in flight, in the order in which an evaluation takes its steps.
-use Rattle.std.specs.Prelude.{◌≡◌, ℕ, suc, ◌≤◌, ◌<◌, true, List, [], ◌∷◌, ◌++◌, Ok, Err, length, reverse, take}
+use Rattle.std.specs.Prelude.{◌≡◌, ℕ, suc, ◌≤◌, ◌<◌, true, List, [], ◌∷◌, ◌++◌, Result, Ok, Err, length, reverse}
 use Rattle.mx_value.specs.declared.node.Node.{Node}
 use Rattle.mx_value.specs.declared.read.Read.{Read}
 use Rattle.mx_value.specs.declared.read.Read.TheVariants as read
 use Rattle.mx_value.specs.declared.value.Value.{Value}
 use Rattle.mx_value.specs.declared.fault.FaultKind.{FaultKind}
+use Rattle.mx_value.specs.declared.refusal.EvalRefusal.{EvalRefusal}
 use Rattle.mx_value.specs.declared.refusal.EvalRefusal.TheVariants as refusal
 use Rattle.mx_edit.specs.Entry.{Entry}
 use Rattle.mx_edit.specs.declared.key.Key.TheVariants.{Input}
@@ -17,6 +18,7 @@ use Rattle.mx_answers.specs.Held.{most_held, nodes_of, IsKnown}
 use Rattle.mx_answers.specs.Records.{IsRightMemo}
 use Rattle.mx_answers.specs.Answers.{Evaluation, Answer}
 use Rattle.mx_suspended.specs.Recorded.{Recorded, nothing, as_entry, Adds, GoesPast}
+use Rattle.mx_suspended.specs.Ended.{HasEnded, IsClosed, left_by}
 use Rattle.mx_suspended.specs.Flights.{Suspended, InFlight, nodes_waiting, IsUnderWay, IsTop, Awaits, IsDone}
 
 -- a node that is held is answered by what is held, and no run begins
@@ -140,13 +142,14 @@ StayingWithin =
     (model : Model) (ev : Evaluation) (flight : InFlight) (n : Node) (so_far : Recorded) (run : Run)
     → IsTop model ev flight n so_far run → length flight.waiting < ev.limit
 
--- what was held at the start is the first part of what is held, and is right as a memo
-pub record IsFirstPart (model : Model) (start held : List Entry) : Type 0 where
-  pub is : take (length start) held ≡ start
-  pub memo : IsRightMemo model start
+-- an evaluation that breaks off for want of memory has ended
+abbrev pub WantingMemory : Type 0
+WantingMemory =
+    (model : Model) (ev : Evaluation) (held : List Entry) (ticks flying : ℕ)
+    → IsUnderWay model ev held ticks flying → HasEnded model ev held ticks (Err refusal.NoMemory)
 
--- an evaluation that breaks off can leave what was held at the start
-abbrev pub BreakingOff : Type 0
-BreakingOff =
-    (model : Model) (ev : Evaluation) (held : List Entry) (ticks flying : ℕ) → IsUnderWay model ev held ticks flying
-    → IsFirstPart model ev.held held
+-- what an answer does not keep is cut off at its end, and then the answer and what is held are right
+abbrev pub Closing : Type 0
+Closing =
+    (model : Model) (ev : Evaluation) (held : List Entry) (ticks : ℕ) (answer : Result Value EvalRefusal)
+    → HasEnded model ev held ticks answer → IsClosed model ev answer (left_by answer ev.held held) ticks

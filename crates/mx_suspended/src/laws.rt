@@ -1,5 +1,5 @@
 //! Laws over the definitions. Each is proved as what a function ensures that does nothing.
-ghost use Rattle.mx_suspended.specs.Laws.{AnsweringHeld, AnsweringInput, Starting, Beginning, Passing, PassingOn, Asking, Giving, HandingDown, AnsweringValue, AnsweringFault, AnsweringNoSuch, AnsweringWrongCount, AnsweringRing, AnsweringTooDeep, AnsweringFull, StayingWithin, BreakingOff};
+ghost use Rattle.mx_suspended.specs.Laws.{AnsweringHeld, AnsweringInput, Starting, Beginning, Passing, PassingOn, Asking, Giving, HandingDown, AnsweringValue, AnsweringFault, AnsweringNoSuch, AnsweringWrongCount, AnsweringRing, AnsweringTooDeep, AnsweringFull, StayingWithin, WantingMemory, Closing};
 
 /// What holds of runs in flight, step by step: from the node that is asked for, by the runs that begin, go on, wait and
 /// give, to the right answer at each end. The machine cites one for each thing that it does.
@@ -21,5 +21,6 @@ pub fn laws()
     ensures answering_too_deep { AnsweringTooDeep }
     ensures answering_full { AnsweringFull }
     ensures staying_within { StayingWithin }
-    ensures breaking_off { BreakingOff }
+    ensures wanting_memory { WantingMemory }
+    ensures closing { Closing }
 {}

@@ -1,4 +1,4 @@
-use Rattle.mx_suspended.proofs.Steps.{answering_held, answering_input, starting, beginning, passing, passing_on, asking, giving, handing_down, answering_value, answering_fault, answering_no_such, answering_wrong_count, answering_ring, answering_too_deep, answering_full, staying_within, breaking_off}
+use Rattle.mx_suspended.proofs.Steps.{answering_held, answering_input, starting, beginning, passing, passing_on, asking, giving, handing_down, answering_value, answering_fault, answering_no_such, answering_wrong_count, answering_ring, answering_too_deep, answering_full, staying_within, wanting_memory, closing}
 use Rattle.mx_suspended.proofs.laws.laws.Goals as goal
 
 pub returns : goal.returns
@@ -20,5 +20,6 @@ returns c = record {
   answering_too_deep = answering_too_deep;
   answering_full = answering_full;
   staying_within = staying_within;
-  breaking_off = breaking_off;
+  wanting_memory = wanting_memory;
+  closing = closing;
 }
