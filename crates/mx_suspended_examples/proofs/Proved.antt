@@ -1,7 +1,8 @@
 -- The examples, by one law for each step.
-use Rattle.std.proofs.Common.{◌≡◌, true, false, ℕ, suc, ◌≤◌, ◌<◌, List, [], ◌∷◌, length, inl, inr, refl, arith}
+use Rattle.std.proofs.Common.{Err, ◌≡◌, true, false, ℕ, suc, ◌≤◌, ◌<◌, List, [], ◌∷◌, length, inl, inr, refl, arith}
 use Rattle.mx_value.specs.declared.value.Value.{Value}
 use Rattle.mx_value.specs.declared.fault.FaultKind.TheVariants.{NoIndex}
+use Rattle.mx_value.specs.declared.refusal.EvalRefusal.TheVariants as refusal
 use Rattle.mx_value.specs.declared.node.Node.{Node}
 use Rattle.mx_value.specs.declared.node.Node.TheVariants.{Cell, Item}
 use Rattle.mx_value.specs.declared.read.Read.TheVariants as read
@@ -9,16 +10,16 @@ use Rattle.mx_edit.specs.Entry.{Entry}
 use Rattle.mx_edit.specs.declared.key.Key.TheVariants.{Input}
 use Rattle.mx_edit.specs.declared.reply.Reply.{Reply}
 use Rattle.mx_runs.specs.Lists.{Has}
-use Rattle.mx_runs.specs.Runs.{Run, Ends, Asks, Notes, Gives}
+use Rattle.mx_runs.specs.Runs.{Run, Ends, Asks, Notes, Gives, NoSuch}
 use Rattle.mx_runs.specs.Inputs.{InputsEnd}
 use Rattle.mx_answers.specs.Held.{nodes_of, IsKnown}
 use Rattle.mx_answers.specs.Records.{IsRightMemo}
 use Rattle.mx_answers.specs.Answers.{Evaluation}
 use Rattle.mx_suspended.specs.Recorded.{Recorded, nothing, GoesPast, Stays, PastLook, PastTest, PastNote, PastHeld, PastInput}
 use Rattle.mx_suspended.specs.Flights.{Suspended, InFlight, nodes_waiting, IsTop, Awaits, IsDone}
-use Rattle.mx_suspended.proofs.Steps.{answering_held, answering_input, starting, beginning, passing, asking, giving, handing_down, answering_value, answering_fault, answering_no_such, answering_ring, answering_too_deep}
+use Rattle.mx_suspended.proofs.Steps.{answering_held, answering_input, starting, beginning, passing, asking, giving, handing_down, answering_value, answering_fault, answering_no_such, answering_ring, answering_too_deep, closing}
 use Rattle.mx_suspended_examples.specs.Small.{cells, put, inner, outer, faulty, missing, lead, knot, turn, small, plain, input_or, formula, body, inner_entry, outer_entry}
-use Rattle.mx_suspended_examples.specs.Examples.{asking_for, OuterGives, InnerIsTooDeep, HeldBreaksTheChain, HeldNeedsNoRun, InputNeedsNoRun, FaultKeepsTheInner, NoSuchKeepsNothing, RingIsWithoutTheLead}
+use Rattle.mx_suspended_examples.specs.Examples.{asking_for, OuterGives, InnerIsTooDeep, HeldBreaksTheChain, HeldNeedsNoRun, InputNeedsNoRun, FaultKeepsTheInner, NoSuchKeepsNothing, NoSuchIsClosed, RingIsWithoutTheLead}
 
 inputs_end : (v : Value) → InputsEnd (small v)
 inputs_end v (Cell at name arguments) i = record { go = _; starts = refl; ends = λ w. refl }
@@ -142,11 +143,18 @@ fault_keeps_the_inner v limit room =
     answering_fault (small v) ev (flying (inner_entry v ∷ []) 2 []) faulty faulty _ NoIndex 1 (inputs_end v)
     (down v ev faulty _ (λ e. let i : faulty ≡ inner = e in absurd (cc)) (omega arith) (started v limit 0 (0 ∷ 0 ∷ []) (omega arith)))
 
+-- the run of the node that is missing, after the inner one gave its value
+missing_top : (v : Value) (limit : ℕ) → 2 ≤ limit → IsTop (small v) (asking_for missing [] limit) (flying (inner_entry v ∷ []) 2 []) missing (record { keys = Input missing ∷ []; asks = inner ∷ []; reads = read.Node inner ∷ [] }) (Ends NoSuch)
+missing_top v limit room = down v (asking_for missing [] limit) missing (λ r. Ends NoSuch) (λ e. let i : missing ≡ inner = e in absurd (cc)) (omega arith) (started v limit 0 (0 ∷ 0 ∷ 0 ∷ []) (omega arith))
+
 pub no_such_keeps_nothing : NoSuchKeepsNothing
-no_such_keeps_nothing v limit ticks room =
-    let ev : Evaluation = asking_for missing [] limit in
-    answering_no_such (small v) ev (flying (inner_entry v ∷ []) 2 []) missing _ ticks (inputs_end v)
-    (down v ev missing _ (λ e. let i : missing ≡ inner = e in absurd (cc)) (omega arith) (started v limit 0 (0 ∷ 0 ∷ 0 ∷ []) (omega arith)))
+no_such_keeps_nothing v limit ticks room = answering_no_such (small v) (asking_for missing [] limit) (flying (inner_entry v ∷ []) 2 []) missing _ ticks (inputs_end v) (missing_top v limit room)
+
+pub no_such_is_closed : NoSuchIsClosed
+no_such_is_closed v limit ticks room =
+    let u = (missing_top v limit room).under_way in
+    closing (small v) (asking_for missing [] limit) (inner_entry v ∷ []) ticks (Err refusal.NoSuch)
+    (record { memo = u.memo; more = u.more; grown = u.grown; right = no_such_keeps_nothing v limit ticks room })
 
 pub ring_is_without_the_lead : RingIsWithoutTheLead
 ring_is_without_the_lead v =

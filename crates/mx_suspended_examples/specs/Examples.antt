@@ -6,6 +6,7 @@ use Rattle.mx_value.specs.declared.node.Node.{Node}
 use Rattle.mx_value.specs.declared.refusal.EvalRefusal.TheVariants as refusal
 use Rattle.mx_edit.specs.Entry.{Entry}
 use Rattle.mx_answers.specs.Answers.{Evaluation, Answer}
+use Rattle.mx_suspended.specs.Ended.{IsClosed, left_by}
 use Rattle.mx_suspended_examples.specs.Small.{put, inner, outer, faulty, missing, lead, knot, turn, small, inner_entry, outer_entry}
 
 -- an evaluation of a node where so much is held
@@ -38,6 +39,10 @@ FaultKeepsTheInner = (v : Value) (limit : ℕ) → 2 ≤ limit → Answer (small
 -- that there is no such node leaves nothing held
 abbrev pub NoSuchKeepsNothing : Type 0
 NoSuchKeepsNothing = (v : Value) (limit ticks : ℕ) → 2 ≤ limit → Answer (small v) (asking_for missing [] limit) (Err refusal.NoSuch) [] ticks
+
+-- for what was held at its end is cut off, and what is left is a right memo
+abbrev pub NoSuchIsClosed : Type 0
+NoSuchIsClosed = (v : Value) (limit ticks : ℕ) → 2 ≤ limit → IsClosed (small v) (asking_for missing [] limit) (Err refusal.NoSuch) (left_by (Err refusal.NoSuch) [] (inner_entry v ∷ [])) ticks
 
 -- the ring is without the node that leads to it, even where no chain may be longer
 abbrev pub RingIsWithoutTheLead : Type 0
