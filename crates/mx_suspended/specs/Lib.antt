@@ -1,0 +1,4 @@
+pub mod Recorded
+pub mod Flights
+pub mod Ended
+pub mod Laws

@@ -1,0 +1,5 @@
+//! Runs in flight over any model: what holds of those that wait and of the one on top, whatever runs them, and what an
+//! evaluation answers as they end.
+#![tactic(auto)]
+
+pub mod laws;
