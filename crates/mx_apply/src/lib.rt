@@ -9,4 +9,4 @@ pub mod laws;
 mod own;
 mod refusals;
 pub mod statics;
-mod values;
+pub mod values;

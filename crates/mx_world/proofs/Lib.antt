@@ -5,3 +5,4 @@ pub mod Named
 pub mod PrepareLemmas
 pub mod Shapes
 pub mod KeptShape
+pub mod ReadLemmas

@@ -3,3 +3,4 @@ pub mod Laws
 pub mod World
 pub mod Prepared
 pub mod Shape
+pub mod Read

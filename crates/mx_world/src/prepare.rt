@@ -1,5 +1,6 @@
 //! Edits of worlds.
-ghost use Rattle.std.specs.Prelude.{◌≡◌};
+ghost use Rattle.std.specs.Prelude.{◌≡◌, IsTrue};
+ghost use Rattle.std.specs.List.{list_any};
 ghost use Rattle.mx_world.specs.Shape as shape;
 ghost use Rattle.mx_apply.specs.Chain.{CanGoOn};
 ghost use Rattle.mx_model.specs.Valid.{Valid};
@@ -7,14 +8,17 @@ ghost use Rattle.mx_paths.specs.Names.{IsNamed};
 ghost use Rattle.mx_whole_edits.specs.Ready.{IsRead, IsReady};
 ghost use Rattle.mx_whole_edits.specs.Whole.{IsAccepted};
 ghost use Rattle.mx_world.specs.Prepared.{Prepares, Walks};
+ghost use Rattle.mx_world.specs.Read as spec;
 
 use crate::world::World;
+use mx_apply::values::is_unfit;
 use mx_edit::edit::Edit;
 use mx_edit::refusal::EditRefusal;
 use mx_list::shared::Shared;
 use mx_model::text::ModelText;
 use mx_paths::refusal::PathsRefusal;
 use mx_paths::table::Paths;
+use mx_syntax::stmt::Param;
 use mx_whole_edits::whole::applied;
 use std::alloc::Global;
 use std::marker::Model;
@@ -47,6 +51,39 @@ impl Prepared {
         ensures { result.now ≡ self.now }
     {
         &self.world
+    }
+}
+
+/// Whether the defaults of an edit's formula are plain and nested no deeper than a value may be, as those of each formula are
+/// that was read.
+pub fn is_read(edit: &Edit) -> bool
+    ensures exact { result ≡ spec.is_read edit.now }
+    ensures told { IsTrue result → IsRead edit.now }
+{
+    match edit {
+        Edit::SetCells {
+            path: _,
+            name: _,
+            formula,
+        } => !is_one_unfit(formula.params.as_slice()),
+        _ => true,
+    }
+}
+
+/// Whether the default of one of the parameters is not plain or nested too deep.
+fn is_one_unfit(params: &[Param]) -> bool
+    ensures { result ≡ list_any spec.has_unfit_default params.now }
+{
+    params.iter().any(|param| has_unfit_default(param))
+}
+
+/// Whether the default of a parameter is not plain or nested too deep.
+fn has_unfit_default(param: &Param) -> bool
+    ensures { result ≡ spec.has_unfit_default param.now }
+{
+    match &param.default {
+        Some(value) => is_unfit(value),
+        None => false,
     }
 }
 
