@@ -46,25 +46,25 @@ each_is P read (x ∷ xs) = (x.1, each_is P read xs)
 
 -- ---- how the other parts of an expression are read
 
-abbrev args_read : Args → Behind
+abbrev pub args_read : Args → Behind
 args_read = folded fold-Args meant.args_step meant.comparison_step meant.expr_step meant.behind_step meant.arm_step meant.power_step meant.product_step meant.sum_step
 
-abbrev comparison_read : Comparison → Comparing
+abbrev pub comparison_read : Comparison → Comparing
 comparison_read = folded fold-Comparison meant.args_step meant.comparison_step meant.expr_step meant.behind_step meant.arm_step meant.power_step meant.product_step meant.sum_step
 
-abbrev trailer_read : Trailer → Behind
+abbrev pub trailer_read : Trailer → Behind
 trailer_read = folded fold-Trailer meant.args_step meant.comparison_step meant.expr_step meant.behind_step meant.arm_step meant.power_step meant.product_step meant.sum_step
 
-abbrev arm_read : Arm → Reading × Reading
+abbrev pub arm_read : Arm → Reading × Reading
 arm_read = folded fold-Arm meant.args_step meant.comparison_step meant.expr_step meant.behind_step meant.arm_step meant.power_step meant.product_step meant.sum_step
 
-abbrev power_read : PowerPart → List Sign × Reading
+abbrev pub power_read : PowerPart → List Sign × Reading
 power_read = folded fold-PowerPart meant.args_step meant.comparison_step meant.expr_step meant.behind_step meant.arm_step meant.power_step meant.product_step meant.sum_step
 
-abbrev product_read : ProductPart → Op × Reading
+abbrev pub product_read : ProductPart → Op × Reading
 product_read = folded fold-ProductPart meant.args_step meant.comparison_step meant.expr_step meant.behind_step meant.arm_step meant.power_step meant.product_step meant.sum_step
 
-abbrev sum_read : SumPart → Op × Reading
+abbrev pub sum_read : SumPart → Op × Reading
 sum_read = folded fold-SumPart meant.args_step meant.comparison_step meant.expr_step meant.behind_step meant.arm_step meant.power_step meant.product_step meant.sum_step
 
 -- a layer of parts that are not read yet

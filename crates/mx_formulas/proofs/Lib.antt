@@ -5,3 +5,7 @@ mod Bound
 mod Walking
 mod Items
 mod Sound
+mod Equations
+mod Rules
+mod NodeRules
+mod Worked

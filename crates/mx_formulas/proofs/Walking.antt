@@ -36,7 +36,7 @@ walk_append [] ys ns go = refl
 walk_append (x ∷ xs) ys ns go =
     ap (λ (k : Namespace → Run). if nat_le 64 (length ns.at) then Ends NoSuch else stepped (out-Segment x) ns k) (fun_ext (λ next. walk_append xs ys next go))
 
-walked_push : (xs : List Segment) (s : Segment) (go : Namespace → Run) → walked (xs ++ s ∷ []) go ≡ walked_from (xs ++ s ∷ []) root go
+pub walked_push : (xs : List Segment) (s : Segment) (go : Namespace → Run) → walked (xs ++ s ∷ []) go ≡ walked_from (xs ++ s ∷ []) root go
 walked_push [] s go = refl
 walked_push (x ∷ xs) s go = refl
 
@@ -64,7 +64,7 @@ module _ (look : Key → KeyResult) where
 
   module _ (ns next : Namespace) (r : Reached ns) (s : Segment) (few : nat_le 64 (length ns.at) ≡ false) (es : List Event)
       (h : (go : Namespace → Run) → Leads (model_of look) (stepped (out-Segment s) ns go) es (go next)) (e : next.at ≡ ns.at ++ s ∷ []) where
-    further : (go : Namespace → Run) → Leads (model_of look) (walked_from (ns.at ++ s ∷ []) root go) (r.events ++ es) (go next)
+    pub further : (go : Namespace → Run) → Leads (model_of look) (walked_from (ns.at ++ s ∷ []) root go) (r.events ++ es) (go next)
     further go =
         let on : Leads (model_of look) (walked_from (s ∷ []) ns go) es (go next) =
         subst (λ run. Leads (model_of look) run es (go next)) (sym (one_step s ns go few)) (h go) in

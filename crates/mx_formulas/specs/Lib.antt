@@ -10,3 +10,4 @@ pub mod Expressions
 pub mod Statements
 pub mod Nodes
 pub mod Laws
+pub mod Rows
