@@ -1,11 +1,11 @@
-mod Keeping
-mod Forms
-mod Bodies
-mod Bound
-mod Walking
-mod Items
-mod Sound
-mod Equations
-mod Rules
-mod NodeRules
-mod Worked
+pub mod Keeping
+pub mod Forms
+pub mod Bodies
+pub mod Bound
+pub mod Walking
+pub mod Items
+pub mod Sound
+pub mod Equations
+pub mod Rules
+pub mod NodeRules
+pub mod Worked

@@ -47,7 +47,7 @@ module _ (look : Key → KeyResult) (ns : Namespace) (came : Came look ns) where
         leads_append (model_of look) _ _ _ came.events _ (came.leads (λ m. Tests (key.Cells m.source name) (cell_bound m name (bound f.params args) go)))
         (refl, ap (cell_bound ns name (bound f.params args) go) e ∙ bound_on f.params args (λ vs. go (Cell ns.at name vs)) q)
 
-    cell_binds : BindsTo (model_of look) (Cell ns.at name (bound f.params args)) (Cell ns.at name (bound f.params args))
+    pub cell_binds : BindsTo (model_of look) (Cell ns.at name (bound f.params args)) (Cell ns.at name (bound f.params args))
     cell_binds = record { events = came.events ++ Tested (key.Cells ns.source name) ∷ []; leads = cell_leads }
 
   -- an item of the space, with its arguments bound
@@ -62,7 +62,7 @@ module _ (look : Key → KeyResult) (ns : Namespace) (came : Came look ns) where
         (subst (λ run. Leads (model_of look) run (Tested (key.Params ns.source) ∷ []) (go (Item ns.at (bound ps.params args)))) (sym (sought_here go))
         (refl, ap (item_bound ns (bound ps.params args) go) e ∙ bound_on ps.params args (λ vs. go (Item ns.at vs)) q))
 
-    item_binds : BindsTo (model_of look) (Item ns.at (bound ps.params args)) (Item ns.at (bound ps.params args))
+    pub item_binds : BindsTo (model_of look) (Item ns.at (bound ps.params args)) (Item ns.at (bound ps.params args))
     item_binds = record { events = came.events ++ Tested (key.Params ns.source) ∷ []; leads = item_leads }
 
     -- and its own run looks up the parameters

@@ -1,0 +1,4 @@
+pub mod Walked
+pub mod Bound
+pub mod Staying
+pub mod States
