@@ -117,7 +117,7 @@ pub record Stands (look : Key → KeyResult) (env : Env) (e : Expr) (es : List E
 abbrev pub Comes : (Key → KeyResult) → Env → Expr → List Event → Value → Type 0
 Comes look env e es v = Stands look env e es (Called v)
 
-with_value : (look : Key → KeyResult) (env : Env) (e : Expr) (es : List Event) (v : Value) → Comes look env e es v → (go : Value → Run) → Leads (model_of look) (reading e env go) es (go v)
+pub with_value : (look : Key → KeyResult) (env : Env) (e : Expr) (es : List Event) (v : Value) → Comes look env e es v → (go : Value → Run) → Leads (model_of look) (reading e env go) es (go v)
 with_value look env e es v p go = p.leads (λ c. as_value c env go)
 
 pub lit : {look : Key → KeyResult} {env : Env} {v : Value} → Comes look env (expr.Lit v) [] v
@@ -308,12 +308,12 @@ module _ (look : Key → KeyResult) (env : Env) (ns : Namespace) (name : Label) 
   abbrev looking : Namespace → Run
   looking m = Looks (key.Cells m.source name) (cells_asked m name vs env go)
 
-  as_walk : called (Called (value.Cells (cells_at ns name))) vs env go ≡ walked ns.at looking
+  pub as_walk : called (Called (value.Cells (cells_at ns name))) vs env go ≡ walked ns.at looking
   as_walk =
       ap (λ content. value_called content vs env go) (out_cells (cells_at ns name))
       ∙ ap (λ (o : Open). walked o.space (λ m. Looks (key.Cells m.source o.name) (cells_asked m o.name vs env go))) (out-roll-CellsAt (record { space = ns.at; name = name }))
 
-  asking : cells_asked ns name vs env go (look (key.Cells ns.source name)) ≡ Asks (Cell ns.at name us) (λ r. go r.value)
+  pub asking : cells_asked ns name vs env go (look (key.Cells ns.source name)) ≡ Asks (Cell ns.at name us) (λ r. go r.value)
   asking =
       ap (cells_asked ns name vs env go) e
       ∙ ap (λ (b : Bool). if b then (if is_wrong_count f.params (length vs) then fault WrongCountInside env else Asks (Cell ns.at name (bound f.params vs)) (λ r. go r.value)) else fault TypeMismatch env) plain
@@ -337,10 +337,10 @@ space_events ns us r = Looked (key.Params ns.source) ∷ Asked (Item ns.at us) r
 
 module _ (look : Key → KeyResult) (env : Env) (ns : Namespace) (ps : Params) (vs us : List Value) (n : ends_with_name ns.at ≡ true) (e : look (key.Params ns.source) ≡ found.Params ps)
     (plain : list_all is_plain vs ≡ true) (count : is_wrong_count ps.params (length vs) ≡ false) (binds : bound ps.params vs ≡ us) (allowed : is_allowed (item_at ns us) ≡ true) (go : Value → Run) where
-  seeking : space_sought vs env go ns ≡ Looks (key.Params ns.source) (space_asked ns vs env go)
+  pub seeking : space_sought vs env go ns ≡ Looks (key.Params ns.source) (space_asked ns vs env go)
   seeking = ap (λ (b : Bool). if b then Looks (key.Params ns.source) (space_asked ns vs env go) else fault NotCallable env) n
 
-  asking_item : space_asked ns vs env go (look (key.Params ns.source)) ≡ Asks (Item ns.at us) (λ r. go r.value)
+  pub asking_item : space_asked ns vs env go (look (key.Params ns.source)) ≡ Asks (Item ns.at us) (λ r. go r.value)
   asking_item =
       ap (space_asked ns vs env go) e
       ∙ ap (λ (b : Bool). if b then (if is_wrong_count ps.params (length vs) then fault WrongCountInside env else item_asked ns env go (bound ps.params vs)) else fault TypeMismatch env) plain

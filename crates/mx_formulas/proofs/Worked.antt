@@ -34,23 +34,23 @@ use Rattle.mx_formulas.proofs.NodeRules.{RunsTo, means, static_run, within_run, 
 
 -- ---- of addresses and arguments
 
-ends : (name : Label) → ends_with_name (segment.Name name ∷ []) ≡ true
+pub ends : (name : Label) → ends_with_name (segment.Name name ∷ []) ≡ true
 ends name = ap (λ (s : Step). is_name s) (out_name name)
 
-one_name : (name : Label) → is_static (segment.Name name ∷ []) ≡ true
+pub one_name : (name : Label) → is_static (segment.Name name ∷ []) ≡ true
 one_name name = ap (λ (s : Step). is_name s && true) (out_name name)
 
-two_names : (name other : Label) → is_static (segment.Name name ∷ segment.Name other ∷ []) ≡ true
+pub two_names : (name other : Label) → is_static (segment.Name name ∷ segment.Name other ∷ []) ≡ true
 two_names name other = ap (λ (s : Step). is_name s && (is_name (out-Segment (segment.Name other)) && true)) (out_name name) ∙ ap (λ (s : Step). is_name s && true) (out_name other)
 
-has_item : (name : Label) (args : List Value) (at : List Segment) → is_static (segment.Name name ∷ segment.Item args ∷ at) ≡ false
+pub has_item : (name : Label) (args : List Value) (at : List Segment) → is_static (segment.Name name ∷ segment.Item args ∷ at) ≡ false
 has_item name args at =
     ap (λ (s : Step). is_name s && (is_name (out-Segment (segment.Item args)) && is_static at)) (out_name name) ∙ ap (λ (s : Step). is_name s && is_static at) (out_item args)
 
-one_bound : (name : Label) (n : ℤ) → bound (record { name = name; default = None } ∷ []) (Int n ∷ []) ≡ Int n ∷ []
+pub one_bound : (name : Label) (n : ℤ) → bound (record { name = name; default = None } ∷ []) (Int n ∷ []) ≡ Int n ∷ []
 one_bound name n = ap (λ (v : Value). v ∷ []) (normal_int n)
 
-small : (name : Label) (n : ℤ) → is_allowed (segment.Name name ∷ segment.Item (Int n ∷ []) ∷ []) ≡ true
+pub small : (name : Label) (n : ℤ) → is_allowed (segment.Name name ∷ segment.Item (Int n ∷ []) ∷ []) ≡ true
 small name n =
     ap (λ (size : ℕ). nat_le size 1_000_000)
     (size_space (segment.Name name ∷ segment.Item (Int n ∷ []) ∷ [])
@@ -123,7 +123,7 @@ formula_taken_over = means (static_run [] (one_name (codes "B")) (top (codes "B"
 
 -- ---- tables
 
-out_text : (bytes : List ℕ) → out-Value (Text bytes) ≡ Value-F.Text bytes
+pub out_text : (bytes : List ℕ) → out-Value (Text bytes) ≡ Value-F.Text bytes
 out_text bytes = search (values, rules)
 
 rate_at_30 : entry_of row.rates (Int (pos 30) ∷ Text row.rate ∷ []) ≡ Ok (Fix (pos 2500000))
@@ -148,7 +148,7 @@ abbrev basing_reply : Reply
 basing_reply = record { value = Space (row.s_item 4); namespace = Some basing_space }
 
 -- the base P gives its own path
-base_source : (n : Node) (over : Overlay) → source_or_fault (path_in (out-Value (Space (segment.Name (codes "P") ∷ [])))) n (item_given (child (codes "S") root) (Int (pos 4) ∷ []) over) ≡ item_given (child (codes "S") root) (Int (pos 4) ∷ []) over row.space_p
+pub base_source : (n : Node) (over : Overlay) → source_or_fault (path_in (out-Value (Space (segment.Name (codes "P") ∷ [])))) n (item_given (child (codes "S") root) (Int (pos 4) ∷ []) over) ≡ item_given (child (codes "S") root) (Int (pos 4) ∷ []) over row.space_p
 base_source n over =
     let go : List Label → Run = item_given (child (codes "S") root) (Int (pos 4) ∷ []) over in
     ap (λ (content : Content). source_or_fault (path_in content) n go) (out_space (segment.Name (codes "P") ∷ [])) ∙ ap (λ (s : Step). source_or_fault (with_name s (Some [])) n go) (out_name (codes "P"))

@@ -1,0 +1,9 @@
+mod Halting
+mod Rounds
+mod Hiding
+mod Multiplying
+mod Choosing
+mod Inheriting
+mod Nested
+mod Basing
+mod Circles
