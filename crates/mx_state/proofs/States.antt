@@ -1,5 +1,5 @@
 -- A right state stays right.
-use Rattle.std.proofs.Common.{◌≡◌, ℕ, ◌⊎◌, inl, inr, Bool, true, false, not, List, Some, None, Result, Ok, Err, refl, sym, ap, subst}
+use Rattle.std.proofs.Common.{◌≡◌, ℕ, ◌⊎◌, inl, inr, Bool, true, false, not, List, Some, None, Result, Ok, Err, refl, sym, ap, subst, arith}
 use Rattle.std.specs.Bool.{Decides}
 use Rattle.mx_value.specs.declared.node.Node.{Node}
 use Rattle.mx_value.specs.declared.read.Read.{Read}
@@ -74,6 +74,23 @@ bound_is_there text n p =
 
 held_as_bound : (text : ModelRecord) (n : Node) → BindsTo (model_of text) n n → HasArguments n → IsHeldAsBound (model_of text) n
 held_as_bound text n b h = let s = bound_is_there text n b in record { bound = b; has = h; place = s.place; there = s.there }
+
+-- ---- states without what is held
+
+pub begins_right : law.BeginsRight
+begins_right text limit valid l = record {
+  valid = valid;
+  memo = record {
+    right = record { means = λ e h. absurd h; own = λ n h. absurd h; once = tt; closed = λ n m h a. absurd h; room = omega arith };
+    records = λ e h. absurd h;
+    order = tt;
+  };
+  bound = λ e h. absurd h;
+  limit = l;
+}
+
+pub right_with_limit : law.RightWithLimit
+right_with_limit s limit right l = record { valid = right.valid; memo = right.memo; bound = right.bound; limit = l }
 
 -- ---- evaluations
 

@@ -1,10 +1,11 @@
 -- Laws of states.
-use Rattle.std.specs.Prelude.{◌≡◌, ◌+◌, ℕ, false, List, Option, Result, Ok, Err, length}
+use Rattle.std.specs.Prelude.{◌≡◌, ◌+◌, ◌≤◌, ℕ, false, List, [], ◌++◌, Option, Result, Ok, Err, length}
 use Rattle.mx_value.specs.declared.node.Node.{Node}
 use Rattle.mx_value.specs.declared.read.Read.{Read}
 use Rattle.mx_value.specs.declared.value.Value.{Value}
 use Rattle.mx_value.specs.declared.refusal.EvalRefusal.{EvalRefusal}
 use Rattle.mx_value.specs.declared.refusal.EvalRefusal.TheVariants as refusal
+use Rattle.mx_edit.specs.Entry.{Entry}
 use Rattle.mx_edit.specs.declared.edit.Edit.{Edit}
 use Rattle.mx_edit.specs.declared.reply.Reply.{Reply}
 use Rattle.mx_edit.specs.declared.scope.Scope.{Scope}
@@ -12,11 +13,13 @@ use Rattle.mx_runs.specs.Lists.{Has}
 use Rattle.mx_runs.specs.Runs.{Gives}
 use Rattle.mx_runs.specs.Inputs.{is_input, InputsEnd}
 use Rattle.mx_runs.specs.Meaning.{Means}
+use Rattle.mx_runs.specs.Chains.{Reaches}
 use Rattle.mx_runs.specs.Support.{HasSameKeys, TestsAreCovered}
 use Rattle.mx_runs.specs.Laws.{Agrees}
 use Rattle.mx_formulas.specs.Laws.{BindsTo}
 use Rattle.mx_answers.specs.Held.{nodes_of}
-use Rattle.mx_answers.specs.Answers.{IsSettled}
+use Rattle.mx_answers.specs.Records.{IsRightMemo}
+use Rattle.mx_answers.specs.Answers.{IsLimit, IsSettled}
 use Rattle.mx_answers.specs.Laws.{EndAlike}
 use Rattle.mx_model.specs.Apply.{Apply}
 use Rattle.mx_model.specs.Records.{ModelRecord}
@@ -73,6 +76,14 @@ BoundIsThere = (text : ModelRecord) (n : Node) → BindsTo (model_of text) n n �
 
 -- ---- right states
 
+-- nothing held is right for a valid text, with a limit that may be set
+abbrev pub BeginsRight : Type 0
+BeginsRight = (text : ModelRecord) (limit : ℕ) → Valid text → IsLimit limit → IsRightState (record { text = text; held = []; limit = limit })
+
+-- so is another such limit
+abbrev pub RightWithLimit : Type 0
+RightWithLimit = (s : State) (limit : ℕ) → IsRightState s → IsLimit limit → IsRightState (record s { limit = limit })
+
 -- A right state is right after an evaluation, where what is newly held has arguments.
 abbrev pub RightAfterEvaluation : Type 0
 RightAfterEvaluation = (s t : State) (n : Node) (a : Result Value EvalRefusal) (ticks : ℕ) → IsRightState s → Evaluates s n a ticks t → ((x : Node) → Has (nodes_of t.held) x → (Has (nodes_of s.held) x → ⊥) → HasArguments x) → IsRightState t
@@ -106,6 +117,11 @@ OneAnswer = (s t u : State) (n : Node) (a b : Result Value EvalRefusal) (ticks r
 -- two evaluations in a right state end alike, where one is settled and the other had memory
 abbrev pub OneStep : Type 0
 OneStep = (s t u : State) (n : Node) (a b : Result Value EvalRefusal) (ticks runs : ℕ) → IsRightState s → Evaluates s n a ticks t → Evaluates s n b runs u → IsSettled a → (b ≡ Err refusal.NoMemory → ⊥) → EndAlike a b t.held u.held ticks runs
+
+-- A node with a value is answered, where the limit allows it, and what is newly held are the records of what it reaches:
+-- such that all that is held is a right memo that has the node.
+abbrev pub ValueIsAnswered : Type 0
+ValueIsAnswered = (s : State) (n b : Node) (r : Reply) (more : List Entry) → IsAsked (model_of s.text) n b → Means (model_of s.text) b (Gives r) → IsRightMemo (model_of s.text) (s.held ++ more) → Has (nodes_of (s.held ++ more)) b → ((x : Node) → Has (nodes_of more) x → Reaches (model_of s.text) b x) → length more ≤ s.limit → Evaluates s n (Ok r.value) (length more) (record s { held = s.held ++ more })
 
 -- an evaluation that answers a value began the runs of the nodes that it newly holds, and no others
 abbrev pub ValueTicks : Type 0
