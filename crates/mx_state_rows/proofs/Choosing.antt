@@ -22,11 +22,11 @@ use Rattle.mx_state_rows.proofs.Rounds.{reads_are, two_reads}
 out_true : out-Value (Flag true) ≡ Value-F.Flag true
 out_true = search (values, rules)
 
-a_run : RunsTo (key_result choosing) (row.main_cell (codes "a") []) (row.literal_events (row.top (codes "Main")) main (codes "a") []) (Gives (row.gives (row.whole 1)))
+pub a_run : RunsTo (key_result choosing) (row.main_cell (codes "a") []) (row.literal_events (row.top (codes "Main")) main (codes "a") []) (Gives (row.gives (row.whole 1)))
 unfolding c3 merge
 a_run = static_run [] (one_name (codes "Main")) (top (codes "Main")) refl refl refl refl lit refl
 
-c_run : RunsTo (key_result choosing) (row.main_cell (codes "c") []) row.choice_events (Gives (row.gives (row.whole 1)))
+pub c_run : RunsTo (key_result choosing) (row.main_cell (codes "c") []) row.choice_events (Gives (row.gives (row.whole 1)))
 unfolding c3 merge
 c_run =
     static_run [] (one_name (codes "Main")) (top (codes "Main")) refl refl refl refl

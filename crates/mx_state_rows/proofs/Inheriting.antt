@@ -14,15 +14,15 @@ use Rattle.mx_state_rows.specs.Texts.{space_ab, space_sb, inheriting, inheriting
 use Rattle.mx_state_rows.specs.Rows as row
 use Rattle.mx_state_rows.proofs.Rounds.{reads_are, two_reads}
 
-ab_run : RunsTo (key_result inheriting) (Cell (row.two (codes "A") (codes "B")) (codes "v") []) (row.literal_events (row.two (codes "A") (codes "B")) space_ab (codes "v") []) (Gives (row.gives (row.whole 1)))
+pub ab_run : RunsTo (key_result inheriting) (Cell (row.two (codes "A") (codes "B")) (codes "v") []) (row.literal_events (row.two (codes "A") (codes "B")) space_ab (codes "v") []) (Gives (row.gives (row.whole 1)))
 unfolding c3 merge
 ab_run = static_run [] (two_names (codes "A") (codes "B")) (below (codes "B") (top (codes "A")) refl) refl refl refl refl lit refl
 
-sb_run : RunsTo (key_result inheriting) (Cell (row.two (codes "S") (codes "B")) (codes "v") []) (row.literal_events (row.two (codes "S") (codes "B")) space_sb (codes "v") []) (Gives (row.gives (row.whole 2)))
+pub sb_run : RunsTo (key_result inheriting) (Cell (row.two (codes "S") (codes "B")) (codes "v") []) (row.literal_events (row.two (codes "S") (codes "B")) space_sb (codes "v") []) (Gives (row.gives (row.whole 2)))
 unfolding c3 merge
 sb_run = static_run [] (two_names (codes "S") (codes "B")) (below (codes "B") (top (codes "S")) refl) refl refl refl refl lit refl
 
-a_run : RunsTo (key_result inheriting) (Cell (row.top (codes "A")) (codes "w") []) (row.w_events (codes "A") (codes "A") 1) (Gives (row.gives (row.whole 10)))
+pub a_run : RunsTo (key_result inheriting) (Cell (row.top (codes "A")) (codes "w") []) (row.w_events (codes "A") (codes "A") 1) (Gives (row.gives (row.whole 10)))
 unfolding c3 merge
 a_run =
     static_run [] (one_name (codes "A")) (top (codes "A")) refl refl refl refl
@@ -31,7 +31,7 @@ a_run =
     (call none (call_of_cells (below (codes "B") (top (codes "A")) refl) refl refl refl refl (means ab_run)) trail_end)))
     (times _ _ (joined_more _ _ lit refl joined_end))) refl
 
-s_run : RunsTo (key_result inheriting) (Cell (row.top (codes "S")) (codes "w") []) (row.w_events (codes "S") (codes "S") 2) (Gives (row.gives (row.whole 20)))
+pub s_run : RunsTo (key_result inheriting) (Cell (row.top (codes "S")) (codes "w") []) (row.w_events (codes "S") (codes "S") 2) (Gives (row.gives (row.whole 20)))
 unfolding c3 merge
 s_run =
     static_run [] (one_name (codes "S")) (top (codes "S")) refl refl refl refl
@@ -48,11 +48,11 @@ taken_over_reads =
     reads_are (model_of inheriting) (Cell (row.top (codes "S")) (codes "w") []) (row.w_events (codes "S") (codes "S") 2) (row.gives (row.whole 20)) _ s_run.leads
     (two_reads (row.top (codes "S")) (codes "b") (Cell (row.two (codes "S") (codes "B")) (codes "v") []))
 
-fixed_ab_run : RunsTo (key_result inheriting_fixed) (Cell (row.two (codes "A") (codes "B")) (codes "v") []) (row.literal_events (row.two (codes "A") (codes "B")) space_ab (codes "v") []) (Gives (row.gives (row.whole 1)))
+pub fixed_ab_run : RunsTo (key_result inheriting_fixed) (Cell (row.two (codes "A") (codes "B")) (codes "v") []) (row.literal_events (row.two (codes "A") (codes "B")) space_ab (codes "v") []) (Gives (row.gives (row.whole 1)))
 unfolding c3 merge
 fixed_ab_run = static_run [] (two_names (codes "A") (codes "B")) (below (codes "B") (top (codes "A")) refl) refl refl refl refl lit refl
 
-fixed_run : RunsTo (key_result inheriting_fixed) (Cell (row.top (codes "S")) (codes "w") []) (row.w_events (codes "S") (codes "A") 1) (Gives (row.gives (row.whole 10)))
+pub fixed_run : RunsTo (key_result inheriting_fixed) (Cell (row.top (codes "S")) (codes "w") []) (row.w_events (codes "S") (codes "A") 1) (Gives (row.gives (row.whole 10)))
 unfolding c3 merge
 fixed_run =
     static_run [] (one_name (codes "S")) (top (codes "S")) refl refl refl refl

@@ -1,9 +1,9 @@
-mod Halting
-mod Rounds
-mod Hiding
-mod Multiplying
-mod Choosing
-mod Inheriting
-mod Nested
-mod Basing
-mod Circles
+pub mod Halting
+pub mod Rounds
+pub mod Hiding
+pub mod Multiplying
+pub mod Choosing
+pub mod Inheriting
+pub mod Nested
+pub mod Basing
+pub mod Circles

@@ -50,13 +50,13 @@ use Rattle.mx_state_rows.proofs.Halting.{product_halts, no_name, static_halts, w
 use Rattle.mx_state_rows.proofs.Rounds.{reads_are}
 
 -- what holds of the arguments 2 and True
-flag_normal : normal_of (Flag true) ≡ Flag true
+pub flag_normal : normal_of (Flag true) ≡ Flag true
 flag_normal = ap normal_of (sym (value.rolls-Flag true)) ∙ para-roll-Value _ _ _ _ _ _ (Value-F.Flag true)
 
 flag_size : size_of (Flag true) ≡ 1
 flag_size = search (values, rules)
 
-flag_small : is_allowed (row.in_item (Flag true)) ≡ true
+pub flag_small : is_allowed (row.in_item (Flag true)) ≡ true
 flag_small =
     ap (λ (size : ℕ). nat_le size 1_000_000)
     (size_space (row.in_item (Flag true))
@@ -67,29 +67,29 @@ module _ (v : Value) (normal : normal_of v ≡ v) (allowed : is_allowed (row.in_
   abbrev binds : List Value
   binds = v ∷ []
 
-  item_run : RunsTo (key_result multiplying) (row.item v) (Looked (key.Params space_s) ∷ []) (Gives (row.item_reply (codes "x") v))
+  pub item_run : RunsTo (key_result multiplying) (row.item v) (Looked (key.Params space_s) ∷ []) (Gives (row.item_reply (codes "x") v))
   unfolding c3 merge
   item_run = bare_item (v ∷ []) (top (codes "S")) (ends (codes "S")) refl refl (ap (λ (u : Value). u ∷ []) normal) allowed
 
   abbrev space : Namespace
   space = record { at = row.in_item v; source = space_s; overlay = (codes "x", v) ∷ [] }
 
-  walk : Walks (key_result multiplying) space (item_events (child (codes "S") root) (v ∷ []) (row.item_reply (codes "x") v))
+  pub walk : Walks (key_result multiplying) space (item_events (child (codes "S") root) (v ∷ []) (row.item_reply (codes "x") v))
   unfolding c3 merge
   walk = inside (top (codes "S")) refl (ends (codes "S")) refl refl (ap (λ (u : Value). u ∷ []) normal) (means item_run) refl
 
 -- S[2].c(1)
-walk_two : Walks (key_result multiplying) (space (row.whole 2) (normal_int (pos 2)) (small (codes "S") (pos 2))) (item_events (child (codes "S") root) (row.whole 2 ∷ []) (row.item_reply (codes "x") (row.whole 2)))
+pub walk_two : Walks (key_result multiplying) (space (row.whole 2) (normal_int (pos 2)) (small (codes "S") (pos 2))) (item_events (child (codes "S") root) (row.whole 2 ∷ []) (row.item_reply (codes "x") (row.whole 2)))
 walk_two = walk (row.whole 2) (normal_int (pos 2)) (small (codes "S") (pos 2))
 
-two_run : RunsTo (key_result multiplying) (row.product_in (row.whole 2)) (Tested (key.Params space_s) ∷ Asked (row.item (row.whole 2)) (row.item_reply (codes "x") (row.whole 2)) ∷ Looked (key.Cells space_s (codes "c")) ∷ []) (Gives (row.gives (row.whole 2)))
+pub two_run : RunsTo (key_result multiplying) (row.product_in (row.whole 2)) (Tested (key.Params space_s) ∷ Asked (row.item (row.whole 2)) (row.item_reply (codes "x") (row.whole 2)) ∷ Looked (key.Cells space_s (codes "c")) ∷ []) (Gives (row.gives (row.whole 2)))
 unfolding c3 merge
 two_run =
     within_run (row.whole 1 ∷ []) (has_item (codes "S") (row.whole 2 ∷ []) []) walk_two refl refl (one_bound (codes "t") (pos 1))
     (product _ (name_sought refl (in_overlay refl)) (times _ _ (joined_more _ _ (local refl) refl joined_end))) refl
 
 -- S[True].c(1)
-true_run : RunsTo (key_result multiplying) (row.product_in (Flag true)) (Tested (key.Params space_s) ∷ Asked (row.item (Flag true)) (row.item_reply (codes "x") (Flag true)) ∷ Looked (key.Cells space_s (codes "c")) ∷ []) (Gives (row.gives (row.whole 1)))
+pub true_run : RunsTo (key_result multiplying) (row.product_in (Flag true)) (Tested (key.Params space_s) ∷ Asked (row.item (Flag true)) (row.item_reply (codes "x") (Flag true)) ∷ Looked (key.Cells space_s (codes "c")) ∷ []) (Gives (row.gives (row.whole 1)))
 unfolding c3 merge
 true_run =
     within_run (row.whole 1 ∷ []) (has_item (codes "S") (Flag true ∷ []) []) (walk (Flag true) flag_normal flag_small) refl refl (one_bound (codes "t") (pos 1))

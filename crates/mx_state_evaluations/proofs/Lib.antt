@@ -1,0 +1,4 @@
+mod Entries
+mod Products
+mod Choice
+mod Inherited

@@ -1,0 +1,88 @@
+-- The worked examples as evaluations: what is answered, how many runs begin, and what is held.
+use Rattle.std.specs.Prelude.{ℕ, pos, true, List, [], ◌∷◌, ◌++◌, Ok, codes}
+use Rattle.mx_value.specs.declared.value.Value.{Value}
+use Rattle.mx_value.specs.declared.value.Value.TheVariants.{Fix, Flag}
+use Rattle.mx_value.specs.declared.node.Node.{Node}
+use Rattle.mx_value.specs.declared.node.Node.TheVariants.{Cell}
+use Rattle.mx_value.specs.declared.read.Read.TheVariants as read
+use Rattle.mx_edit.specs.Entry.{Entry}
+use Rattle.mx_edit.specs.declared.key.Key.{Key}
+use Rattle.mx_edit.specs.declared.key.Key.TheVariants as key
+use Rattle.mx_model.specs.Records.{Path, ModelRecord}
+use Rattle.mx_state.specs.State.{State}
+use Rattle.mx_state.specs.Evaluations.{Evaluates}
+use Rattle.mx_state_rows.specs.Texts as text
+use Rattle.mx_state_rows.specs.Texts.{main, space_s}
+use Rattle.mx_state_rows.specs.Rows.{whole, gives, top, two, item, item_reply, product_in, main_cell}
+
+-- with these held, and the limit that a model begins with
+abbrev pub holding : ModelRecord → List Entry → State
+holding t held = record { text = t; held = held; limit = 5000 }
+
+-- ---- items of a space with a parameter
+
+-- what is held of S[v], and of c(1) in it, which gives this
+abbrev pub item_entry : Value → Entry
+item_entry v = record { node = item v; reply = item_reply (codes "x") v; keys = key.Params space_s ∷ []; asks = []; reads = [] }
+
+abbrev pub product_entry : Value → ℕ → Entry
+product_entry v n = record { node = product_in v; reply = gives (whole n); keys = key.Cells space_s (codes "c") ∷ []; asks = item v ∷ []; reads = read.Node (item v) ∷ [] }
+
+abbrev pub of_two : List Entry
+of_two = item_entry (whole 2) ∷ product_entry (whole 2) 2 ∷ []
+
+abbrev pub of_true : List Entry
+of_true = item_entry (Flag true) ∷ product_entry (Flag true) 1 ∷ []
+
+-- S[2].c(1) is 2 by two runs, S[2.0].c(1) is 2 by none, and S[True].c(1) is 1 by two
+pub record ItemsAreEvaluated : Type 0 where
+  pub first : Evaluates (holding text.multiplying []) (product_in (whole 2)) (Ok (whole 2)) 2 (holding text.multiplying of_two)
+  pub again : Evaluates (holding text.multiplying of_two) (product_in (Fix (pos 2000000000))) (Ok (whole 2)) 0 (holding text.multiplying of_two)
+  pub other : Evaluates (holding text.multiplying of_two) (product_in (Flag true)) (Ok (whole 1)) 2 (holding text.multiplying (of_two ++ of_true))
+
+-- ---- a choice reads no more than it takes
+
+-- what is held of cells of a literal
+abbrev pub literal_entry : Node → Path → List ℕ → ℕ → Entry
+literal_entry n path name k = record { node = n; reply = gives (whole k); keys = key.Input n ∷ key.Cells path name ∷ []; asks = []; reads = [] }
+
+abbrev pub a_cell : Node
+a_cell = main_cell (codes "a") []
+
+abbrev pub c_cell : Node
+c_cell = main_cell (codes "c") []
+
+abbrev pub choice_keys : List Key
+choice_keys = key.Input c_cell ∷ key.Cells main (codes "c") ∷ key.Name main (codes "flag") ∷ key.Name main (codes "a") ∷ key.Cells main (codes "a") ∷ []
+
+abbrev pub choice_entry : Entry
+choice_entry = record { node = c_cell; reply = gives (whole 1); keys = choice_keys; asks = a_cell ∷ []; reads = read.Ref (top (codes "Main")) (codes "flag") ∷ read.Node a_cell ∷ [] }
+
+-- c() is 1 by two runs: b() is not held
+abbrev pub ChoiceIsEvaluated : Type 0
+ChoiceIsEvaluated = Evaluates (holding text.choosing []) c_cell (Ok (whole 1)) 2 (holding text.choosing (literal_entry a_cell main (codes "a") 1 ∷ choice_entry ∷ []))
+
+-- ---- a formula that a space takes over looks names up where it runs
+
+abbrev pub w_cell : List ℕ → Node
+w_cell here = Cell (top here) (codes "w") []
+
+abbrev pub v_cell : List ℕ → Node
+v_cell here = Cell (two here (codes "B")) (codes "v") []
+
+abbrev pub w_keys : List ℕ → List Key
+w_keys here =
+    key.Input (w_cell here) ∷ key.Cells (here ∷ []) (codes "w") ∷ key.Name (here ∷ []) (codes "b") ∷ key.Exists (here ∷ codes "B" ∷ [])
+    ∷ key.Name (here ∷ codes "B" ∷ []) (codes "v") ∷ key.Cells (here ∷ codes "B" ∷ []) (codes "v") ∷ []
+
+abbrev pub w_entry : List ℕ → ℕ → Entry
+w_entry here n = record { node = w_cell here; reply = gives (whole n); keys = w_keys here; asks = v_cell here ∷ []; reads = read.Ref (top here) (codes "b") ∷ read.Node (v_cell here) ∷ [] }
+
+-- v() and w() of a space at the top, which give these
+abbrev pub of_space : List ℕ → ℕ → ℕ → List Entry
+of_space here v w = literal_entry (v_cell here) (here ∷ codes "B" ∷ []) (codes "v") v ∷ w_entry here w ∷ []
+
+-- A.w() is 10 by two runs, and then S.w() is 20 by two
+pub record TakenOverIsEvaluated : Type 0 where
+  pub first : Evaluates (holding text.inheriting []) (w_cell (codes "A")) (Ok (whole 10)) 2 (holding text.inheriting (of_space (codes "A") 1 10))
+  pub then_other : Evaluates (holding text.inheriting (of_space (codes "A") 1 10)) (w_cell (codes "S")) (Ok (whole 20)) 2 (holding text.inheriting (of_space (codes "A") 1 10 ++ of_space (codes "S") 2 20))
