@@ -32,8 +32,8 @@ use Rattle.mx_answers.proofs.Clearing.{sifted_by_scope}
 use Rattle.mx_model.specs.Records.{ModelRecord}
 use Rattle.mx_model.specs.Keys.{key_result, is_changed}
 use Rattle.mx_state.specs.Model.{model_of}
-use Rattle.mx_state.specs.Proper.{HasArguments, IsPlace}
-use Rattle.mx_state.specs.State.{State, IsHeldAsBound, IsRightState}
+use Rattle.mx_state.specs.Proper.{HasArguments, IsProper, IsPlace}
+use Rattle.mx_state.specs.State.{State, IsHeldAsBound, IsRightState, AreProper}
 use Rattle.mx_state.specs.Evaluations.{IsAsked, AsBound, AsWritten, Evaluates, TellsReads}
 use Rattle.mx_state.specs.Laws as law
 use Rattle.mx_state.proofs.Bound.{inputs_end, one_bound_form as one_over, bound_as, value_bound}
@@ -72,8 +72,8 @@ bound_is_there text n p =
     let a = bound_as (key_result text) n n p in
     record { place = subst IsPlace (sym a.at) a.place; there = record { space = a.space; events = a.before; leads = a.walks } }
 
-held_as_bound : (text : ModelRecord) (n : Node) → BindsTo (model_of text) n n → HasArguments n → IsHeldAsBound (model_of text) n
-held_as_bound text n b h = let s = bound_is_there text n b in record { bound = b; has = h; place = s.place; there = s.there }
+held_as_bound : (text : ModelRecord) (n : Node) → BindsTo (model_of text) n n → IsHeldAsBound (model_of text) n
+held_as_bound text n b = let s = bound_is_there text n b in record { bound = b; place = s.place; there = s.there }
 
 -- ---- states without what is held
 
@@ -144,8 +144,7 @@ new_binds text n b x a w =
       | inr k ↦ asked_is_bound (key_result text) k.by x k.asks
     ]
 
-module _ (s t : State) (n : Node) (a : Result Value EvalRefusal) (ticks : ℕ) (right : IsRightState s) (ev : Evaluates s n a ticks t)
-    (arguments : (x : Node) → Has (nodes_of t.held) x → (Has (nodes_of s.held) x → ⊥) → HasArguments x) where
+module _ (s t : State) (n : Node) (a : Result Value EvalRefusal) (ticks : ℕ) (right : IsRightState s) (ev : Evaluates s n a ticks t) where
   abbrev evaluation : Evaluation
   evaluation = record { node = ev.node; held = s.held; limit = s.limit }
 
@@ -155,7 +154,7 @@ module _ (s t : State) (n : Node) (a : Result Value EvalRefusal) (ticks : ℕ) (
         | inl i ↦ let f = entry_of s.held e.node i in subst (λ x. IsHeldAsBound (model_of s.text) x) f.is (right.bound f.item f.among)
         | inr out ↦
             let new = newly_held (model_of s.text) evaluation a t.held ticks ev.answers e.node (named t.held e h) out in
-            held_as_bound s.text e.node (new_binds s.text n ev.node e.node ev.asked new) (arguments e.node (named t.held e h) out)
+            held_as_bound s.text e.node (new_binds s.text n ev.node e.node ev.asked new)
       ]
 
   abbrev with_text : ModelRecord → Type 0
@@ -169,8 +168,15 @@ module _ (s t : State) (n : Node) (a : Result Value EvalRefusal) (ticks : ℕ) (
     limit = subst IsLimit (sym ev.limit) right.limit;
   })
 
+  proper_after : AreProper s → ((x : Node) → Has (nodes_of t.held) x → (Has (nodes_of s.held) x → ⊥) → HasArguments x) → AreProper t
+  proper_after proper arguments e h =
+      elim (among_or_not e.node (nodes_of s.held)) [
+        | inl i ↦ let f = entry_of s.held e.node i in subst IsProper f.is (proper f.item f.among)
+        | inr out ↦ record { has = arguments e.node (named t.held e h) out; small = (held_bound e h).place.small }
+      ]
+
 pub right_after_evaluation : law.RightAfterEvaluation
-right_after_evaluation s t n a ticks right ev arguments = right_after s t n a ticks right ev arguments
+right_after_evaluation s t n a ticks right ev = record { right = right_after s t n a ticks right ev; proper = proper_after s t n a ticks right ev }
 
 -- ---- edits
 
@@ -197,7 +203,6 @@ bound_still before after held e memo h same b =
     (binds_still (key_result before) (key_result after) e.node e.node
     (keys_unchanged (model_of before) (key_result after) e.node e.reply (tests_are_covered (key_result before)) (memo.right.means e h) same)
     (memo.right.own e.node (named held e h)) b.bound)
-    b.has
 
 pub right_after_edit : law.RightAfterEdit
 right_after_edit s t e right accepted valid sifted =
@@ -209,6 +214,7 @@ right_after_edit s t e right accepted valid sifted =
         bound = λ d h. let q = r.retains.only d h in bound_still s.text t.text s.held d right.memo q.0 q.1 (right.bound d q.0);
         limit = subst IsLimit (sym sifted.limit) right.limit;
       };
+      proper = λ p d h. p d (r.retains.only d h).0;
       edits = record { accepted = accepted; retains = r.retains; limit = sifted.limit };
     }
 
@@ -225,6 +231,7 @@ right_after_clearing s t scope right sifted =
         bound = λ d h. right.bound d (r.clears.only d h).0;
         limit = subst IsLimit (sym sifted.limit) right.limit;
       });
+      proper = λ p d h. p d (r.clears.only d h).0;
       clearing = record { clears = r.clears; text = sifted.text; limit = sifted.limit };
     }
 

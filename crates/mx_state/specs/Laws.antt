@@ -27,7 +27,7 @@ use Rattle.mx_model.specs.Keys.{key_result}
 use Rattle.mx_model.specs.Valid.{Valid}
 use Rattle.mx_state.specs.Model.{model_of}
 use Rattle.mx_state.specs.Proper.{HasArguments, IsPlace, IsThere, address_of}
-use Rattle.mx_state.specs.State.{State, IsRightState}
+use Rattle.mx_state.specs.State.{State, IsRightState, AreProper}
 use Rattle.mx_state.specs.Evaluations.{IsAsked, Evaluates, HasPrecedents, HasBoundForm}
 use Rattle.mx_state.specs.Changes.{Edits, IsSifted, Clearing, IsSiftedByScope}
 
@@ -84,13 +84,19 @@ BeginsRight = (text : ModelRecord) (limit : ℕ) → Valid text → IsLimit limi
 abbrev pub RightWithLimit : Type 0
 RightWithLimit = (s : State) (limit : ℕ) → IsRightState s → IsLimit limit → IsRightState (record s { limit = limit })
 
--- A right state is right after an evaluation, where what is newly held has arguments.
+-- A right state is right after an evaluation. Its nodes are such as may be handed in where they were before, and where
+-- those that are newly held have arguments.
+pub record IsEvaluated (s t : State) : Type 0 where
+  pub right : IsRightState t
+  pub proper : AreProper s → ((x : Node) → Has (nodes_of t.held) x → (Has (nodes_of s.held) x → ⊥) → HasArguments x) → AreProper t
+
 abbrev pub RightAfterEvaluation : Type 0
-RightAfterEvaluation = (s t : State) (n : Node) (a : Result Value EvalRefusal) (ticks : ℕ) → IsRightState s → Evaluates s n a ticks t → ((x : Node) → Has (nodes_of t.held) x → (Has (nodes_of s.held) x → ⊥) → HasArguments x) → IsRightState t
+RightAfterEvaluation = (s t : State) (n : Node) (a : Result Value EvalRefusal) (ticks : ℕ) → IsRightState s → Evaluates s n a ticks t → IsEvaluated s t
 
 -- what was held, sifted by the changed keys, is right for the edited text, where that is valid, and is what the edit makes
 pub record IsEdited (s : State) (e : Edit) (t : State) : Type 0 where
   pub right : IsRightState t
+  pub proper : AreProper s → AreProper t
   pub edits : Edits s e t
 
 abbrev pub RightAfterEdit : Type 0
@@ -99,6 +105,7 @@ RightAfterEdit = (s t : State) (e : Edit) → IsRightState s → Apply s.text e 
 -- the same of a clearing
 pub record IsCleared (s : State) (scope : Scope) (t : State) : Type 0 where
   pub right : IsRightState t
+  pub proper : AreProper s → AreProper t
   pub clearing : Clearing s scope t
 
 abbrev pub RightAfterClearing : Type 0

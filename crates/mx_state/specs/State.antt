@@ -10,7 +10,7 @@ use Rattle.mx_answers.specs.Answers.{IsLimit}
 use Rattle.mx_model.specs.Records.{ModelRecord}
 use Rattle.mx_model.specs.Valid.{Valid}
 use Rattle.mx_state.specs.Model.{model_of}
-use Rattle.mx_state.specs.Proper.{HasArguments, IsPlace, IsThere, address_of}
+use Rattle.mx_state.specs.Proper.{IsProper, IsPlace, IsThere, address_of}
 
 -- the model text, what is held, and how many nodes a chain may have
 pub record State : Type 0 where
@@ -18,10 +18,9 @@ pub record State : Type 0 where
   pub held : List Entry
   pub limit : ℕ
 
--- A held node is its own bound form, it has arguments, its address is one that can be there, and its space is there.
+-- A held node is its own bound form, its address is one that can be there, and its space is there.
 pub record IsHeldAsBound (model : Model) (n : Node) : Type 0 where
   pub bound : BindsTo model n n
-  pub has : HasArguments n
   pub place : IsPlace (address_of n)
   pub there : IsThere model (address_of n)
 
@@ -33,3 +32,7 @@ pub record IsRightState (s : State) : Type 0 where
   pub memo : IsRightMemo (model_of s.text) s.held
   pub bound : (e : Entry) → Has s.held e → IsHeldAsBound (model_of s.text) e.node
   pub limit : IsLimit s.limit
+
+-- each held node is one that may be handed in
+abbrev pub AreProper : State → Type 0
+AreProper s = (e : Entry) → Has s.held e → IsProper e.node
