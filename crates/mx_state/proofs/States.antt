@@ -188,7 +188,7 @@ told_differs : (b : Bool) {P : Type 0} → Decides b P → not b ≡ true → P 
 told_differs true d e p = cc
 told_differs false d e p = let i : false ≡ true = d.1 p in cc
 
-changes_told : (before after : ModelRecord) → Tells (key_result before) (key_result after) (is_changed before after)
+pub changes_told : (before after : ModelRecord) → Tells (key_result before) (key_result after) (is_changed before after)
 changes_told before after =
     let decides : (k : Key) → Decides (key_result_eq (key_result before k) (key_result after k)) (key_result before k ≡ key_result after k) = λ k. key_result_decides (key_result before k) (key_result after k) in
     record {

@@ -44,26 +44,26 @@ w_own : (here : Label) → is_input m (w_cell here) ≡ false
 w_own here = ap (λ (b : Bool). b && is_value (m.look (key.Input (w_cell here)))) (one_name here)
 
 -- the run of w() before its ask
-abbrev before : Label → List Event
-before here =
+abbrev pub before : Label → Label → List Event
+before here there =
     Looked (key.Input (w_cell here)) ∷ Looked (key.Cells (here ∷ []) (codes "w")) ∷ Looked (key.Name (here ∷ []) (codes "b")) ∷ Noted (read.Ref (row.top here) (codes "b"))
-    ∷ Looked (key.Exists (here ∷ codes "B" ∷ [])) ∷ Looked (key.Name (here ∷ codes "B" ∷ []) (codes "v")) ∷ Looked (key.Cells (here ∷ codes "B" ∷ []) (codes "v")) ∷ []
+    ∷ Looked (key.Exists (there ∷ codes "B" ∷ [])) ∷ Looked (key.Name (there ∷ codes "B" ∷ []) (codes "v")) ∷ Looked (key.Cells (there ∷ codes "B" ∷ []) (codes "v")) ∷ []
 
-av_record : IsRecordOf m (literal_entry (v_cell (codes "A")) space_ab (codes "v") 1)
+pub av_record : IsRecordOf m (literal_entry (v_cell (codes "A")) space_ab (codes "v") 1)
 av_record = asks_nothing m (literal_entry (v_cell (codes "A")) space_ab (codes "v") 1) (row.literal_events (row.two (codes "A") (codes "B")) space_ab (codes "v") []) ab_run.leads refl refl refl refl refl refl
 
-sv_record : IsRecordOf m (literal_entry (v_cell (codes "S")) space_sb (codes "v") 2)
+pub sv_record : IsRecordOf m (literal_entry (v_cell (codes "S")) space_sb (codes "v") 2)
 sv_record = asks_nothing m (literal_entry (v_cell (codes "S")) space_sb (codes "v") 2) (row.literal_events (row.two (codes "S") (codes "B")) space_sb (codes "v") []) sb_run.leads refl refl refl refl refl refl
 
-aw_record : IsRecordOf m (w_entry (codes "A") 10)
+pub aw_record : IsRecordOf m (w_entry (codes "A") (codes "A") 10)
 aw_record =
-    asks_one m (w_entry (codes "A") 10) (v_cell (codes "A")) (row.w_events (codes "A") (codes "A") 1) a_run.leads (keys_last m (v_cell (codes "A")) (row.gives (row.whole 1)) (v_own (codes "A")) (before (codes "A"))) refl
-    (asks_last m (v_cell (codes "A")) (row.gives (row.whole 1)) (v_own (codes "A")) (before (codes "A"))) refl refl refl
+    asks_one m (w_entry (codes "A") (codes "A") 10) (v_cell (codes "A")) (row.w_events (codes "A") (codes "A") 1) a_run.leads (keys_last m (v_cell (codes "A")) (row.gives (row.whole 1)) (v_own (codes "A")) (before (codes "A") (codes "A"))) refl
+    (asks_last m (v_cell (codes "A")) (row.gives (row.whole 1)) (v_own (codes "A")) (before (codes "A") (codes "A"))) refl refl refl
 
-sw_record : IsRecordOf m (w_entry (codes "S") 20)
+pub sw_record : IsRecordOf m (w_entry (codes "S") (codes "S") 20)
 sw_record =
-    asks_one m (w_entry (codes "S") 20) (v_cell (codes "S")) (row.w_events (codes "S") (codes "S") 2) s_run.leads (keys_last m (v_cell (codes "S")) (row.gives (row.whole 2)) (v_own (codes "S")) (before (codes "S"))) refl
-    (asks_last m (v_cell (codes "S")) (row.gives (row.whole 2)) (v_own (codes "S")) (before (codes "S"))) refl refl refl
+    asks_one m (w_entry (codes "S") (codes "S") 20) (v_cell (codes "S")) (row.w_events (codes "S") (codes "S") 2) s_run.leads (keys_last m (v_cell (codes "S")) (row.gives (row.whole 2)) (v_own (codes "S")) (before (codes "S") (codes "S"))) refl
+    (asks_last m (v_cell (codes "S")) (row.gives (row.whole 2)) (v_own (codes "S")) (before (codes "S") (codes "S"))) refl refl refl
 
 -- ---- the nodes differ
 
@@ -71,7 +71,7 @@ abbrev cells_name : Node → Label
 cells_name (Cell at name args) = name
 cells_name (Item at args) = []
 
-v_not_w : (a b : Label) → w_cell a ≡ v_cell b → ⊥
+pub v_not_w : (a b : Label) → w_cell a ≡ v_cell b → ⊥
 v_not_w a b e = let h : true ≡ false = ap (λ n. same_name (cells_name n) (codes "w")) e in cc
 
 abbrev name_in : Step → Label
@@ -132,7 +132,7 @@ all_distinct = (
   ),
 )
 
-all_memo : IsRightMemo m (of_a ++ of_s)
+pub all_memo : IsRightMemo m (of_a ++ of_s)
 all_memo =
     right_memo m (of_a ++ of_s) (av_record, (aw_record, (sv_record, (sw_record, tt))))
     ((λ x h. h), ((λ x h. elim h [ inl e ↦ inl e | inr z ↦ absurd z ]), ((λ x h. absurd h), ((λ x h. elim h [ inl e ↦ inl e | inr z ↦ absurd z ]), tt))))
@@ -155,7 +155,7 @@ a_reached x h =
       | inr r ↦ elim r [ inl e ↦ subst (λ y. Reaches m (w_cell (codes "A")) y) e Itself | inr z ↦ absurd z ]
     ]
 
-s_reached : (x : Node) → Has (nodes_of of_s) x → Reaches m (w_cell (codes "S")) x
+pub s_reached : (x : Node) → Has (nodes_of of_s) x → Reaches m (w_cell (codes "S")) x
 s_reached x h =
     elim h [
       | inl e ↦ subst (λ y. Reaches m (w_cell (codes "S")) y) e (Through (v_cell (codes "S")) (asked_is_ask m (w_cell (codes "S")) _ (row.w_events (codes "S") (codes "S") 2) s_run.leads (v_cell (codes "S")) (inl refl)) Itself)

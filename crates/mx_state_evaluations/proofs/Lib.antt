@@ -2,3 +2,4 @@ mod Entries
 mod Products
 mod Choice
 mod Inherited
+mod Fixed

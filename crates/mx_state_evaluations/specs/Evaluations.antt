@@ -8,7 +8,10 @@ use Rattle.mx_value.specs.declared.read.Read.TheVariants as read
 use Rattle.mx_edit.specs.Entry.{Entry}
 use Rattle.mx_edit.specs.declared.key.Key.{Key}
 use Rattle.mx_edit.specs.declared.key.Key.TheVariants as key
+use Rattle.mx_answers.specs.Retention.{Retains}
 use Rattle.mx_model.specs.Records.{Path, ModelRecord}
+use Rattle.mx_model.specs.Keys.{key_result}
+use Rattle.mx_state.specs.Model.{model_of}
 use Rattle.mx_state.specs.State.{State}
 use Rattle.mx_state.specs.Evaluations.{Evaluates}
 use Rattle.mx_state_rows.specs.Texts as text
@@ -70,19 +73,35 @@ w_cell here = Cell (top here) (codes "w") []
 abbrev pub v_cell : List ℕ → Node
 v_cell here = Cell (two here (codes "B")) (codes "v") []
 
-abbrev pub w_keys : List ℕ → List Key
-w_keys here =
-    key.Input (w_cell here) ∷ key.Cells (here ∷ []) (codes "w") ∷ key.Name (here ∷ []) (codes "b") ∷ key.Exists (here ∷ codes "B" ∷ [])
-    ∷ key.Name (here ∷ codes "B" ∷ []) (codes "v") ∷ key.Cells (here ∷ codes "B" ∷ []) (codes "v") ∷ []
+-- of w() of a space at the top, where b leads below that space or another one
+abbrev pub w_keys : List ℕ → List ℕ → List Key
+w_keys here there =
+    key.Input (w_cell here) ∷ key.Cells (here ∷ []) (codes "w") ∷ key.Name (here ∷ []) (codes "b") ∷ key.Exists (there ∷ codes "B" ∷ [])
+    ∷ key.Name (there ∷ codes "B" ∷ []) (codes "v") ∷ key.Cells (there ∷ codes "B" ∷ []) (codes "v") ∷ []
 
-abbrev pub w_entry : List ℕ → ℕ → Entry
-w_entry here n = record { node = w_cell here; reply = gives (whole n); keys = w_keys here; asks = v_cell here ∷ []; reads = read.Ref (top here) (codes "b") ∷ read.Node (v_cell here) ∷ [] }
+abbrev pub w_entry : List ℕ → List ℕ → ℕ → Entry
+w_entry here there n = record { node = w_cell here; reply = gives (whole n); keys = w_keys here there; asks = v_cell there ∷ []; reads = read.Ref (top here) (codes "b") ∷ read.Node (v_cell there) ∷ [] }
+
+abbrev pub v_entry : List ℕ → ℕ → Entry
+v_entry here n = literal_entry (v_cell here) (here ∷ codes "B" ∷ []) (codes "v") n
 
 -- v() and w() of a space at the top, which give these
 abbrev pub of_space : List ℕ → ℕ → ℕ → List Entry
-of_space here v w = literal_entry (v_cell here) (here ∷ codes "B" ∷ []) (codes "v") v ∷ w_entry here w ∷ []
+of_space here v w = v_entry here v ∷ w_entry here here w ∷ []
 
 -- A.w() is 10 by two runs, and then S.w() is 20 by two
 pub record TakenOverIsEvaluated : Type 0 where
   pub first : Evaluates (holding text.inheriting []) (w_cell (codes "A")) (Ok (whole 10)) 2 (holding text.inheriting (of_space (codes "A") 1 10))
   pub then_other : Evaluates (holding text.inheriting (of_space (codes "A") 1 10)) (w_cell (codes "S")) (Ok (whole 20)) 2 (holding text.inheriting (of_space (codes "A") 1 10 ++ of_space (codes "S") 2 20))
+
+-- what is held of both spaces, and what of it the edit keeps that fixes the target
+abbrev pub of_both : List Entry
+of_both = of_space (codes "A") 1 10 ++ of_space (codes "S") 2 20
+
+abbrev pub kept : List Entry
+kept = v_entry (codes "A") 1 ∷ v_entry (codes "S") 2 ∷ []
+
+-- after it S.w() is 10 by one run, since A.B.v() is held
+pub record FixedTargetIsEvaluated : Type 0 where
+  pub retains : Retains (model_of text.inheriting) (key_result text.inheriting_fixed) of_both kept
+  pub again : Evaluates (holding text.inheriting_fixed kept) (w_cell (codes "S")) (Ok (whole 10)) 1 (holding text.inheriting_fixed (kept ++ w_entry (codes "S") (codes "A") 10 ∷ []))

@@ -1,9 +1,10 @@
 //! What evaluations answer and hold. Each is proved as what a function ensures that does nothing.
-ghost use Rattle.mx_state_evaluations.specs.Evaluations.{ItemsAreEvaluated, ChoiceIsEvaluated, TakenOverIsEvaluated};
+ghost use Rattle.mx_state_evaluations.specs.Evaluations.{ItemsAreEvaluated, ChoiceIsEvaluated, TakenOverIsEvaluated, FixedTargetIsEvaluated};
 
 /// The worked examples: their answers, the number of runs that begin, and what is held after them.
 pub fn evaluations()
     ensures items { ItemsAreEvaluated }
     ensures choice { ChoiceIsEvaluated }
     ensures taken_over { TakenOverIsEvaluated }
+    ensures fixed { FixedTargetIsEvaluated }
 {}
