@@ -25,9 +25,9 @@ use Rattle.mx_state.specs.Evaluations.{AsBound}
 use Rattle.mx_state.proofs.Evaluated.{value_is_answered}
 use Rattle.mx_state_rows.specs.Texts.{main, choosing}
 use Rattle.mx_state_rows.specs.Rows as row
-use Rattle.mx_state_rows.proofs.Choosing.{a_run, c_run}
-use Rattle.mx_state_evaluations.specs.Evaluations.{holding, literal_entry, choice_entry, a_cell, c_cell, ChoiceIsEvaluated}
-use Rattle.mx_state_evaluations.proofs.Entries.{asks_nothing, asks_one, keys_last, asks_last, right_memo, self_bound}
+use Rattle.mx_state_rows.proofs.Choosing.{a_run, c_run, choice_reads_one}
+use Rattle.mx_state_evaluations.specs.Evaluations.{holding, literal_entry, choice_entry, a_cell, c_cell, ChoiceIsEvaluated, ChoiceHasPrecedents}
+use Rattle.mx_state_evaluations.proofs.Entries.{asks_nothing, asks_one, keys_last, asks_last, right_memo, self_bound, reads_told}
 
 own : (name : Label) → is_input (model_of choosing) (row.main_cell name []) ≡ false
 own name = ap (λ (b : Bool). b && is_value ((model_of choosing).look (key.Input (row.main_cell name [])))) (one_name (codes "Main"))
@@ -74,3 +74,6 @@ reached x h =
 
 pub choice_is_evaluated : ChoiceIsEvaluated
 choice_is_evaluated = value_is_answered (holding choosing []) c_cell c_cell (row.gives (row.whole 1)) both_held (AsBound c_bound) (means c_run) memo (inr (inl refl)) reached (omega arith)
+
+pub choice_has_precedents : ChoiceHasPrecedents
+choice_has_precedents = reads_told (holding choosing []) (holding choosing both_held) c_cell c_cell (row.whole 1) 2 _ choice_is_evaluated (AsBound c_bound) choice_reads_one

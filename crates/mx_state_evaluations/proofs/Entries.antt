@@ -1,5 +1,5 @@
 -- Records, and right memos of them.
-use Rattle.std.proofs.Common.{◌≡◌, ℕ, ◌≤◌, Bool, true, false, not, ◌&&◌, if◌then◌else◌, inl, inr, List, [], ◌∷◌, ◌++◌, length, refl, sym, ◌∙◌, ap, subst}
+use Rattle.std.proofs.Common.{◌≡◌, Ok, ℕ, ◌≤◌, Bool, true, false, not, ◌&&◌, if◌then◌else◌, inl, inr, List, [], ◌∷◌, ◌++◌, length, refl, sym, ◌∙◌, ap, subst}
 use Rattle.std.specs.Bool.{Decides}
 use Rattle.mx_value.specs.Name.{same_name}
 use Rattle.mx_value.specs.declared.node.Node.{Node}
@@ -28,8 +28,12 @@ use Rattle.mx_formulas.specs.Binding.{cell_bound}
 use Rattle.mx_formulas.specs.Laws.{model_of, BindsTo}
 use Rattle.mx_formulas.proofs.Rules.{Walks}
 use Rattle.mx_answers.specs.Held.{most_held, nodes_of}
-use Rattle.mx_answers.specs.Records.{IsRecordOf, IsRightMemo, AskBefore, recorded_keys, recorded_asks, reads_of}
+use Rattle.mx_answers.specs.Records.{IsRecordOf, HasReads, IsRightMemo, AskBefore, recorded_keys, recorded_asks, reads_of}
 use Rattle.mx_answers.proofs.Sifting.{records_right}
+use Rattle.mx_state.specs.Model.{model_of as state_model}
+use Rattle.mx_state.specs.State.{State}
+use Rattle.mx_state.specs.Evaluations.{IsAsked, Evaluates, HasPrecedents}
+use Rattle.mx_state.proofs.States.{one_is_asked}
 
 -- ---- each once, told by tags
 
@@ -168,4 +172,14 @@ self_bound {look = look} {ns = ns} {es = es} {f = f} name vs w e count binds = r
       let on : Namespace → Run = λ m. Tests (key.Cells m.source name) (cell_bound m name vs go) in
       leads_append (model_of look) (walked ns.at on) (on ns) (go (Cell ns.at name vs)) es (Tested (key.Cells ns.source name) ∷ []) (w.leads on)
       (refl, ap (cell_bound ns name vs go) e ∙ ap (λ (b : Bool). if b then Ends WrongCount else go (Cell ns.at name (bound f.params vs))) count ∙ ap (λ (us : List Value). go (Cell ns.at name us)) binds);
+}
+
+-- ---- precedents
+
+-- an evaluation with a value tells the reads of the node that is asked
+pub reads_told : (s t : State) (n b : Node) (v : Value) (ticks : ℕ) (reads : List Read) → Evaluates s n (Ok v) ticks t → IsAsked (state_model s.text) n b → HasReads (state_model s.text) b reads → HasPrecedents s n (Ok reads) ticks t
+reads_told s t n b v ticks reads ev asked h = record {
+  value = Ok v;
+  evaluates = ev;
+  tells = subst (λ x. HasReads (state_model s.text) x reads) (one_is_asked s.text n b ev.node asked ev.asked) h;
 }

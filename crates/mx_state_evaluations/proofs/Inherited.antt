@@ -1,5 +1,5 @@
 -- A formula that a space takes over, evaluated.
-use Rattle.std.proofs.Common.{◌≡◌, Bool, true, false, ◌&&◌, inl, inr, List, [], ◌∷◌, ◌++◌, refl, sym, ◌∙◌, ap, subst, arith, codes}
+use Rattle.std.proofs.Common.{◌≡◌, Ok, Bool, true, false, ◌&&◌, inl, inr, List, [], ◌∷◌, ◌++◌, refl, sym, ◌∙◌, ap, subst, arith, codes}
 use Rattle.mx_c3.specs.Merge.{merge}
 use Rattle.mx_c3.specs.Linearisation.{c3}
 use Rattle.mx_value.specs.Name.{same_name}
@@ -26,13 +26,13 @@ use Rattle.mx_formulas.proofs.Worked.{one_name, two_names}
 use Rattle.mx_answers.specs.Held.{nodes_of}
 use Rattle.mx_answers.specs.Records.{IsRecordOf, IsRightMemo}
 use Rattle.mx_state.specs.Model.{model_of}
-use Rattle.mx_state.specs.Evaluations.{AsBound}
+use Rattle.mx_state.specs.Evaluations.{AsBound, Evaluates}
 use Rattle.mx_state.proofs.Evaluated.{value_is_answered}
 use Rattle.mx_state_rows.specs.Texts.{space_ab, space_sb, inheriting}
 use Rattle.mx_state_rows.specs.Rows as row
-use Rattle.mx_state_rows.proofs.Inheriting.{ab_run, sb_run, a_run, s_run}
-use Rattle.mx_state_evaluations.specs.Evaluations.{holding, literal_entry, v_cell, w_cell, w_entry, of_space, TakenOverIsEvaluated}
-use Rattle.mx_state_evaluations.proofs.Entries.{asks_nothing, asks_one, keys_last, asks_last, right_memo, self_bound}
+use Rattle.mx_state_rows.proofs.Inheriting.{ab_run, sb_run, a_run, s_run, taken_over_reads}
+use Rattle.mx_state_evaluations.specs.Evaluations.{holding, literal_entry, v_cell, w_cell, w_entry, of_space, TakenOverIsEvaluated, TakenOverHasPrecedents}
+use Rattle.mx_state_evaluations.proofs.Entries.{asks_nothing, asks_one, keys_last, asks_last, right_memo, self_bound, reads_told}
 
 abbrev m : Model
 m = model_of inheriting
@@ -167,3 +167,9 @@ taken_over_is_evaluated = record {
   first = value_is_answered (holding inheriting []) (w_cell (codes "A")) (w_cell (codes "A")) (row.gives (row.whole 10)) of_a (AsBound a_bound) (means a_run) a_memo (inr (inl refl)) a_reached (omega arith);
   then_other = value_is_answered (holding inheriting of_a) (w_cell (codes "S")) (w_cell (codes "S")) (row.gives (row.whole 20)) of_s (AsBound s_bound) (means s_run) all_memo (inr (inr (inr (inl refl)))) s_reached (omega arith);
 }
+
+s_again : Evaluates (holding inheriting (of_a ++ of_s)) (w_cell (codes "S")) (Ok (row.whole 20)) 0 (holding inheriting (of_a ++ of_s))
+s_again = value_is_answered (holding inheriting (of_a ++ of_s)) (w_cell (codes "S")) (w_cell (codes "S")) (row.gives (row.whole 20)) [] (AsBound s_bound) (means s_run) all_memo (inr (inr (inr (inl refl)))) (λ x h. absurd h) (omega arith)
+
+pub taken_over_has_precedents : TakenOverHasPrecedents
+taken_over_has_precedents = reads_told (holding inheriting (of_a ++ of_s)) (holding inheriting (of_a ++ of_s)) (w_cell (codes "S")) (w_cell (codes "S")) (row.whole 20) 0 _ s_again (AsBound s_bound) taken_over_reads

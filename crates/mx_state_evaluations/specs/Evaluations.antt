@@ -13,7 +13,7 @@ use Rattle.mx_model.specs.Records.{Path, ModelRecord}
 use Rattle.mx_model.specs.Keys.{key_result}
 use Rattle.mx_state.specs.Model.{model_of}
 use Rattle.mx_state.specs.State.{State}
-use Rattle.mx_state.specs.Evaluations.{Evaluates}
+use Rattle.mx_state.specs.Evaluations.{Evaluates, HasPrecedents}
 use Rattle.mx_state_rows.specs.Texts as text
 use Rattle.mx_state_rows.specs.Texts.{main, space_s}
 use Rattle.mx_state_rows.specs.Rows.{whole, gives, top, two, item, item_reply, product_in, main_cell}
@@ -65,6 +65,10 @@ choice_entry = record { node = c_cell; reply = gives (whole 1); keys = choice_ke
 abbrev pub ChoiceIsEvaluated : Type 0
 ChoiceIsEvaluated = Evaluates (holding text.choosing []) c_cell (Ok (whole 1)) 2 (holding text.choosing (literal_entry a_cell main (codes "a") 1 ∷ choice_entry ∷ []))
 
+-- its precedents are the reference and a(), by as many runs
+abbrev pub ChoiceHasPrecedents : Type 0
+ChoiceHasPrecedents = HasPrecedents (holding text.choosing []) c_cell (Ok (read.Ref (top (codes "Main")) (codes "flag") ∷ read.Node a_cell ∷ [])) 2 (holding text.choosing (literal_entry a_cell main (codes "a") 1 ∷ choice_entry ∷ []))
+
 -- ---- a formula that a space takes over looks names up where it runs
 
 abbrev pub w_cell : List ℕ → Node
@@ -93,6 +97,10 @@ of_space here v w = v_entry here v ∷ w_entry here here w ∷ []
 pub record TakenOverIsEvaluated : Type 0 where
   pub first : Evaluates (holding text.inheriting []) (w_cell (codes "A")) (Ok (whole 10)) 2 (holding text.inheriting (of_space (codes "A") 1 10))
   pub then_other : Evaluates (holding text.inheriting (of_space (codes "A") 1 10)) (w_cell (codes "S")) (Ok (whole 20)) 2 (holding text.inheriting (of_space (codes "A") 1 10 ++ of_space (codes "S") 2 20))
+
+-- the precedents of S.w(), which is held, are S.b and S.B.v(), by no run
+abbrev pub TakenOverHasPrecedents : Type 0
+TakenOverHasPrecedents = HasPrecedents (holding text.inheriting (of_space (codes "A") 1 10 ++ of_space (codes "S") 2 20)) (w_cell (codes "S")) (Ok (read.Ref (top (codes "S")) (codes "b") ∷ read.Node (v_cell (codes "S")) ∷ [])) 0 (holding text.inheriting (of_space (codes "A") 1 10 ++ of_space (codes "S") 2 20))
 
 -- what is held of both spaces, and what of it the edit keeps that fixes the target
 abbrev pub of_both : List Entry

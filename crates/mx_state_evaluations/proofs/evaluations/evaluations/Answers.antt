@@ -1,8 +1,15 @@
 use Rattle.mx_state_evaluations.proofs.Products.{items_are_evaluated}
-use Rattle.mx_state_evaluations.proofs.Choice.{choice_is_evaluated}
-use Rattle.mx_state_evaluations.proofs.Inherited.{taken_over_is_evaluated}
+use Rattle.mx_state_evaluations.proofs.Choice.{choice_is_evaluated, choice_has_precedents}
+use Rattle.mx_state_evaluations.proofs.Inherited.{taken_over_is_evaluated, taken_over_has_precedents}
 use Rattle.mx_state_evaluations.proofs.Fixed.{fixed_target_is_evaluated}
 use Rattle.mx_state_evaluations.proofs.evaluations.evaluations.Goals as goal
 
 pub returns : goal.returns
-returns c = record { items = items_are_evaluated; choice = choice_is_evaluated; taken_over = taken_over_is_evaluated; fixed = fixed_target_is_evaluated }
+returns c = record {
+  items = items_are_evaluated;
+  choice = choice_is_evaluated;
+  choice_precedents = choice_has_precedents;
+  taken_over = taken_over_is_evaluated;
+  taken_over_precedents = taken_over_has_precedents;
+  fixed = fixed_target_is_evaluated;
+}
