@@ -25,7 +25,7 @@ first_reached model a (b ∷ rest) t x h =
       | inr r ↦ Through b (record { events = t.0.events; go = t.0.go; leads = t.0.leads }) (first_reached model b rest t.1 x r)
     ]
 
-chain_reached : (model : Model) (chain : List Node) (m : Node) → AskInTurn model (chain ++ m ∷ []) → (x : Node) → Has (chain ++ m ∷ []) x → Reaches model (first_or m chain) x
+pub chain_reached : (model : Model) (chain : List Node) (m : Node) → AskInTurn model (chain ++ m ∷ []) → (x : Node) → Has (chain ++ m ∷ []) x → Reaches model (first_or m chain) x
 chain_reached model [] m t x h = first_reached model m [] t x h
 chain_reached model (c ∷ chain) m t x h = first_reached model c (chain ++ m ∷ []) t x h
 

@@ -3,3 +3,6 @@ mod Products
 mod Choice
 mod Inherited
 mod Fixed
+mod Lost
+mod Failing
+mod ItemRing

@@ -1,10 +1,12 @@
 -- The worked examples as evaluations: what is answered, how many runs begin, and what is held.
-use Rattle.std.specs.Prelude.{ℕ, pos, true, List, [], ◌∷◌, ◌++◌, Ok, codes}
+use Rattle.std.specs.Prelude.{ℕ, pos, true, List, [], ◌∷◌, ◌++◌, Ok, Err, codes}
 use Rattle.mx_value.specs.declared.value.Value.{Value}
 use Rattle.mx_value.specs.declared.value.Value.TheVariants.{Fix, Flag}
 use Rattle.mx_value.specs.declared.node.Node.{Node}
 use Rattle.mx_value.specs.declared.node.Node.TheVariants.{Cell}
 use Rattle.mx_value.specs.declared.read.Read.TheVariants as read
+use Rattle.mx_value.specs.declared.fault.FaultKind.TheVariants.{NoName}
+use Rattle.mx_value.specs.declared.refusal.EvalRefusal.TheVariants.{Fault, Ring}
 use Rattle.mx_edit.specs.Entry.{Entry}
 use Rattle.mx_edit.specs.declared.key.Key.{Key}
 use Rattle.mx_edit.specs.declared.key.Key.TheVariants as key
@@ -16,7 +18,7 @@ use Rattle.mx_state.specs.State.{State}
 use Rattle.mx_state.specs.Evaluations.{Evaluates, HasPrecedents}
 use Rattle.mx_state_rows.specs.Texts as text
 use Rattle.mx_state_rows.specs.Texts.{main, space_s}
-use Rattle.mx_state_rows.specs.Rows.{whole, gives, top, two, item, item_reply, product_in, main_cell}
+use Rattle.mx_state_rows.specs.Rows.{whole, gives, top, two, item, item_reply, product_in, main_cell, in_item, nested_v}
 
 -- with these held, and the limit that a model begins with
 abbrev pub holding : ModelRecord → List Entry → State
@@ -113,3 +115,34 @@ kept = v_entry (codes "A") 1 ∷ v_entry (codes "S") 2 ∷ []
 pub record FixedTargetIsEvaluated : Type 0 where
   pub retains : Retains (model_of text.inheriting) (key_result text.inheriting_fixed) of_both kept
   pub again : Evaluates (holding text.inheriting_fixed kept) (w_cell (codes "S")) (Ok (whole 10)) 1 (holding text.inheriting_fixed (kept ++ w_entry (codes "S") (codes "A") 10 ∷ []))
+
+-- ---- a fault and rings
+
+-- A.B.v() is a fault by one run, and nothing is held
+abbrev pub FaultIsEvaluated : Type 0
+FaultIsEvaluated = Evaluates (holding text.nested []) nested_v (Err (Fault NoName nested_v 1)) 1 (holding text.nested [])
+
+-- f(1) and g(1)
+abbrev pub f_cell : Node
+f_cell = main_cell (codes "f") (whole 1 ∷ [])
+
+abbrev pub g_cell : Node
+g_cell = main_cell (codes "g") (whole 1 ∷ [])
+
+-- f(1) is a ring by two runs
+abbrev pub RingIsEvaluated : Type 0
+RingIsEvaluated = Evaluates (holding text.asking_round []) f_cell (Err (Ring (f_cell ∷ g_cell ∷ []))) 2 (holding text.asking_round [])
+
+abbrev pub f_entry : Entry
+f_entry = record { node = f_cell; reply = gives (whole 7); keys = key.Input f_cell ∷ key.Cells main (codes "f") ∷ key.Name main (codes "g") ∷ key.Cells main (codes "g") ∷ []; asks = g_cell ∷ []; reads = read.Node g_cell ∷ [] }
+
+-- once g(1) is 7, f(1) is 7 by two runs
+abbrev pub MendedIsEvaluated : Type 0
+MendedIsEvaluated = Evaluates (holding text.mended []) f_cell (Ok (whole 7)) 2 (holding text.mended (literal_entry g_cell main (codes "g") 7 ∷ f_entry ∷ []))
+
+-- c() in S[1] comes to the ring of S[1] by two runs
+abbrev pub itself_cell : Node
+itself_cell = Cell (in_item (whole 1)) (codes "c") []
+
+abbrev pub ItemRingIsEvaluated : Type 0
+ItemRingIsEvaluated = Evaluates (holding text.asking_itself []) itself_cell (Err (Ring (item (whole 1) ∷ []))) 2 (holding text.asking_itself [])

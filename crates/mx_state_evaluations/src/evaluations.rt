@@ -1,5 +1,5 @@
 //! What evaluations answer and hold. Each is proved as what a function ensures that does nothing.
-ghost use Rattle.mx_state_evaluations.specs.Evaluations.{ItemsAreEvaluated, ChoiceIsEvaluated, ChoiceHasPrecedents, TakenOverIsEvaluated, TakenOverHasPrecedents, FixedTargetIsEvaluated};
+ghost use Rattle.mx_state_evaluations.specs.Evaluations.{ItemsAreEvaluated, ChoiceIsEvaluated, ChoiceHasPrecedents, TakenOverIsEvaluated, TakenOverHasPrecedents, FixedTargetIsEvaluated, FaultIsEvaluated, RingIsEvaluated, MendedIsEvaluated, ItemRingIsEvaluated};
 
 /// The worked examples: their answers, the number of runs that begin, and what is held after them.
 pub fn evaluations()
@@ -9,4 +9,8 @@ pub fn evaluations()
     ensures taken_over { TakenOverIsEvaluated }
     ensures taken_over_precedents { TakenOverHasPrecedents }
     ensures fixed { FixedTargetIsEvaluated }
+    ensures fault { FaultIsEvaluated }
+    ensures ring { RingIsEvaluated }
+    ensures mended { MendedIsEvaluated }
+    ensures item_ring { ItemRingIsEvaluated }
 {}

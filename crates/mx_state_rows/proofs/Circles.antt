@@ -12,7 +12,7 @@ use Rattle.mx_edit.specs.declared.key.Key.TheVariants as key
 use Rattle.mx_edit.specs.declared.key.KeyResult.TheVariants as found
 use Rattle.mx_runs.specs.Lists.{Distinct}
 use Rattle.mx_runs.specs.Runs.{Looks, Gives}
-use Rattle.mx_runs.specs.Chains.{DoesAsk}
+use Rattle.mx_runs.specs.Chains.{asks_of, DoesAsk}
 use Rattle.mx_formulas.specs.Namespaces.{root, child}
 use Rattle.mx_formulas.specs.Nodes.{cells_found}
 use Rattle.mx_formulas.proofs.Equations.{plain_int}
@@ -26,12 +26,12 @@ use Rattle.mx_state_rows.specs.Rows as row
 use Rattle.mx_state_rows.proofs.Halting.{index_halts, index_asks, call_halts, call_asks, does_ask, static_halts, display_halts, reference_halts, cells_ask_item}
 use Rattle.mx_state_rows.proofs.Rounds.{round_lost, ring_from}
 
-one_plain : list_all is_plain (row.whole 1 ∷ []) ≡ true
+pub one_plain : list_all is_plain (row.whole 1 ∷ []) ≡ true
 one_plain = ap (λ (b : Bool). b && true) (plain_int (pos 1))
 
 -- ---- an item that asks itself
 
-item_asks : DoesAsk (model_of asking_itself) (row.item (row.whole 1)) (row.item (row.whole 1))
+pub item_asks : DoesAsk (model_of asking_itself) (row.item (row.whole 1)) (row.item (row.whole 1))
 unfolding c3 merge
 item_asks =
     does_ask
@@ -40,23 +40,32 @@ item_asks =
     (index_halts _ (name_sought refl (in_source _ refl refl (target_reference (record { at = row.top (codes "S"); path = space_s }) refl refl refl))) (more (local refl) none)
     (index_asks (top (codes "S")) (ends (codes "S")) refl one_plain refl (one_bound (codes "x") (pos 1)) (small (codes "S") (pos 1))))))
 
-abbrev in_it : Node
+abbrev pub in_it : Node
 in_it = Cell (row.in_item (row.whole 1)) (codes "c") []
 
-cells_ask : DoesAsk (model_of asking_itself) in_it (row.item (row.whole 1))
+pub cells_ask : DoesAsk (model_of asking_itself) in_it (row.item (row.whole 1))
 unfolding c3 merge
 cells_ask =
     does_ask
     (cells_ask_item (key_result asking_itself) (child (codes "S") root) _ (row.whole 1 ∷ []) (row.whole 1 ∷ []) [] (top (codes "S")) refl (ends (codes "S")) refl (λ m. Looks (key.Cells m.source (codes "c")) (cells_found in_it m []))
     refl (one_bound (codes "x") (pos 1)) (codes "c") [] (has_item (codes "S") (row.whole 1 ∷ []) []) refl)
 
-abbrev chain : List Node
+-- neither asks before that
+pub item_first : asks_of item_asks.events ≡ []
+unfolding item_asks c3 merge
+item_first = refl
+
+pub cells_first : asks_of cells_ask.events ≡ []
+unfolding cells_ask c3 merge
+cells_first = refl
+
+abbrev pub chain : List Node
 chain = in_it ∷ row.item (row.whole 1) ∷ []
 
 no_item : row.item (row.whole 1) ≡ in_it → ⊥
 no_item e = cc
 
-chain_distinct : Distinct chain
+pub chain_distinct : Distinct chain
 chain_distinct = ((λ h. elim h [ inl e ↦ no_item e | inr r ↦ r ]), ((λ h. h), tt))
 
 pub item_asks_itself : row.ItemAsksItself
@@ -67,7 +76,7 @@ item_asks_itself = (
 
 -- ---- cells that ask each other
 
-f_asks : DoesAsk (model_of asking_round) (row.main_cell (codes "f") (row.whole 1 ∷ [])) (row.main_cell (codes "g") (row.whole 1 ∷ []))
+pub f_asks : DoesAsk (model_of asking_round) (row.main_cell (codes "f") (row.whole 1 ∷ [])) (row.main_cell (codes "g") (row.whole 1 ∷ []))
 unfolding c3 merge
 f_asks =
     does_ask
@@ -75,13 +84,22 @@ f_asks =
     (call_halts _ (name_sought refl (in_source found.CellsHere refl refl (cells_here refl))) (more (local refl) none) (call_asks (top (codes "Main")) refl one_plain refl (one_bound (codes "n") (pos 1))))
     (one_name (codes "Main")) refl)
 
-g_asks : DoesAsk (model_of asking_round) (row.main_cell (codes "g") (row.whole 1 ∷ [])) (row.main_cell (codes "f") (row.whole 1 ∷ []))
+pub g_asks : DoesAsk (model_of asking_round) (row.main_cell (codes "g") (row.whole 1 ∷ [])) (row.main_cell (codes "f") (row.whole 1 ∷ []))
 unfolding c3 merge
 g_asks =
     does_ask
     (static_halts (key_result asking_round) (child (codes "Main") root) (codes "g") _ _ false (row.whole 1 ∷ []) [] _ _ (top (codes "Main")) refl refl (one_bound (codes "n") (pos 1))
     (call_halts _ (name_sought refl (in_source found.CellsHere refl refl (cells_here refl))) (more (local refl) none) (call_asks (top (codes "Main")) refl one_plain refl (one_bound (codes "n") (pos 1))))
     (one_name (codes "Main")) refl)
+
+-- neither asks before that
+pub f_first : asks_of f_asks.events ≡ []
+unfolding f_asks c3 merge
+f_first = refl
+
+pub g_first : asks_of g_asks.events ≡ []
+unfolding g_asks c3 merge
+g_first = refl
 
 -- the name of a node's cells, or none
 abbrev cells_name : Node → Label
@@ -91,10 +109,10 @@ cells_name (Item at args) = []
 differ : (m n : Node) → same_name (cells_name m) (cells_name n) ≡ false → same_name (cells_name n) (cells_name n) ≡ true → m ≡ n → ⊥
 differ m n other same e = let h : same_name (cells_name n) (cells_name n) ≡ false = subst (λ k. same_name (cells_name k) (cells_name n) ≡ false) e other in cc
 
-abbrev round : List Node
+abbrev pub round : List Node
 round = row.main_cell (codes "f") (row.whole 1 ∷ []) ∷ row.main_cell (codes "g") (row.whole 1 ∷ []) ∷ []
 
-round_distinct : Distinct round
+pub round_distinct : Distinct round
 round_distinct = ((λ h. elim h [ inl e ↦ differ (row.main_cell (codes "g") (row.whole 1 ∷ [])) (row.main_cell (codes "f") (row.whole 1 ∷ [])) refl refl e | inr r ↦ r ]), ((λ h. h), tt))
 
 pub cells_ask_each_other : row.CellsAskEachOther
@@ -103,12 +121,15 @@ cells_ask_each_other = (
   round_lost (model_of asking_round) round (row.main_cell (codes "f") (row.whole 1 ∷ [])) (inl refl) (f_asks, (g_asks, tt)) (row.main_cell (codes "f") (row.whole 1 ∷ [])) (inl refl),
 )
 
-g_run : RunsTo (key_result mended) (row.main_cell (codes "g") (row.whole 1 ∷ [])) (row.literal_events (row.top (codes "Main")) main (codes "g") (row.whole 1 ∷ [])) (Gives (row.gives (row.whole 7)))
+pub g_run : RunsTo (key_result mended) (row.main_cell (codes "g") (row.whole 1 ∷ [])) (row.literal_events (row.top (codes "Main")) main (codes "g") (row.whole 1 ∷ [])) (Gives (row.gives (row.whole 7)))
 unfolding c3 merge
 g_run = static_run (row.whole 1 ∷ []) (one_name (codes "Main")) (top (codes "Main")) refl refl refl (one_bound (codes "n") (pos 1)) lit refl
 
-pub mended_ring : row.MendedRing
+pub mended_run : RunsTo (key_result mended) (row.main_cell (codes "f") (row.whole 1 ∷ [])) row.mended_events (Gives (row.gives (row.whole 7)))
 unfolding c3 merge
-mended_ring =
-    (static_run (row.whole 1 ∷ []) (one_name (codes "Main")) (top (codes "Main")) refl refl refl (one_bound (codes "n") (pos 1))
-    (post (name_sought refl (in_source found.CellsHere refl refl (cells_here refl))) (call (more (local refl) none) (call_of_cells (top (codes "Main")) refl one_plain refl (one_bound (codes "n") (pos 1)) (means g_run)) trail_end)) refl).leads
+mended_run =
+    static_run (row.whole 1 ∷ []) (one_name (codes "Main")) (top (codes "Main")) refl refl refl (one_bound (codes "n") (pos 1))
+    (post (name_sought refl (in_source found.CellsHere refl refl (cells_here refl))) (call (more (local refl) none) (call_of_cells (top (codes "Main")) refl one_plain refl (one_bound (codes "n") (pos 1)) (means g_run)) trail_end)) refl
+
+pub mended_ring : row.MendedRing
+mended_ring = mended_run.leads

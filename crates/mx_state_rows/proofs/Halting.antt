@@ -61,7 +61,7 @@ use Rattle.mx_formulas.proofs.NodeRules.{line_env, one_line, line_done, display_
 pub record ComesTo (look : Key → KeyResult) (n : Node) (es : List Event) (run : Run) : Type 0 where
   pub leads : Leads (model_of look) (body n) es run
 
-pub does_ask : {look : Key → KeyResult} {n m : Node} {es : List Event} {go : Reply → Run} → ComesTo look n es (Asks m go) → DoesAsk (model_of look) n m
+abbrev pub does_ask : {look : Key → KeyResult} {n m : Node} {es : List Event} {go : Reply → Run} → ComesTo look n es (Asks m go) → DoesAsk (model_of look) n m
 does_ask {es = es} {go = go} c = record { events = es; go = go; leads = c.leads }
 
 -- ---- parts that come to no value

@@ -233,9 +233,10 @@ CellsAskEachOther =
     MeansNothing (model_of text.asking_round) (main_cell (codes "f") (whole 1 ∷ []))
 
 -- once g(1) is 7, so is f(1)
+abbrev pub mended_events : List Event
+mended_events =
+    Looked (key.Input (main_cell (codes "f") (whole 1 ∷ []))) ∷ Looked (key.Cells main (codes "f")) ∷ Looked (key.Name main (codes "g")) ∷ Looked (key.Cells main (codes "g"))
+    ∷ Asked (main_cell (codes "g") (whole 1 ∷ [])) (gives (whole 7)) ∷ []
+
 abbrev pub MendedRing : Type 0
-MendedRing =
-    Runs text.mended (main_cell (codes "f") (whole 1 ∷ []))
-    (Looked (key.Input (main_cell (codes "f") (whole 1 ∷ []))) ∷ Looked (key.Cells main (codes "f")) ∷ Looked (key.Name main (codes "g")) ∷ Looked (key.Cells main (codes "g"))
-    ∷ Asked (main_cell (codes "g") (whole 1 ∷ [])) (gives (whole 7)) ∷ [])
-    (Gives (gives (whole 7)))
+MendedRing = Runs text.mended (main_cell (codes "f") (whole 1 ∷ [])) mended_events (Gives (gives (whole 7)))
