@@ -27,8 +27,9 @@ use Rattle.mx_state.proofs.Evaluated.{value_is_answered}
 use Rattle.mx_state_rows.specs.Texts.{main, nested, asking_round, mended}
 use Rattle.mx_state_rows.specs.Rows as row
 use Rattle.mx_state_rows.proofs.Nested.{no_name_above}
-use Rattle.mx_state_rows.proofs.Circles.{f_asks, g_asks, f_first, g_first, round_distinct, g_run, mended_run, cells_ask_each_other}
+use Rattle.mx_state_evaluations.proofs.Circles.{f_asks, g_asks, f_first, g_first, round_distinct, g_run, mended_run, cells_ask_each_other}
 use Rattle.mx_state_rows.proofs.Rounds.{round_lost}
+use Rattle.mx_state_evaluations.specs.Rings.{mended_events}
 use Rattle.mx_state_evaluations.specs.Evaluations.{holding, literal_entry, f_cell, g_cell, f_entry, FaultIsEvaluated, RingIsEvaluated, MendedIsEvaluated}
 use Rattle.mx_state_evaluations.proofs.Entries.{asks_nothing, asks_one, keys_last, asks_last, right_memo, self_bound}
 use Rattle.mx_state_evaluations.proofs.Lost.{completes_lost, only_ask}
@@ -131,7 +132,7 @@ before = Looked (key.Input f_cell) ∷ Looked (key.Cells main (codes "f")) ∷ L
 
 f_record : IsRecordOf (model_of mended) f_entry
 f_record =
-    asks_one (model_of mended) f_entry g_cell row.mended_events mended_run.leads (keys_last (model_of mended) g_cell (row.gives (row.whole 7)) (own (codes "g")) before) refl
+    asks_one (model_of mended) f_entry g_cell mended_events mended_run.leads (keys_last (model_of mended) g_cell (row.gives (row.whole 7)) (own (codes "g")) before) refl
     (asks_last (model_of mended) g_cell (row.gives (row.whole 7)) (own (codes "g")) before) refl refl refl
 
 abbrev held : List Entry
@@ -149,7 +150,7 @@ f_bound = self_bound (codes "f") (row.whole 1 ∷ []) (top (codes "Main")) refl 
 held_reached : (x : Node) → Has (nodes_of held) x → Reaches (model_of mended) f_cell x
 held_reached x h =
     elim h [
-      | inl e ↦ subst (λ y. Reaches (model_of mended) f_cell y) e (Through g_cell (asked_is_ask (model_of mended) f_cell _ row.mended_events mended_run.leads g_cell (inl refl)) Itself)
+      | inl e ↦ subst (λ y. Reaches (model_of mended) f_cell y) e (Through g_cell (asked_is_ask (model_of mended) f_cell _ mended_events mended_run.leads g_cell (inl refl)) Itself)
       | inr r ↦ elim r [ inl e ↦ subst (λ y. Reaches (model_of mended) f_cell y) e Itself | inr z ↦ absurd z ]
     ]
 

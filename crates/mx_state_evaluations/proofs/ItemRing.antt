@@ -24,7 +24,7 @@ use Rattle.mx_state.specs.Evaluations.{AsWritten}
 use Rattle.mx_state_rows.specs.Texts.{space_s, asking_itself}
 use Rattle.mx_state_rows.specs.Rows as row
 use Rattle.mx_state_rows.proofs.Halting.{walk_asks}
-use Rattle.mx_state_rows.proofs.Circles.{chain, chain_distinct, cells_ask, item_asks, cells_first, item_first, item_asks_itself}
+use Rattle.mx_state_evaluations.proofs.Circles.{chain, chain_distinct, cells_ask, item_asks, cells_first, item_first, item_asks_itself}
 use Rattle.mx_state_rows.proofs.Rounds.{round_lost}
 use Rattle.mx_state_evaluations.specs.Evaluations.{itself_cell, ItemRingIsEvaluated}
 use Rattle.mx_state_evaluations.proofs.Lost.{completes_lost, only_ask, asked_value}

@@ -4,5 +4,6 @@ mod Choice
 mod Inherited
 mod Fixed
 mod Lost
+mod Circles
 mod Failing
 mod ItemRing

@@ -6,4 +6,3 @@ pub mod Choosing
 pub mod Inheriting
 pub mod Nested
 pub mod Basing
-pub mod Circles

@@ -15,7 +15,6 @@ use Rattle.mx_edit.specs.declared.key.Key.TheVariants as key
 use Rattle.mx_edit.specs.declared.reply.Reply.{Reply}
 use Rattle.mx_runs.specs.Runs.{Outcome, Ends, Gives, Faults, NoSuch, WrongCount, Event, Looked, Tested, Asked, Noted}
 use Rattle.mx_runs.specs.Meaning.{Means, Leads}
-use Rattle.mx_runs.specs.Chains.{IsRing, MeansNothing}
 use Rattle.mx_formulas.specs.Laws.{BindsTo}
 use Rattle.mx_answers.specs.Records.{HasReads}
 use Rattle.mx_model.specs.Records.{Path, ModelRecord}
@@ -219,24 +218,3 @@ abbrev pub WrongBase : Type 0
 WrongBase =
     Runs text.basing_wrong (item (whole 4)) (Looked (key.Params space_s) ∷ []) (Faults BadItem (item (whole 4)) 1) ×
     Means (model_of text.basing_wrong) (based_cell (codes "v")) (Faults BadItem (item (whole 4)) 1)
-
--- ---- rings
-
--- S[1] asks itself: it is a ring, which S[1].c() comes to
-abbrev pub ItemAsksItself : Type 0
-ItemAsksItself = IsRing (model_of text.asking_itself) (Cell (in_item (whole 1)) (codes "c") []) (item (whole 1) ∷ []) × MeansNothing (model_of text.asking_itself) (Cell (in_item (whole 1)) (codes "c") [])
-
--- f(1) and g(1) ask each other
-abbrev pub CellsAskEachOther : Type 0
-CellsAskEachOther =
-    IsRing (model_of text.asking_round) (main_cell (codes "f") (whole 1 ∷ [])) (main_cell (codes "f") (whole 1 ∷ []) ∷ main_cell (codes "g") (whole 1 ∷ []) ∷ []) ×
-    MeansNothing (model_of text.asking_round) (main_cell (codes "f") (whole 1 ∷ []))
-
--- once g(1) is 7, so is f(1)
-abbrev pub mended_events : List Event
-mended_events =
-    Looked (key.Input (main_cell (codes "f") (whole 1 ∷ []))) ∷ Looked (key.Cells main (codes "f")) ∷ Looked (key.Name main (codes "g")) ∷ Looked (key.Cells main (codes "g"))
-    ∷ Asked (main_cell (codes "g") (whole 1 ∷ [])) (gives (whole 7)) ∷ []
-
-abbrev pub MendedRing : Type 0
-MendedRing = Runs text.mended (main_cell (codes "f") (whole 1 ∷ [])) mended_events (Gives (gives (whole 7)))

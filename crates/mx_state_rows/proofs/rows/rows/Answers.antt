@@ -4,7 +4,6 @@ use Rattle.mx_state_rows.proofs.Choosing.{choice_takes_one, choice_reads_one}
 use Rattle.mx_state_rows.proofs.Inheriting.{formula_looks_where_it_runs, taken_over_reads, fixed_target_stays}
 use Rattle.mx_state_rows.proofs.Nested.{no_name_above, reference_to_cells, no_space_no_node}
 use Rattle.mx_state_rows.proofs.Basing.{base_gives_source, base_gives_cells, added_reference, no_added_reference, wrong_base}
-use Rattle.mx_state_rows.proofs.Circles.{item_asks_itself, cells_ask_each_other, mended_ring}
 use Rattle.mx_state_rows.proofs.rows.rows.Goals as goal
 
 pub returns : goal.returns
@@ -30,7 +29,4 @@ returns c = record {
   added_reference = added_reference;
   no_added_reference = no_added_reference;
   wrong_base = wrong_base;
-  item_asks_itself = item_asks_itself;
-  cells_ask_each_other = cells_ask_each_other;
-  mended_ring = mended_ring;
 }

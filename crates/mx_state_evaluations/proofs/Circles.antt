@@ -23,6 +23,7 @@ use Rattle.mx_model.specs.Keys.{key_result}
 use Rattle.mx_state.specs.Model.{model_of}
 use Rattle.mx_state_rows.specs.Texts.{main, space_s, asking_itself, asking_round, mended}
 use Rattle.mx_state_rows.specs.Rows as row
+use Rattle.mx_state_evaluations.specs.Rings.{ItemAsksItself, CellsAskEachOther, mended_events, MendedRing}
 use Rattle.mx_state_rows.proofs.Halting.{index_halts, index_asks, call_halts, call_asks, does_ask, static_halts, display_halts, reference_halts, cells_ask_item}
 use Rattle.mx_state_rows.proofs.Rounds.{round_lost, ring_from}
 
@@ -68,7 +69,7 @@ no_item e = cc
 pub chain_distinct : Distinct chain
 chain_distinct = ((λ h. elim h [ inl e ↦ no_item e | inr r ↦ r ]), ((λ h. h), tt))
 
-pub item_asks_itself : row.ItemAsksItself
+pub item_asks_itself : ItemAsksItself
 item_asks_itself = (
   ring_from (model_of asking_itself) chain (row.item (row.whole 1)) (inr (inl refl)) (in_it ∷ []) [] refl chain_distinct (cells_ask, (item_asks, tt)),
   round_lost (model_of asking_itself) chain (row.item (row.whole 1)) (inr (inl refl)) (cells_ask, (item_asks, tt)) in_it (inl refl),
@@ -115,7 +116,7 @@ round = row.main_cell (codes "f") (row.whole 1 ∷ []) ∷ row.main_cell (codes 
 pub round_distinct : Distinct round
 round_distinct = ((λ h. elim h [ inl e ↦ differ (row.main_cell (codes "g") (row.whole 1 ∷ [])) (row.main_cell (codes "f") (row.whole 1 ∷ [])) refl refl e | inr r ↦ r ]), ((λ h. h), tt))
 
-pub cells_ask_each_other : row.CellsAskEachOther
+pub cells_ask_each_other : CellsAskEachOther
 cells_ask_each_other = (
   ring_from (model_of asking_round) round (row.main_cell (codes "f") (row.whole 1 ∷ [])) (inl refl) [] (row.main_cell (codes "g") (row.whole 1 ∷ []) ∷ []) refl round_distinct (f_asks, (g_asks, tt)),
   round_lost (model_of asking_round) round (row.main_cell (codes "f") (row.whole 1 ∷ [])) (inl refl) (f_asks, (g_asks, tt)) (row.main_cell (codes "f") (row.whole 1 ∷ [])) (inl refl),
@@ -125,11 +126,11 @@ pub g_run : RunsTo (key_result mended) (row.main_cell (codes "g") (row.whole 1 �
 unfolding c3 merge
 g_run = static_run (row.whole 1 ∷ []) (one_name (codes "Main")) (top (codes "Main")) refl refl refl (one_bound (codes "n") (pos 1)) lit refl
 
-pub mended_run : RunsTo (key_result mended) (row.main_cell (codes "f") (row.whole 1 ∷ [])) row.mended_events (Gives (row.gives (row.whole 7)))
+pub mended_run : RunsTo (key_result mended) (row.main_cell (codes "f") (row.whole 1 ∷ [])) mended_events (Gives (row.gives (row.whole 7)))
 unfolding c3 merge
 mended_run =
     static_run (row.whole 1 ∷ []) (one_name (codes "Main")) (top (codes "Main")) refl refl refl (one_bound (codes "n") (pos 1))
     (post (name_sought refl (in_source found.CellsHere refl refl (cells_here refl))) (call (more (local refl) none) (call_of_cells (top (codes "Main")) refl one_plain refl (one_bound (codes "n") (pos 1)) (means g_run)) trail_end)) refl
 
-pub mended_ring : row.MendedRing
+pub mended_ring : MendedRing
 mended_ring = mended_run.leads
