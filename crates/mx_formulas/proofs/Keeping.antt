@@ -127,7 +127,7 @@ module _ (look : Key → KeyResult) (P : Run → Type 0) (Came : Namespace → T
 
   module _ (ns : Namespace) (name : Label) (env : Env) (go : Value → Run) (other : Run) (k : Onwards go) (o : P other) where
     bound_name_kept : (r : KeyResult) → P (bound_name ns name env go other r)
-    bound_name_kept found.CellsHere = cells_kept ns.at name env go k
+    bound_name_kept found.CellsHere = k _
     bound_name_kept found.Child = space_kept (child name ns).at env go k
     bound_name_kept (found.Ref v owner) = keeps.noted _ _ (reference_kept v owner ns env go k)
     bound_name_kept found.Missing = o
@@ -149,7 +149,7 @@ module _ (look : Key → KeyResult) (P : Run → Type 0) (Came : Namespace → T
   builtin_kept None env go k = fault_kept _ env
 
   global_kept : (name : Label) (env : Env) (go : Callee → Run) → Onwards go → (r : KeyResult) → P (global_found name env go r)
-  global_kept name env go k (found.Ref v owner) = keeps.noted _ _ (reference_kept v [] env.space env _ (λ w. k _))
+  global_kept name env go k (found.Ref v owner) = keeps.noted _ _ (reference_kept v [] env.namespace env _ (λ w. k _))
   global_kept name env go k found.Missing = builtin_kept (builtin_of name) env go k
   global_kept name env go k found.CellsHere = builtin_kept (builtin_of name) env go k
   global_kept name env go k found.Child = builtin_kept (builtin_of name) env go k
@@ -162,7 +162,7 @@ module _ (look : Key → KeyResult) (P : Run → Type 0) (Came : Namespace → T
   local_kept : (l : Option (Option Value)) (name : Label) → OfPart (local_or l name)
   local_kept (Some (Some v)) name env go k = k _
   local_kept (Some None) name env go k = fault_kept _ env
-  local_kept None name env go k = sought_in_kept env.space name env _ _ (λ v. k _) (keeps.looked _ _ (global_kept name env go k _))
+  local_kept None name env go k = sought_in_kept env.namespace name env _ _ (λ v. k _) (keeps.looked _ _ (global_kept name env go k _))
 
   pub named_kept : (name : Label) → OfPart (named name)
   named_kept name env go k = local_kept (local_of env.locals name) name env go k

@@ -4,8 +4,7 @@ pub mod Bodies
 pub mod Bound
 pub mod Walking
 pub mod Items
+pub mod Walked
 pub mod Sound
-pub mod Equations
-pub mod Rules
-pub mod NodeRules
-pub mod Worked
+pub mod Binds
+pub mod Targets

@@ -1,11 +1,9 @@
 -- Each node that a run asks is its own bound form, and a key that it tests before an ask is one of the node that it asks.
-use Rattle.std.proofs.Common.{Bool, true, false, ◌≡◌, List, [], ◌∷◌, ◌++◌, inl, inr, Option, None, Some, if◌then◌else◌, length, nat_le, refl, sym, ◌∙◌, ap, subst}
+use Rattle.std.proofs.Common.{Bool, true, false, ◌≡◌, List, [], ◌∷◌, ◌++◌, inl, inr, Option, None, Some, if◌then◌else◌, length, refl, sym, ◌∙◌, ap, subst}
 use Rattle.mx_value.specs.declared.label.Label.{Label}
 use Rattle.mx_value.specs.declared.value.Value.{Value}
 use Rattle.mx_value.specs.declared.value.Value.TheVariants as value
-use Rattle.mx_value.specs.declared.value.Segment.{Segment, out-Segment}
-use Rattle.mx_value.specs.declared.value.Segment.TheOpen.{Segment-F}
-use Rattle.mx_value.specs.declared.value.Segment.TheVariants as segment
+use Rattle.mx_value.specs.declared.value.Segment.{Segment}
 use Rattle.mx_value.specs.declared.namespace.Namespace.{Namespace}
 use Rattle.mx_value.specs.declared.node.Node.{Node}
 use Rattle.mx_value.specs.declared.node.Node.TheVariants.{Cell, Item}
@@ -25,16 +23,16 @@ use Rattle.mx_runs.specs.Support.{LooksUp, IsCovered}
 use Rattle.mx_runs.proofs.Levels.{ends_only, leads_append}
 use Rattle.mx_runs.proofs.Runs.{comparable}
 use Rattle.mx_runs.proofs.Meanings.{whole_at}
-use Rattle.mx_formulas.specs.Namespaces.{Step, Overlay, root, child, ends_with_name, is_allowed, item_at}
-use Rattle.mx_formulas.specs.Walks.{entered, item_entered, stepped, walked_from, walked}
+use Rattle.mx_formulas.specs.Namespaces.{Overlay, ends_with_name, is_allowed, item_at}
+use Rattle.mx_formulas.specs.Walks.{entered, item_entered, walked}
 use Rattle.mx_formulas.specs.Binding.{binding, cell_bound, item_bound, item_sought}
 use Rattle.mx_formulas.specs.Statements.{Returned, Plain, Display}
 use Rattle.mx_formulas.specs.Nodes.{cells_returned, cells_found, cells_run, input_or, source_or_fault, based, item_given, item_returned, item_done, item_found, item_run, body}
-use Rattle.mx_formulas.specs.Laws.{model_of, BindsTo, AskedIsBound, TestsAreOfAsked, IsSpaceAt}
+use Rattle.mx_formulas.specs.Laws.{model_of, BindsTo, AskedIsBound, TestsAreOfAsked}
 use Rattle.mx_formulas.proofs.Keeping.{Keeps, IsNoValue}
 use Rattle.mx_formulas.proofs.Bodies.{body_kept}
-use Rattle.mx_formulas.proofs.Walking.{Came, Reached, root_reached, reached_on, came_on, name_steps, item_steps, bound_on}
-use Rattle.mx_formulas.proofs.Items.{item_reply}
+use Rattle.mx_formulas.proofs.Walking.{Came, bound_on}
+use Rattle.mx_formulas.proofs.Walked.{walked_kept}
 
 -- ---- the nodes that a namespace's space leads to
 
@@ -93,77 +91,27 @@ module _ (look : Key → KeyResult) where
   Sound (Asks m go) = BindsTo (model_of look) m m × ((r : Reply) → Means (model_of look) m (Gives r) → Sound (go r))
   Sound (Notes read run) = Sound run
 
-  module _ (ns : Namespace) (reached : Reached look ns) (few : nat_le 64 (length ns.at) ≡ false) (go : Namespace → Run)
-      (k : (next : Namespace) → Reached look next → Came look next → Sound (go next)) where
-    name_sound : (name : Label) → Sound (go (child name ns))
-    name_sound name =
-        k (child name ns) (reached_on look ns (child name ns) reached (segment.Name name) few [] (name_steps look ns name) refl)
-        (came_on look ns (child name ns) reached (segment.Name name) few [] (name_steps look ns name) refl)
+  module _ (ns : Namespace) (came : Came look ns) (n : ends_with_name ns.at ≡ true) (args : List Value) (go : Namespace → Run)
+      (k : (ps : Params) → look (key.Params ns.source) ≡ found.Params ps → is_wrong_count ps.params (length args) ≡ false → (r : Reply) → Means (model_of look) (Item ns.at (bound ps.params args)) (Gives r) → Sound (entered r.namespace go)) where
+    counted_sound : (ps : Params) → look (key.Params ns.source) ≡ found.Params ps → (wrong : Bool) → is_wrong_count ps.params (length args) ≡ wrong
+        → IsTested (key.Params ns.source) (if wrong then Ends WrongCount else Asks (Item ns.at (bound ps.params args)) (λ r. entered r.namespace go)) × Sound (if wrong then Ends WrongCount else Asks (Item ns.at (bound ps.params args)) (λ r. entered r.namespace go))
+    counted_sound ps e true q = (tt, tt)
+    counted_sound ps e false q = (item_looks look ns came ps args n e q, (item_binds look ns came ps args n e q, λ r m. k ps e q r m))
 
-    module _ (came : Came look ns) (n : ends_with_name ns.at ≡ true) (ps : Params) (args : List Value) (e : look (key.Params ns.source) ≡ found.Params ps)
-        (q : is_wrong_count ps.params (length args) ≡ false) (r : Reply) (m : Means (model_of look) (Item ns.at (bound ps.params args)) (Gives r)) where
-      abbrev answer : IsSpaceAt (item_at ns (bound ps.params args)) r
-      answer = item_reply look ns came ps args n e q r m
-
-      abbrev has : r.namespace ≡ Some answer.space
-      has = ap (λ (x : Reply). x.namespace) answer.is
-
-      abbrev events : List Event
-      events = Tested (key.Params ns.source) ∷ Asked (Item ns.at (bound ps.params args)) r ∷ []
-
-      reply_sound : Sound (entered r.namespace go)
-      reply_sound = subst (λ o. Sound (entered o go)) (sym has)
-          (k answer.space
-          (reached_on look ns answer.space reached (segment.Item (bound ps.params args)) few events (item_steps look ns answer.space ps args n e q r m has) answer.address)
-          (came_on look ns answer.space reached (segment.Item (bound ps.params args)) few events (item_steps look ns answer.space ps args n e q r m has) answer.address))
-
-    module _ (came : Came look ns) (n : ends_with_name ns.at ≡ true) (args : List Value) where
-      counted_sound : (ps : Params) → look (key.Params ns.source) ≡ found.Params ps → (wrong : Bool) → is_wrong_count ps.params (length args) ≡ wrong
-          → IsTested (key.Params ns.source) (if wrong then Ends WrongCount else Asks (Item ns.at (bound ps.params args)) (λ r. entered r.namespace go)) × Sound (if wrong then Ends WrongCount else Asks (Item ns.at (bound ps.params args)) (λ r. entered r.namespace go))
-      counted_sound ps e true q = (tt, tt)
-      counted_sound ps e false q = (item_looks look ns came ps args n e q, (item_binds look ns came ps args n e q, λ r m. reply_sound came n ps args e q r m))
-
-      tested_sound : (r : KeyResult) → look (key.Params ns.source) ≡ r → IsTested (key.Params ns.source) (item_entered ns args go r) × Sound (item_entered ns args go r)
-      tested_sound (found.Params ps) e = counted_sound ps e (is_wrong_count ps.params (length args)) refl
-      tested_sound found.Missing e = (tt, tt)
-      tested_sound found.CellsHere e = (tt, tt)
-      tested_sound found.Child e = (tt, tt)
-      tested_sound (found.Ref v o) e = (tt, tt)
-      tested_sound (found.Formula f a) e = (tt, tt)
-      tested_sound found.There e = (tt, tt)
-      tested_sound (found.Value v) e = (tt, tt)
-      tested_sound (found.Table t) e = (tt, tt)
-
-    item_sound : (ends_with_name ns.at ≡ true → Came look ns) → (args : List Value) (b : Bool) → ends_with_name ns.at ≡ b → Sound (if b then Tests (key.Params ns.source) (item_entered ns args go) else Ends NoSuch)
-    item_sound c args true n = tested_sound (c n) n args (look (key.Params ns.source)) refl
-    item_sound c args false n = tt
-
-    step_sound : (ends_with_name ns.at ≡ true → Came look ns) → (s : Step) → Sound (stepped s ns go)
-    step_sound c (Segment-F.Name name) = name_sound name
-    step_sound c (Segment-F.Item args) = item_sound c args (ends_with_name ns.at) refl
-
-  -- the namespace is one that a walk comes to, where no segment is left
-  abbrev IsThere : List Segment → Namespace → Type 0
-  IsThere [] ns = Came look ns
-  IsThere (s ∷ more) ns = Unit {0}
-
-  there : (segments : List Segment) (ns : Namespace) → Came look ns → IsThere segments ns
-  there [] ns c = c
-  there (s ∷ more) ns c = tt
-
-  refused_sound : (b : Bool) (run : Run) → (b ≡ false → Sound run) → Sound (if b then Ends NoSuch else run)
-  refused_sound true run g = tt
-  refused_sound false run g = g refl
-
-  walked_from_sound : (segments : List Segment) (ns : Namespace) → Reached look ns → (ends_with_name ns.at ≡ true → Came look ns) → IsThere segments ns → (go : Namespace → Run) → ((m : Namespace) → Came look m → Sound (go m)) → Sound (walked_from segments ns go)
-  walked_from_sound [] ns reached c t go k = k ns t
-  walked_from_sound (s ∷ more) ns reached c t go k =
-      refused_sound (nat_le 64 (length ns.at)) (stepped (out-Segment s) ns (λ next. walked_from more next go)) (λ few.
-      step_sound ns reached few (λ next. walked_from more next go) (λ next r came. walked_from_sound more next r (λ h. came) (there more next came) go k) c (out-Segment s))
+    tested_sound : (r : KeyResult) → look (key.Params ns.source) ≡ r → IsTested (key.Params ns.source) (item_entered ns args go r) × Sound (item_entered ns args go r)
+    tested_sound (found.Params ps) e = counted_sound ps e (is_wrong_count ps.params (length args)) refl
+    tested_sound found.Missing e = (tt, tt)
+    tested_sound found.CellsHere e = (tt, tt)
+    tested_sound found.Child e = (tt, tt)
+    tested_sound (found.Ref v o) e = (tt, tt)
+    tested_sound (found.Formula f a) e = (tt, tt)
+    tested_sound found.There e = (tt, tt)
+    tested_sound (found.Value v) e = (tt, tt)
+    tested_sound (found.Table t) e = (tt, tt)
 
   walked_sound : (segments : List Segment) (go : Namespace → Run) → ((m : Namespace) → Came look m → Sound (go m)) → Sound (walked segments go)
-  walked_sound [] go k = tt
-  walked_sound (s ∷ more) go k = walked_from_sound (s ∷ more) root (root_reached look) (λ h. absurd (cc)) tt go k
+  walked_sound segments go k =
+      walked_kept look Sound (record { refused = tt; entering = λ ns came n args go k. tested_sound ns came n args go k (look (key.Params ns.source)) refl }) segments go k
 
   sound_keeps : Keeps look Sound (Came look)
   sound_keeps = record {

@@ -16,7 +16,7 @@ Locals = List (Label × Option Value)
 -- and its locals.
 pub record Env : Type 0 where
   pub node : Node
-  pub space : Namespace
+  pub namespace : Namespace
   pub line : ℕ
   pub locals : Locals
 

@@ -10,4 +10,3 @@ pub mod Expressions
 pub mod Statements
 pub mod Nodes
 pub mod Laws
-pub mod Rows

@@ -16,14 +16,14 @@ use Rattle.mx_runs.specs.Runs.{Run, Looks, Notes}
 use Rattle.mx_formulas.specs.Namespaces.{child, value_in}
 use Rattle.mx_formulas.specs.Walks.{walked}
 use Rattle.mx_formulas.specs.Environments.{Env, Reading, fault, local_of}
-use Rattle.mx_formulas.specs.References.{space_read, cells_read, reference_read}
+use Rattle.mx_formulas.specs.References.{space_read, cells_value, reference_read}
 
 -- ---- in a namespace
 
 -- What the source of a namespace binds a name to: cells and children are those at the namespace's address, and a reference
 -- counts as read there. Where it binds the name to none of these, what is otherwise.
 abbrev pub bound_name : Namespace → Label → Env → (Value → Run) → Run → KeyResult → Run
-bound_name ns name env go other found.CellsHere = cells_read ns.at name env go
+bound_name ns name env go other found.CellsHere = go (cells_value ns.at name)
 bound_name ns name env go other found.Child = space_read (child name ns).at env go
 bound_name ns name env go other (found.Ref value owner) = Notes (read.Ref ns.at name) (reference_read value owner ns env go)
 bound_name ns name env go other result = other
@@ -56,13 +56,13 @@ builtin_or_none None env go = fault NoName env
 -- a reference of the model, whose targets are as written
 abbrev pub global_found : Label → Env → (Callee → Run) → KeyResult → Run
 global_found name env go (found.Ref value owner) =
-    Notes (read.Global name) (reference_read value [] env.space env (λ v. go (Called v)))
+    Notes (read.Global name) (reference_read value [] env.namespace env (λ v. go (Called v)))
 global_found name env go other = builtin_or_none (builtin_of name) env go
 
 -- a name that is no local: in the namespace of the formula, then among the references of the model
 abbrev pub sought : Label → Part
 sought name env go =
-    sought_in env.space name env (λ v. go (Called v)) (Looks (key.Global name) (global_found name env go))
+    sought_in env.namespace name env (λ v. go (Called v)) (Looks (key.Global name) (global_found name env go))
 
 -- a local has to be set before it is read
 abbrev pub local_or : Option (Option Value) → Label → Part

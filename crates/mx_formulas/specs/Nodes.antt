@@ -43,7 +43,7 @@ unset_locals body = map (λ (name : Label). (name, None)) (add_all [] (flat (map
 -- A formula begins in the namespace of its space, at line 1, with its parameters set. A name that the body binds and that
 -- is no parameter is a local that is not set.
 abbrev pub first_env : Node → Namespace → Overlay → List Stmt → Env
-first_env n ns given body = record { node = n; space = ns; line = 1; locals = set_locals given ++ unset_locals body }
+first_env n ns given body = record { node = n; namespace = ns; line = 1; locals = set_locals given ++ unset_locals body }
 
 -- ---- cells
 

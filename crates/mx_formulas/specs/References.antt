@@ -22,9 +22,9 @@ use Rattle.mx_formulas.specs.Environments.{Env, Reading, fault}
 abbrev pub space_read : List Segment → Reading
 space_read at env go = if is_short at then go (value.Space at) else fault TooLarge env
 
--- the cells of a name in the space at an address, which may have 64 segments
-abbrev pub cells_read : List Segment → Label → Reading
-cells_read at name env go = if is_short at then go (value.Cells (roll-CellsAt (record { space = at; name = name }))) else fault TooLarge env
+-- the cells of a name in the space at an address
+abbrev pub cells_value : List Segment → Label → Value
+cells_value at name = value.Cells (roll-CellsAt (record { space = at; name = name }))
 
 -- What a target stands for: its address, and the path that is tested for it. An item's address is tested by its source.
 pub record Target : Type 0 where
@@ -65,6 +65,10 @@ member_of [] = None
 member_of (n ∷ []) = None
 member_of (n ∷ m ∷ []) = Some m
 member_of (n ∷ m ∷ ns) = member_of (m ∷ ns)
+
+-- the cells of a name in the space at an address, which may have 64 segments
+abbrev pub cells_read : List Segment → Label → Reading
+cells_read at name env go = if is_short at then go (cells_value at name) else fault TooLarge env
 
 -- where the name is bound to cells, those of the space at the address without its last segment
 abbrev pub member_found : Target → Label → Env → (Value → Run) → KeyResult → Run

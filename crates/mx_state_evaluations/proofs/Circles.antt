@@ -15,10 +15,10 @@ use Rattle.mx_runs.specs.Runs.{Looks, Gives}
 use Rattle.mx_runs.specs.Chains.{asks_of, DoesAsk}
 use Rattle.mx_formulas.specs.Namespaces.{root, child}
 use Rattle.mx_formulas.specs.Nodes.{cells_found}
-use Rattle.mx_formulas.proofs.Equations.{plain_int}
-use Rattle.mx_formulas.proofs.Rules.{top, lit, local, in_source, name_sought, target_reference, cells_here, post, call, none, more, trail_end, call_of_cells}
-use Rattle.mx_formulas.proofs.NodeRules.{RunsTo, means, static_run}
-use Rattle.mx_formulas.proofs.Worked.{ends, one_name, has_item, one_bound, small}
+use Rattle.mx_formula_rows.proofs.Equations.{plain_int}
+use Rattle.mx_formula_rows.proofs.Rules.{top, lit, local, in_source, name_sought, target_reference, cells_here, post, call, none, more, trail_end, call_of_cells}
+use Rattle.mx_formula_rows.proofs.NodeRules.{RunsTo, means, static_run}
+use Rattle.mx_formula_rows.proofs.Worked.{ends, one_name, has_item, one_bound, small}
 use Rattle.mx_model.specs.Keys.{key_result}
 use Rattle.mx_state.specs.Model.{model_of}
 use Rattle.mx_state_rows.specs.Texts.{main, space_s, asking_itself, asking_round, mended}
@@ -82,7 +82,7 @@ unfolding c3 merge
 f_asks =
     does_ask
     (static_halts (key_result asking_round) (child (codes "Main") root) (codes "f") _ _ false (row.whole 1 ∷ []) [] _ _ (top (codes "Main")) refl refl (one_bound (codes "n") (pos 1))
-    (call_halts _ (name_sought refl (in_source found.CellsHere refl refl (cells_here refl))) (more (local refl) none) (call_asks (top (codes "Main")) refl one_plain refl (one_bound (codes "n") (pos 1))))
+    (call_halts _ (name_sought refl (in_source found.CellsHere refl refl cells_here)) (more (local refl) none) (call_asks (top (codes "Main")) refl one_plain refl (one_bound (codes "n") (pos 1))))
     (one_name (codes "Main")) refl)
 
 pub g_asks : DoesAsk (model_of asking_round) (row.main_cell (codes "g") (row.whole 1 ∷ [])) (row.main_cell (codes "f") (row.whole 1 ∷ []))
@@ -90,7 +90,7 @@ unfolding c3 merge
 g_asks =
     does_ask
     (static_halts (key_result asking_round) (child (codes "Main") root) (codes "g") _ _ false (row.whole 1 ∷ []) [] _ _ (top (codes "Main")) refl refl (one_bound (codes "n") (pos 1))
-    (call_halts _ (name_sought refl (in_source found.CellsHere refl refl (cells_here refl))) (more (local refl) none) (call_asks (top (codes "Main")) refl one_plain refl (one_bound (codes "n") (pos 1))))
+    (call_halts _ (name_sought refl (in_source found.CellsHere refl refl cells_here)) (more (local refl) none) (call_asks (top (codes "Main")) refl one_plain refl (one_bound (codes "n") (pos 1))))
     (one_name (codes "Main")) refl)
 
 -- neither asks before that
@@ -130,7 +130,7 @@ pub mended_run : RunsTo (key_result mended) (row.main_cell (codes "f") (row.whol
 unfolding c3 merge
 mended_run =
     static_run (row.whole 1 ∷ []) (one_name (codes "Main")) (top (codes "Main")) refl refl refl (one_bound (codes "n") (pos 1))
-    (post (name_sought refl (in_source found.CellsHere refl refl (cells_here refl))) (call (more (local refl) none) (call_of_cells (top (codes "Main")) refl one_plain refl (one_bound (codes "n") (pos 1)) (means g_run)) trail_end)) refl
+    (post (name_sought refl (in_source found.CellsHere refl refl cells_here)) (call (more (local refl) none) (call_of_cells (top (codes "Main")) refl one_plain refl (one_bound (codes "n") (pos 1)) (means g_run)) trail_end)) refl
 
 pub mended_ring : MendedRing
 mended_ring = mended_run.leads

@@ -16,9 +16,9 @@ use Rattle.mx_runs.proofs.Reach.{reach_within}
 use Rattle.mx_runs.proofs.Meanings.{finished, failure_no_value}
 use Rattle.mx_runs.proofs.Events.{asked_is_ask}
 use Rattle.mx_formulas.specs.Laws.{BindsTo}
-use Rattle.mx_formulas.proofs.Rules.{top, below}
-use Rattle.mx_formulas.proofs.NodeRules.{means}
-use Rattle.mx_formulas.proofs.Worked.{one_name, one_bound}
+use Rattle.mx_formula_rows.proofs.Rules.{top, below}
+use Rattle.mx_formula_rows.proofs.NodeRules.{means}
+use Rattle.mx_formula_rows.proofs.Worked.{one_name, one_bound}
 use Rattle.mx_answers.specs.Held.{nodes_of, IsRight}
 use Rattle.mx_answers.specs.Records.{IsRecordOf, IsRightMemo}
 use Rattle.mx_state.specs.Model.{model_of}

@@ -20,9 +20,9 @@ use Rattle.mx_runs.proofs.Events.{asked_is_ask}
 use Rattle.mx_formulas.specs.Namespaces.{Step}
 use Rattle.mx_formulas.specs.Laws.{BindsTo}
 use Rattle.mx_formulas.proofs.Walking.{out_name}
-use Rattle.mx_formulas.proofs.Rules.{top}
-use Rattle.mx_formulas.proofs.NodeRules.{means}
-use Rattle.mx_formulas.proofs.Worked.{one_name, two_names}
+use Rattle.mx_formula_rows.proofs.Rules.{top}
+use Rattle.mx_formula_rows.proofs.NodeRules.{means}
+use Rattle.mx_formula_rows.proofs.Worked.{one_name, two_names}
 use Rattle.mx_answers.specs.Held.{nodes_of}
 use Rattle.mx_answers.specs.Records.{IsRecordOf, IsRightMemo}
 use Rattle.mx_state.specs.Model.{model_of}

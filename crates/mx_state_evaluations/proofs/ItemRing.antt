@@ -16,8 +16,8 @@ use Rattle.mx_formulas.specs.Namespaces.{root, child}
 use Rattle.mx_formulas.specs.Walks.{entered}
 use Rattle.mx_formulas.specs.Binding.{binding, cell_bound}
 use Rattle.mx_formulas.specs.Laws.{BindsTo}
-use Rattle.mx_formulas.proofs.Rules.{top}
-use Rattle.mx_formulas.proofs.Worked.{ends, one_bound}
+use Rattle.mx_formula_rows.proofs.Rules.{top}
+use Rattle.mx_formula_rows.proofs.Worked.{ends, one_bound}
 use Rattle.mx_model.specs.Keys.{key_result}
 use Rattle.mx_state.specs.Model.{model_of}
 use Rattle.mx_state.specs.Evaluations.{AsWritten}

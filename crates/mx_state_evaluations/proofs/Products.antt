@@ -17,10 +17,10 @@ use Rattle.mx_runs.specs.Chains.{Reaches, Itself, Through}
 use Rattle.mx_runs.proofs.Events.{asked_is_ask}
 use Rattle.mx_formulas.specs.Namespaces.{is_allowed}
 use Rattle.mx_formulas.specs.Laws.{BindsTo}
-use Rattle.mx_formulas.proofs.Equations.{normal_int, out_int}
-use Rattle.mx_formulas.proofs.NodeRules.{means}
+use Rattle.mx_formula_rows.proofs.Equations.{normal_int, out_int}
+use Rattle.mx_formula_rows.proofs.NodeRules.{means}
 use Rattle.mx_formulas.proofs.Walking.{out_item}
-use Rattle.mx_formulas.proofs.Worked.{has_item, one_bound, small}
+use Rattle.mx_formula_rows.proofs.Worked.{has_item, one_bound, small}
 use Rattle.mx_answers.specs.Held.{nodes_of}
 use Rattle.mx_answers.specs.Records.{IsRecordOf, IsRightMemo}
 use Rattle.mx_state.specs.Model.{model_of}

@@ -17,10 +17,10 @@ use Rattle.mx_formulas.specs.Namespaces.{Step, Overlay, overlaid_by, root, child
 use Rattle.mx_formulas.specs.Nodes.{path_in, source_or_fault, item_given, item_returned, cells_found, body}
 use Rattle.mx_formulas.specs.Statements.{Display}
 use Rattle.mx_formulas.proofs.Walking.{out_name}
-use Rattle.mx_formulas.proofs.Equations.{out_space, out_int}
-use Rattle.mx_formulas.proofs.Rules.{Walks, top, inside, item_events, lit, local, in_overlay, in_source, name_sought, target_reference, sum, product, plus, times, joined_end, joined_more}
-use Rattle.mx_formulas.proofs.NodeRules.{RunsTo, means, within_run, displayed_item, display_base, display_refs, display_end, more_refs, no_refs}
-use Rattle.mx_formulas.proofs.Worked.{ends, has_item, one_bound, small}
+use Rattle.mx_formula_rows.proofs.Equations.{out_space, out_int}
+use Rattle.mx_formula_rows.proofs.Rules.{Walks, top, inside, item_events, lit, local, in_overlay, in_source, name_sought, target_reference, sum, product, plus, times, joined_end, joined_more}
+use Rattle.mx_formula_rows.proofs.NodeRules.{RunsTo, means, within_run, displayed_item, display_base, display_refs, display_end, more_refs, no_refs}
+use Rattle.mx_formula_rows.proofs.Worked.{ends, has_item, one_bound, small}
 use Rattle.mx_model.specs.Keys.{key_result}
 use Rattle.mx_state.specs.Model.{model_of}
 use Rattle.mx_state_rows.specs.Texts.{space_p, space_s, basing, basing_alone, basing_wrong}

@@ -9,9 +9,9 @@ use Rattle.mx_edit.specs.declared.key.KeyResult.TheVariants as found
 use Rattle.mx_ops.specs.Kinds.{Content}
 use Rattle.mx_ops.specs.Truth.{truth_in}
 use Rattle.mx_runs.specs.Runs.{Gives}
-use Rattle.mx_formulas.proofs.Rules.{top, lit, in_source, name_sought, plain_reference, cells_here, post, call, none, trail_end, call_of_cells}
-use Rattle.mx_formulas.proofs.NodeRules.{RunsTo, means, static_run}
-use Rattle.mx_formulas.proofs.Worked.{one_name}
+use Rattle.mx_formula_rows.proofs.Rules.{top, lit, in_source, name_sought, plain_reference, cells_here, post, call, none, trail_end, call_of_cells}
+use Rattle.mx_formula_rows.proofs.NodeRules.{RunsTo, means, static_run}
+use Rattle.mx_formula_rows.proofs.Worked.{one_name}
 use Rattle.mx_model.specs.Keys.{key_result}
 use Rattle.mx_state.specs.Model.{model_of}
 use Rattle.mx_state_rows.specs.Texts.{main, choosing}
@@ -31,7 +31,7 @@ unfolding c3 merge
 c_run =
     static_run [] (one_name (codes "Main")) (top (codes "Main")) refl refl refl refl
     (arm_taken [] _ (name_sought refl (in_source _ refl refl plain_reference)) (ap (λ (content : Content). truth_in content) out_true)
-    (post (name_sought refl (in_source found.CellsHere refl refl (cells_here refl))) (call none (call_of_cells (top (codes "Main")) refl refl refl refl (means a_run)) trail_end))) refl
+    (post (name_sought refl (in_source found.CellsHere refl refl cells_here)) (call none (call_of_cells (top (codes "Main")) refl refl refl refl (means a_run)) trail_end))) refl
 
 pub choice_takes_one : row.ChoiceTakesOne
 choice_takes_one = c_run.leads

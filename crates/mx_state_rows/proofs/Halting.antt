@@ -53,9 +53,9 @@ use Rattle.mx_formulas.specs.Nodes.{arguments_of, first_env, cells_returned, cel
 use Rattle.mx_formulas.specs.Laws.{model_of}
 use Rattle.mx_formulas.proofs.Walking.{out_item, walked_push, walk_append}
 use Rattle.mx_formulas.proofs.Forms.{trailer_read, product_read, arm_read}
-use Rattle.mx_formulas.proofs.Equations.{out_space, part-name, part-product, part-post, trailer-call, trailer-index}
-use Rattle.mx_formulas.proofs.Rules.{from, Walks, Stands, Comes, with_value, NameComes, AllCome, seeking, asking_item, as_walk, asking}
-use Rattle.mx_formulas.proofs.NodeRules.{line_env, one_line, line_done, display_line, display_done, item_leads}
+use Rattle.mx_formula_rows.proofs.Equations.{out_space, part-name, part-product, part-post, trailer-call, trailer-index}
+use Rattle.mx_formula_rows.proofs.Rules.{from, Walks, Stands, Comes, with_value, NameComes, AllCome, seeking, asking_item, as_walk, asking}
+use Rattle.mx_formula_rows.proofs.NodeRules.{line_env, one_line, line_done, display_line, display_done, item_leads}
 
 -- the run of a node comes by these events to here
 pub record ComesTo (look : Key → KeyResult) (n : Node) (es : List Event) (run : Run) : Type 0 where
@@ -71,16 +71,16 @@ pub record Halts (look : Key → KeyResult) (env : Env) (e : Expr) (es : List Ev
   pub leads : (go : Callee → Run) → Leads (model_of look) (part_read e env go) es (stop go)
 
 -- a name that is found nowhere
-pub no_name : {look : Key → KeyResult} {env : Env} {name : Label} → local_of env.locals name ≡ None → value_in env.space.overlay name ≡ None → look (key.Name env.space.source name) ≡ found.Missing → look (key.Global name) ≡ found.Missing → builtin_of name ≡ None
-    → Halts look env (expr.Name name) (Looked (key.Name env.space.source name) ∷ Looked (key.Global name) ∷ []) (λ go. fault NoName env)
+pub no_name : {look : Key → KeyResult} {env : Env} {name : Label} → local_of env.locals name ≡ None → value_in env.namespace.overlay name ≡ None → look (key.Name env.namespace.source name) ≡ found.Missing → look (key.Global name) ≡ found.Missing → builtin_of name ≡ None
+    → Halts look env (expr.Name name) (Looked (key.Name env.namespace.source name) ∷ Looked (key.Global name) ∷ []) (λ go. fault NoName env)
 no_name {look = look} {env = env} {name = name} free over bare none nothing = record {
   leads = λ go.
       let other : Run = Looks (key.Global name) (global_found name env go) in
       let got : Value → Run = λ v. go (Called v) in
-      from look _ (Looks (key.Name env.space.source name) (bound_name env.space name env got other)) (fault NoName env) (Looked (key.Name env.space.source name) ∷ Looked (key.Global name) ∷ [])
-      (part-name name env go ∙ ap (λ (o : Option (Option Value)). local_or o name env go) free ∙ ap (λ (o : Option Value). overlaid_or o env.space name env got other) over) (
+      from look _ (Looks (key.Name env.namespace.source name) (bound_name env.namespace name env got other)) (fault NoName env) (Looked (key.Name env.namespace.source name) ∷ Looked (key.Global name) ∷ [])
+      (part-name name env go ∙ ap (λ (o : Option (Option Value)). local_or o name env go) free ∙ ap (λ (o : Option Value). overlaid_or o env.namespace name env got other) over) (
         refl,
-        from look _ other (fault NoName env) (Looked (key.Global name) ∷ []) (ap (bound_name env.space name env got other) bare)
+        from look _ other (fault NoName env) (Looked (key.Global name) ∷ []) (ap (bound_name env.namespace name env got other) bare)
             (refl, ap (global_found name env go) none ∙ ap (λ (b : Option Builtin). builtin_or_none b env go) nothing),
       );
 }

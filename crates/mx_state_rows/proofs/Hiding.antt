@@ -6,9 +6,9 @@ use Rattle.mx_value.specs.declared.namespace.Namespace.{Namespace}
 use Rattle.mx_edit.specs.declared.key.Key.TheVariants as key
 use Rattle.mx_runs.specs.Runs.{Gives, Looked}
 use Rattle.mx_formulas.specs.Namespaces.{root, child}
-use Rattle.mx_formulas.proofs.Rules.{Walks, top, inside, item_events, in_overlay, in_source, name_sought, plain_reference}
-use Rattle.mx_formulas.proofs.NodeRules.{RunsTo, means, static_run, within_run, bare_item}
-use Rattle.mx_formulas.proofs.Worked.{ends, one_name, has_item, one_bound, small}
+use Rattle.mx_formula_rows.proofs.Rules.{Walks, top, inside, item_events, in_overlay, in_source, name_sought, plain_reference}
+use Rattle.mx_formula_rows.proofs.NodeRules.{RunsTo, means, static_run, within_run, bare_item}
+use Rattle.mx_formula_rows.proofs.Worked.{ends, one_name, has_item, one_bound, small}
 use Rattle.mx_model.specs.Keys.{key_result}
 use Rattle.mx_state_rows.specs.Texts.{space_s, hiding}
 use Rattle.mx_state_rows.specs.Rows as row

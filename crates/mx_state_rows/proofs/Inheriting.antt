@@ -5,9 +5,9 @@ use Rattle.mx_c3.specs.Linearisation.{c3}
 use Rattle.mx_value.specs.declared.node.Node.TheVariants.{Cell}
 use Rattle.mx_edit.specs.declared.key.KeyResult.TheVariants as found
 use Rattle.mx_runs.specs.Runs.{Gives}
-use Rattle.mx_formulas.proofs.Rules.{top, below, lit, in_source, name_sought, target_reference, cells_here, product, times, joined_end, joined_more, post, attribute_of, call, none, trail_end, call_of_cells}
-use Rattle.mx_formulas.proofs.NodeRules.{RunsTo, means, static_run}
-use Rattle.mx_formulas.proofs.Worked.{one_name, two_names}
+use Rattle.mx_formula_rows.proofs.Rules.{top, below, lit, in_source, name_sought, target_reference, cells_here, product, times, joined_end, joined_more, post, attribute_of, call, none, trail_end, call_of_cells}
+use Rattle.mx_formula_rows.proofs.NodeRules.{RunsTo, means, static_run}
+use Rattle.mx_formula_rows.proofs.Worked.{one_name, two_names}
 use Rattle.mx_model.specs.Keys.{key_result}
 use Rattle.mx_state.specs.Model.{model_of}
 use Rattle.mx_state_rows.specs.Texts.{space_ab, space_sb, inheriting, inheriting_fixed}
@@ -27,7 +27,7 @@ unfolding c3 merge
 a_run =
     static_run [] (one_name (codes "A")) (top (codes "A")) refl refl refl refl
     (product _ (post (name_sought refl (in_source _ refl refl (target_reference (record { at = row.two (codes "A") (codes "B"); path = space_ab }) refl refl refl)))
-    (attribute_of (below (codes "B") (top (codes "A")) refl) (in_source found.CellsHere refl refl (cells_here refl))
+    (attribute_of (below (codes "B") (top (codes "A")) refl) (in_source found.CellsHere refl refl cells_here)
     (call none (call_of_cells (below (codes "B") (top (codes "A")) refl) refl refl refl refl (means ab_run)) trail_end)))
     (times _ _ (joined_more _ _ lit refl joined_end))) refl
 
@@ -36,7 +36,7 @@ unfolding c3 merge
 s_run =
     static_run [] (one_name (codes "S")) (top (codes "S")) refl refl refl refl
     (product _ (post (name_sought refl (in_source _ refl refl (target_reference (record { at = row.two (codes "S") (codes "B"); path = space_sb }) refl refl refl)))
-    (attribute_of (below (codes "B") (top (codes "S")) refl) (in_source found.CellsHere refl refl (cells_here refl))
+    (attribute_of (below (codes "B") (top (codes "S")) refl) (in_source found.CellsHere refl refl cells_here)
     (call none (call_of_cells (below (codes "B") (top (codes "S")) refl) refl refl refl refl (means sb_run)) trail_end)))
     (times _ _ (joined_more _ _ lit refl joined_end))) refl
 
@@ -57,7 +57,7 @@ unfolding c3 merge
 fixed_run =
     static_run [] (one_name (codes "S")) (top (codes "S")) refl refl refl refl
     (product _ (post (name_sought refl (in_source _ refl refl (target_reference (record { at = row.two (codes "A") (codes "B"); path = space_ab }) refl refl refl)))
-    (attribute_of (below (codes "B") (top (codes "A")) refl) (in_source found.CellsHere refl refl (cells_here refl))
+    (attribute_of (below (codes "B") (top (codes "A")) refl) (in_source found.CellsHere refl refl cells_here)
     (call none (call_of_cells (below (codes "B") (top (codes "A")) refl) refl refl refl refl (means fixed_ab_run)) trail_end)))
     (times _ _ (joined_more _ _ lit refl joined_end))) refl
 

@@ -30,10 +30,10 @@ use Rattle.mx_formulas.specs.Nodes.{cells_found, cells_run, input_or, body}
 use Rattle.mx_formulas.proofs.Walking.{out_name, out_item}
 use Rattle.mx_formulas.specs.Binding.{binding, cell_bound}
 use Rattle.mx_formulas.specs.Laws.{BindsTo}
-use Rattle.mx_formulas.proofs.Equations.{normal_int, size_space, size_name, size_item}
-use Rattle.mx_formulas.proofs.Rules.{from, Walks, top, inside, item_events, local, in_overlay, name_sought, product, times, joined_end, joined_more}
-use Rattle.mx_formulas.proofs.NodeRules.{RunsTo, means, within_run, bare_item}
-use Rattle.mx_formulas.proofs.Worked.{ends, one_name, has_item, one_bound, small}
+use Rattle.mx_formula_rows.proofs.Equations.{normal_int, size_space, size_name, size_item}
+use Rattle.mx_formula_rows.proofs.Rules.{from, Walks, top, inside, item_events, local, in_overlay, name_sought, product, times, joined_end, joined_more}
+use Rattle.mx_formula_rows.proofs.NodeRules.{RunsTo, means, within_run, bare_item}
+use Rattle.mx_formula_rows.proofs.Worked.{ends, one_name, has_item, one_bound, small}
 use Rattle.mx_edit.specs.declared.edit.Edit.{Edit}
 use Rattle.mx_edit.specs.declared.edit.Edit.TheVariants as edit
 use Rattle.mx_edit.specs.declared.refusal.EditRefusal.{EditRefusal}

@@ -41,7 +41,7 @@ use Rattle.mx_runs.proofs.Levels.{leads_append}
 use Rattle.mx_formulas.specs.Namespaces.{Step, root, child, value_in, ends_with_name, is_short, is_allowed, item_at}
 use Rattle.mx_formulas.specs.Walks.{entered, item_entered, stepped, walked_from, walked}
 use Rattle.mx_formulas.specs.Environments.{Env, Reading, fault, computed, local_of}
-use Rattle.mx_formulas.specs.References.{Target, target_of, relative, target_found, target_read}
+use Rattle.mx_formulas.specs.References.{Target, cells_value, target_of, relative, target_found, target_read}
 use Rattle.mx_formulas.specs.Lookup.{Callee, Called, bound_name, overlaid_or, sought_in, sought, local_or, global_found, as_value, valued, attribute_in}
 use Rattle.mx_formulas.specs.Calls.{cells_asked, item_asked, space_asked, space_sought, entry_of, table_found, value_called, called, content_indexed, indexed}
 use Rattle.mx_formulas.specs.Operations.{adding, multiplying, of_two}
@@ -49,7 +49,7 @@ use Rattle.mx_formulas.specs.Expressions.{Behind, Call, Index, Attr, values_from
 use Rattle.mx_formulas.specs.Laws.{model_of}
 use Rattle.mx_formulas.proofs.Walking.{out_item, walked_push, further, name_steps}
 use Rattle.mx_formulas.proofs.Forms.{trailer_read, sum_read, product_read}
-use Rattle.mx_formulas.proofs.Equations.{out_space, out_cells, out_table, part-lit, part-name, part-sum, sum-part, part-product, product-part, part-post, trailer-call, trailer-index, trailer-attr}
+use Rattle.mx_formula_rows.proofs.Equations.{out_space, out_cells, out_table, part-lit, part-name, part-sum, sum-part, part-product, product-part, part-post, trailer-call, trailer-index, trailer-attr}
 
 pub from : (look : Key → KeyResult) (run other rest : Run) (es : List Event) → run ≡ other → Leads (model_of look) other es rest → Leads (model_of look) run es rest
 from look run other rest es e l = subst (λ r. Leads (model_of look) r es rest) (sym e) l
@@ -148,7 +148,7 @@ in_source {look = look} {ns = ns} {name = name} {env = env} {es = es} {v = v} r 
 }
 
 -- a name in a formula that is no local
-pub name_sought : {look : Key → KeyResult} {env : Env} {name : Label} {es : List Event} {v : Value} → local_of env.locals name ≡ None → SoughtComes look env.space name env es v → Comes look env (expr.Name name) es v
+pub name_sought : {look : Key → KeyResult} {env : Env} {name : Label} {es : List Event} {v : Value} → local_of env.locals name ≡ None → SoughtComes look env.namespace name env es v → Comes look env (expr.Name name) es v
 name_sought {look = look} {env = env} {name = name} {es = es} {v = v} free p = record {
   leads = λ go.
       from look _ (sought name env go) (go (Called v)) es (part-name name env go ∙ ap (λ (o : Option (Option Value)). local_or o name env go) free)
@@ -173,8 +173,8 @@ target_reference {look = look} {ns = ns} {name = name} {env = env} {path = path}
   );
 }
 
-pub cells_here : {look : Key → KeyResult} {ns : Namespace} {name : Label} {env : Env} → is_short ns.at ≡ true → NameComes look ns name env found.CellsHere [] (value.Cells (roll-CellsAt (record { space = ns.at; name = name })))
-cells_here {ns = ns} {name = name} {env = env} short = record { leads = λ go other. ap (λ (b : Bool). if b then go (value.Cells (roll-CellsAt (record { space = ns.at; name = name }))) else fault TooLarge env) short }
+pub cells_here : {look : Key → KeyResult} {ns : Namespace} {name : Label} {env : Env} → NameComes look ns name env found.CellsHere [] (cells_value ns.at name)
+cells_here = record { leads = λ go other. refl }
 
 pub child_here : {look : Key → KeyResult} {ns : Namespace} {name : Label} {env : Env} → is_short (child name ns).at ≡ true → NameComes look ns name env found.Child [] (value.Space (child name ns).at)
 child_here {ns = ns} {name = name} {env = env} short = record { leads = λ go other. ap (λ (b : Bool). if b then go (value.Space (child name ns).at) else fault TooLarge env) short }

@@ -26,11 +26,11 @@ use Rattle.mx_formulas.specs.Namespaces.{Step, Overlay, root, child, ends_with_n
 use Rattle.mx_formulas.specs.Calls.{entry, entry_of}
 use Rattle.mx_formulas.specs.Nodes.{path_in, source_or_fault, item_given}
 use Rattle.mx_formulas.specs.Laws.{model_of}
-use Rattle.mx_formulas.specs.Rows as row
+use Rattle.mx_formula_rows.specs.Rows as row
 use Rattle.mx_formulas.proofs.Walking.{out_name, out_item}
-use Rattle.mx_formulas.proofs.Equations.{out_space, normal_int, size_space, size_name, size_item, size_int}
-use Rattle.mx_formulas.proofs.Rules.{Walks, top, below, inside, item_events, lit, local, in_overlay, in_source, name_sought, plain_reference, table_reference, target_reference, cells_here, sum, product, plus, times, joined_end, joined_more, post, attribute_of, call, index, none, more, trail_end, call_of_cells, index_of_table}
-use Rattle.mx_formulas.proofs.NodeRules.{RunsTo, means, static_run, within_run, bare_item, displayed_item, display_base, display_refs, display_end, more_refs, no_refs, space_given}
+use Rattle.mx_formula_rows.proofs.Equations.{out_space, normal_int, size_space, size_name, size_item, size_int}
+use Rattle.mx_formula_rows.proofs.Rules.{Walks, top, below, inside, item_events, lit, local, in_overlay, in_source, name_sought, plain_reference, table_reference, target_reference, cells_here, sum, product, plus, times, joined_end, joined_more, post, attribute_of, call, index, none, more, trail_end, call_of_cells, index_of_table}
+use Rattle.mx_formula_rows.proofs.NodeRules.{RunsTo, means, static_run, within_run, bare_item, displayed_item, display_base, display_refs, display_end, more_refs, no_refs, space_given}
 
 -- ---- of addresses and arguments
 
@@ -59,7 +59,7 @@ small name n =
 
 -- ---- a parameter hides a reference
 
-hiding_item : RunsTo row.hiding (Item (row.named (codes "S") ∷ []) (Int (pos 2) ∷ [])) (Looked (key.Params row.space_s) ∷ []) (Gives row.item_reply)
+pub hiding_item : RunsTo row.hiding (Item (row.named (codes "S") ∷ []) (Int (pos 2) ∷ [])) (Looked (key.Params row.space_s) ∷ []) (Gives row.item_reply)
 hiding_item = bare_item (Int (pos 2) ∷ []) (top (codes "S")) (ends (codes "S")) refl refl (one_bound row.x (pos 2)) (small (codes "S") (pos 2))
 
 abbrev hiding_space : Namespace
@@ -99,7 +99,7 @@ pub relative_target : row.RelativeTarget
 relative_target =
     means (within_run [] (has_item (codes "S") (Int (pos 3) ∷ []) []) leading_walk refl refl refl
     (post (name_sought refl (in_source _ refl refl (target_reference (record { at = (child (codes "T") leading_space).at; path = row.space_st }) refl refl refl)))
-    (attribute_of (below (codes "T") leading_walk refl) (in_source found.CellsHere refl refl (cells_here refl))
+    (attribute_of (below (codes "T") leading_walk refl) (in_source found.CellsHere refl refl cells_here)
     (call none (call_of_cells (below (codes "T") leading_walk refl) refl refl refl refl in_item) trail_end))) refl)
 
 -- S.T.v()
@@ -110,7 +110,7 @@ pub fixed_target : row.FixedTarget
 fixed_target =
     means (within_run [] (has_item (codes "S") (Int (pos 3) ∷ []) []) leading_walk refl refl refl
     (post (name_sought refl (in_source _ refl refl (target_reference (record { at = (child (codes "T") (child (codes "S") root)).at; path = row.space_st }) refl refl refl)))
-    (attribute_of (below (codes "T") (top (codes "S")) refl) (in_source found.CellsHere refl refl (cells_here refl))
+    (attribute_of (below (codes "T") (top (codes "S")) refl) (in_source found.CellsHere refl refl cells_here)
     (call none (call_of_cells (below (codes "T") (top (codes "S")) refl) refl refl refl refl not_in_item) trail_end))) refl)
 
 -- ---- formulas that are taken over

@@ -13,7 +13,6 @@ use Rattle.mx_syntax.specs.declared.stmt.Stmt.{Stmt}
 use Rattle.mx_syntax.specs.declared.stmt.Stmt.TheVariants as stmt
 use Rattle.mx_syntax.specs.declared.stmt.Param.{Param}
 use Rattle.mx_syntax.specs.declared.stmt.Params.{Params}
-use Rattle.mx_syntax.specs.declared.stmt.Formula.{Formula}
 use Rattle.mx_syntax.specs.declared.stmt.ItemEntry.{ItemEntry}
 use Rattle.mx_syntax.specs.declared.stmt.ItemEntry.TheVariants as entry
 use Rattle.mx_syntax.specs.Locals.{add_all}
@@ -36,12 +35,12 @@ use Rattle.mx_formulas.specs.Expressions.{reading, values_beside}
 use Rattle.mx_formulas.specs.Statements.{Returned, Plain, Display, Doing, named_reading, displayed_from, done_from, done_by, doing, body_done}
 use Rattle.mx_formulas.specs.Nodes.{arguments_of, set_locals, unset_locals, first_env, value_given, cells_returned, cells_found, cells_run, input_or, item_returned, item_done, item_made, item_found, item_run, body}
 use Rattle.mx_formulas.specs.Laws.{model_of}
-use Rattle.mx_formulas.proofs.Equations.{doing-return, bound-return, first_line-return, doing-display, bound-display, first_line-display}
-use Rattle.mx_formulas.proofs.Rules.{Walks, Comes, from}
+use Rattle.mx_formula_rows.proofs.Equations.{doing-return, bound-return, first_line-return, doing-display, bound-display, first_line-display}
+use Rattle.mx_formula_rows.proofs.Rules.{Walks, Comes, from}
 
 -- where a formula of one line runs
 abbrev pub line_env : Node → Namespace → Overlay → Env
-line_env n ns given = record { node = n; space = ns; line = 1; locals = set_locals given ++ [] }
+line_env n ns given = record { node = n; namespace = ns; line = 1; locals = set_locals given ++ [] }
 
 abbrev pub one_line : Expr → List Stmt
 one_line e = stmt.Return (Some e) ∷ []
@@ -53,7 +52,7 @@ module _ (n : Node) (ns : Namespace) (given : Overlay) (e : Expr) (back : Return
   pub line_done : body_done (one_line e) (first_env n ns given (one_line e)) back ≡ reading e (line_env n ns given) (λ v. back (Plain v))
   line_done =
       ap (λ (line : ℕ). done_from (map done_by (one_line e)) line (first_env n ns given (one_line e)) (λ x. back (Plain Nothing)) back) (first_line-return e)
-      ∙ ap (λ (us : Locals). doing (stmt.Return (Some e)) (record { node = n; space = ns; line = 1; locals = set_locals given ++ us }) (λ x. back (Plain Nothing)) back) (none_unset e)
+      ∙ ap (λ (us : Locals). doing (stmt.Return (Some e)) (record { node = n; namespace = ns; line = 1; locals = set_locals given ++ us }) (λ x. back (Plain Nothing)) back) (none_unset e)
       ∙ ap (λ (d : Doing). d (line_env n ns given) (λ x. back (Plain Nothing)) back) (doing-return e)
 
 -- the whole run of a node, as a record: its node is found from it
@@ -66,60 +65,65 @@ means {look = look} {n = n} {es = es} {r = r} w = finished (model_of look) n es 
 abbrev pub given_value : Value → Reply
 given_value v = record { value = v; namespace = None }
 
--- cells of one line
-module _ (look : Key → KeyResult) (ns : Namespace) (name : Label) (params : List Param) (e : Expr) (allow : Bool) (vs : List Value) (es fs : List Event) (v : Value) (w : Walks look ns es)
-    (here : look (key.Cells ns.source name) ≡ found.Formula (record { params = params; body = one_line e }) allow) (count : is_wrong_count params (length vs) ≡ false) (binds : bound params vs ≡ vs)
-    (comes : Comes look (line_env (Cell ns.at name vs) ns (arguments_of params vs)) e fs v) (ends : cells_returned allow (Cell ns.at name vs) (Plain v) ≡ value_given v) where
+-- cells of which the formula comes to some rest of the run
+module _ (look : Key → KeyResult) (ns : Namespace) (name : Label) (params : List Param) (stmts : List Stmt) (allow : Bool) (vs : List Value) (es fs : List Event) (rest : Run) (w : Walks look ns es)
+    (here : look (key.Cells ns.source name) ≡ found.Formula (record { params = params; body = stmts }) allow) (count : is_wrong_count params (length vs) ≡ false) (binds : bound params vs ≡ vs)
+    (l : Leads (model_of look) (body_done stmts (first_env (Cell ns.at name vs) ns (arguments_of params vs) stmts) (cells_returned allow (Cell ns.at name vs))) fs rest) where
   abbrev n : Node
   n = Cell ns.at name vs
 
-  abbrev f : Formula
-  f = record { params = params; body = one_line e }
-
   abbrev done_with : List Value → Run
-  done_with us = body_done f.body (first_env n ns (arguments_of params us) f.body) (cells_returned allow n)
+  done_with us = body_done stmts (first_env n ns (arguments_of params us) stmts) (cells_returned allow n)
 
-  begun : cells_found n ns vs (look (key.Cells ns.source name)) ≡ reading e (line_env n ns (arguments_of params vs)) (λ x. cells_returned allow n (Plain x))
-  begun =
-      ap (cells_found n ns vs) here
-      ∙ ap (λ (b : Bool). if b then Ends WrongCount else done_with (bound params vs)) count
-      ∙ ap done_with binds
-      ∙ line_done n ns (arguments_of params vs) e (cells_returned allow n)
+  begun : cells_found n ns vs (look (key.Cells ns.source name)) ≡ done_with vs
+  begun = ap (cells_found n ns vs) here ∙ ap (λ (b : Bool). if b then Ends WrongCount else done_with (bound params vs)) count ∙ ap done_with binds
 
-  cells_lead : Leads (model_of look) (cells_run n ns.at name vs) (es ++ Looked (key.Cells ns.source name) ∷ fs) (value_given v)
+  cells_lead : Leads (model_of look) (cells_run n ns.at name vs) (es ++ Looked (key.Cells ns.source name) ∷ fs) rest
   cells_lead =
-      leads_append (model_of look) _ (Looks (key.Cells ns.source name) (cells_found n ns vs)) (value_given v) es (Looked (key.Cells ns.source name) ∷ fs) (w.leads (λ m. Looks (key.Cells m.source name) (cells_found n m vs))) (
-        refl,
-        from look _ (reading e (line_env n ns (arguments_of params vs)) (λ x. cells_returned allow n (Plain x))) (value_given v) fs begun
-            (subst (λ r. Leads (model_of look) (reading e (line_env n ns (arguments_of params vs)) (λ x. cells_returned allow n (Plain x))) fs r) ends
-            (comes.leads (λ c. as_value c (line_env n ns (arguments_of params vs)) (λ x. cells_returned allow n (Plain x))))),
-      )
+      leads_append (model_of look) _ (Looks (key.Cells ns.source name) (cells_found n ns vs)) rest es (Looked (key.Cells ns.source name) ∷ fs) (w.leads (λ m. Looks (key.Cells m.source name) (cells_found n m vs)))
+      (refl, from look _ (done_with vs) rest fs begun l)
 
--- at an address without items: no input was put in
+  -- at an address without items: no input was put in
+  pub static_lead : is_static ns.at ≡ true → look (key.Input n) ≡ found.Missing → Leads (model_of look) (body n) (Looked (key.Input n) ∷ es ++ Looked (key.Cells ns.source name) ∷ fs) rest
+  static_lead s input =
+      from look (body n) (Looks (key.Input n) (input_or (cells_run n ns.at name vs))) rest (Looked (key.Input n) ∷ es ++ Looked (key.Cells ns.source name) ∷ fs)
+      (ap (λ (b : Bool). if b then Looks (key.Input n) (input_or (cells_run n ns.at name vs)) else cells_run n ns.at name vs) s)
+      (refl, from look _ (cells_run n ns.at name vs) rest (es ++ Looked (key.Cells ns.source name) ∷ fs) (ap (input_or (cells_run n ns.at name vs)) input) cells_lead)
+
+  -- in an item
+  pub within_lead : is_static ns.at ≡ false → Leads (model_of look) (body n) (es ++ Looked (key.Cells ns.source name) ∷ fs) rest
+  within_lead s =
+      from look (body n) (cells_run n ns.at name vs) rest (es ++ Looked (key.Cells ns.source name) ∷ fs)
+      (ap (λ (b : Bool). if b then Looks (key.Input n) (input_or (cells_run n ns.at name vs)) else cells_run n ns.at name vs) s) cells_lead
+
+-- a formula of one line comes to what its expression comes to
+pub line_leads : (look : Key → KeyResult) (n : Node) (ns : Namespace) (given : Overlay) (e : Expr) (back : Returned → Run) (fs : List Event) (rest : Run) → Leads (model_of look) (reading e (line_env n ns given) (λ x. back (Plain x))) fs rest
+    → Leads (model_of look) (body_done (one_line e) (first_env n ns given (one_line e)) back) fs rest
+line_leads look n ns given e back fs rest l = from look _ (reading e (line_env n ns given) (λ x. back (Plain x))) rest fs (line_done n ns given e back) l
+
+-- and where that is a value, it ends with it
+line_ends : (look : Key → KeyResult) (n : Node) (ns : Namespace) (given : Overlay) (e : Expr) (allow : Bool) (fs : List Event) (v : Value) → Comes look (line_env n ns given) e fs v → cells_returned allow n (Plain v) ≡ value_given v
+    → Leads (model_of look) (body_done (one_line e) (first_env n ns given (one_line e)) (cells_returned allow n)) fs (value_given v)
+line_ends look n ns given e allow fs v p ends =
+    line_leads look n ns given e (cells_returned allow n) fs (value_given v)
+    (subst (λ r. Leads (model_of look) (reading e (line_env n ns given) (λ x. cells_returned allow n (Plain x))) fs r) ends (p.leads (λ c. as_value c (line_env n ns given) (λ x. cells_returned allow n (Plain x)))))
+
+-- cells of one line, at an address without items and in an item
 pub static_run : {look : Key → KeyResult} {ns : Namespace} {name : Label} {params : List Param} {e : Expr} {allow : Bool} {es fs : List Event} {v : Value} (vs : List Value) → is_static ns.at ≡ true → Walks look ns es → look (key.Input (Cell ns.at name vs)) ≡ found.Missing
     → look (key.Cells ns.source name) ≡ found.Formula (record { params = params; body = one_line e }) allow → is_wrong_count params (length vs) ≡ false → bound params vs ≡ vs
     → Comes look (line_env (Cell ns.at name vs) ns (arguments_of params vs)) e fs v → cells_returned allow (Cell ns.at name vs) (Plain v) ≡ value_given v
     → RunsTo look (Cell ns.at name vs) (Looked (key.Input (Cell ns.at name vs)) ∷ es ++ Looked (key.Cells ns.source name) ∷ fs) (Gives (given_value v))
-static_run {look = look} {ns = ns} {name = name} {params = params} {e = e} {allow = allow} {es = es} {fs = fs} {v = v} vs s w input here count binds p ends =
-    let n : Node = Cell ns.at name vs in
-    let run : Run = cells_run n ns.at name vs in
-    record {
-      leads = from look (body n) (Looks (key.Input n) (input_or run)) (value_given v) (Looked (key.Input n) ∷ es ++ Looked (key.Cells ns.source name) ∷ fs) (ap (λ (b : Bool). if b then Looks (key.Input n) (input_or run) else run) s)
-          (refl, from look _ run (value_given v) (es ++ Looked (key.Cells ns.source name) ∷ fs) (ap (input_or run) input) (cells_lead look ns name params e allow vs es fs v w here count binds p ends));
-    }
+static_run {look = look} {ns = ns} {name = name} {params = params} {e = e} {allow = allow} {es = es} {fs = fs} {v = v} vs s w input here count binds p ends = record {
+  leads = static_lead look ns name params (one_line e) allow vs es fs (value_given v) w here count binds (line_ends look (Cell ns.at name vs) ns (arguments_of params vs) e allow fs v p ends) s input;
+}
 
--- in an item
 pub within_run : {look : Key → KeyResult} {ns : Namespace} {name : Label} {params : List Param} {e : Expr} {allow : Bool} {es fs : List Event} {v : Value} (vs : List Value) → is_static ns.at ≡ false → Walks look ns es
     → look (key.Cells ns.source name) ≡ found.Formula (record { params = params; body = one_line e }) allow → is_wrong_count params (length vs) ≡ false → bound params vs ≡ vs
     → Comes look (line_env (Cell ns.at name vs) ns (arguments_of params vs)) e fs v → cells_returned allow (Cell ns.at name vs) (Plain v) ≡ value_given v
     → RunsTo look (Cell ns.at name vs) (es ++ Looked (key.Cells ns.source name) ∷ fs) (Gives (given_value v))
-within_run {look = look} {ns = ns} {name = name} {params = params} {e = e} {allow = allow} {es = es} {fs = fs} {v = v} vs s w here count binds p ends =
-    let n : Node = Cell ns.at name vs in
-    let run : Run = cells_run n ns.at name vs in
-    record {
-      leads = from look (body n) run (value_given v) (es ++ Looked (key.Cells ns.source name) ∷ fs) (ap (λ (b : Bool). if b then Looks (key.Input n) (input_or run) else run) s)
-          (cells_lead look ns name params e allow vs es fs v w here count binds p ends);
-    }
+within_run {look = look} {ns = ns} {name = name} {params = params} {e = e} {allow = allow} {es = es} {fs = fs} {v = v} vs s w here count binds p ends = record {
+  leads = within_lead look ns name params (one_line e) allow vs es fs (value_given v) w here count binds (line_ends look (Cell ns.at name vs) ns (arguments_of params vs) e allow fs v p ends) s;
+}
 
 -- ---- items
 
@@ -202,7 +206,7 @@ module _ (n : Node) (ns : Namespace) (given : Overlay) (entries : List ItemEntry
   pub display_done : body_done (display_line entries) (first_env n ns given (display_line entries)) back ≡ displayed_from entries [] None (line_env n ns given) back
   display_done =
       ap (λ (line : ℕ). done_from (map done_by (display_line entries)) line (first_env n ns given (display_line entries)) (λ x. back (Plain Nothing)) back) (first_line-display entries)
-      ∙ ap (λ (names : List Label). doing (stmt.ReturnItem entries) (record { node = n; space = ns; line = 1; locals = set_locals given ++ map (λ (name : Label). (name, None)) (add_all [] (names ++ [])) }) (λ x. back (Plain Nothing)) back) (bound-display entries)
+      ∙ ap (λ (names : List Label). doing (stmt.ReturnItem entries) (record { node = n; namespace = ns; line = 1; locals = set_locals given ++ map (λ (name : Label). (name, None)) (add_all [] (names ++ [])) }) (λ x. back (Plain Nothing)) back) (bound-display entries)
       ∙ ap (λ (d : Doing). d (line_env n ns given) (λ x. back (Plain Nothing)) back) (doing-display entries)
 
 -- of a space whose parameter formula is a display

@@ -1,0 +1,9 @@
+pub mod Equations
+pub mod Rules
+pub mod NodeRules
+pub mod Rounds
+pub mod FormRules
+pub mod LoopRules
+pub mod Worked
+pub mod FurtherWorked
+pub mod LoopWorked
