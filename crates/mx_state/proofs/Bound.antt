@@ -26,8 +26,6 @@ use Rattle.mx_formulas.specs.Walks.{walked}
 use Rattle.mx_formulas.specs.Binding.{binding, cell_bound, item_bound, item_sought}
 use Rattle.mx_formulas.specs.Nodes.{cells_found, cells_run, input_or, item_found, item_run, body}
 use Rattle.mx_formulas.specs.Laws.{model_of, BindsTo}
-use Rattle.mx_formulas.proofs.Walking.{Came}
-use Rattle.mx_formulas.proofs.Sound.{cell_binds, item_binds}
 use Rattle.mx_state.specs.Proper.{IsPlace, address_of}
 use Rattle.mx_state.proofs.Walked.{passes, ended, not_refused}
 
@@ -54,15 +52,6 @@ module _ (look : Key → KeyResult) where
 
   told_once : (b c : Node) (es : List Event) → Leads (model_of look) (told c) es (told b) → b ≡ c
   told_once b c es l = let e : Faults ZeroDivision b 0 ≡ Faults ZeroDivision c 0 = ended look (Faults ZeroDivision b 0) (Faults ZeroDivision c 0) es l in cc
-
-  -- ---- a node has one bound form
-
-  pub one_bound_form : (n b c : Node) → BindsTo (model_of look) n b → BindsTo (model_of look) n c → b ≡ c
-  one_bound_form n b c p q =
-      elim (comparable (model_of look) (binding n told) (told b) (told c) p.events q.events (p.leads told) (q.leads told)) [
-        | inl a ↦ sym (told_once c b a.more a.leads)
-        | inr a ↦ told_once b c a.more a.leads
-      ]
 
   -- ---- cells
 
@@ -216,7 +205,6 @@ module _ (look : Key → KeyResult) where
     pub key : Key
     pub binds : (go : Node → Run) → Leads (model_of look) (binding n go) (before ++ Tested key ∷ []) (go b)
     pub looks : is_input (model_of look) n ≡ false → (front : List Event) × (go : KeyResult → Run) × Leads (model_of look) (body n) (front ++ before) (Looks key go)
-    pub own : BindsTo (model_of look) b b
 
   no_input : (run : Run) (r : KeyResult) → is_value r ≡ false → input_or run r ≡ run
   no_input run (found.Value v) h = cc
@@ -238,7 +226,7 @@ module _ (look : Key → KeyResult) where
 
   -- ---- cells and items that are walked to
 
-  module _ (at : List Segment) (space : Namespace) (came : Came look space) (place : IsPlace space.at) (before : List Event)
+  module _ (at : List Segment) (space : Namespace) (place : IsPlace space.at) (before : List Event)
       (walks : (g : Namespace → Run) → Leads (model_of look) (walked at g) before (g space)) where
     bound_cells : (name : Label) (args : List Value) (h : HasCells name args space) → BoundAs (Cell at name args) (cells_node name args space h)
     bound_cells name args h =
@@ -255,7 +243,6 @@ module _ (look : Key → KeyResult) where
               (refl, ap (cell_bound space name args go) h.here ∙ ap (λ (wrong : Bool). if wrong then Ends WrongCount else go b) h.count);
           looks = λ i. let p = cells_begin at name args i in
               (p.front, cells_found (Cell at name args) space args, leads_append (model_of look) (body (Cell at name args)) (cells_run (Cell at name args) at name args) _ p.front before p.leads (walks (λ m. Looks (key.Cells m.source name) (cells_found (Cell at name args) m args))));
-          own = cell_binds look space came name h.formula h.allow args h.here h.count;
         }
 
     bound_item : (args : List Value) (h : HasItems args space) → BoundAs (Item at args) (item_node args space h)
@@ -274,7 +261,6 @@ module _ (look : Key → KeyResult) where
               (subst (λ (run : Run). Leads (model_of look) run (Tested k ∷ []) (go b)) (sym (ap (λ (c : Bool). if c then Tests k (item_bound space args go) else Ends NoSuch) h.named))
               (refl, ap (item_bound space args go) h.here ∙ ap (λ (wrong : Bool). if wrong then Ends WrongCount else go b) h.count));
           looks = λ i. ([], item_found n space args, subst (λ (run : Run). Leads (model_of look) (body n) before run) (ap (λ (c : Bool). if c then Looks k (item_found n space args) else Ends NoSuch) h.named) (walks (item_run n args)));
-          own = item_binds look space came h.params args h.named h.here h.count;
         }
 
   -- ---- each node that binds, and each with a value, has these
@@ -283,11 +269,11 @@ module _ (look : Key → KeyResult) where
   bound_as (Cell at name args) b t =
       let p = passes look (Faults ZeroDivision b 0) tt at (λ ns. Tests (key.Cells ns.source name) (cell_bound ns name args told)) t.events (t.leads told) in
       let c = tests_cells name args p.space b p.after p.rest in
-      subst (λ m. BoundAs (Cell at name args) m) (sym c.is) (bound_cells at p.space p.came p.place p.before p.leads name args c.has)
+      subst (λ m. BoundAs (Cell at name args) m) (sym c.is) (bound_cells at p.space p.place p.before p.leads name args c.has)
   bound_as (Item at args) b t =
       let p = passes look (Faults ZeroDivision b 0) tt at (λ ns. item_sought ns args told) t.events (t.leads told) in
       let c = tests_item args p.space b (ends_with_name p.space.at) refl p.after p.rest in
-      subst (λ m. BoundAs (Item at args) m) (sym c.is) (bound_item at p.space p.came p.place p.before p.leads args c.has)
+      subst (λ m. BoundAs (Item at args) m) (sym c.is) (bound_item at p.space p.place p.before p.leads args c.has)
 
   -- what is left of a whole run
   record Left (run : Run) (r : Reply) : Type 0 where
@@ -312,10 +298,10 @@ module _ (look : Key → KeyResult) where
       let l = left n (cells_run n at name args) r (cells_begin at name args i) m in
       let p = passes look (Gives r) tt at (λ ns. Looks (key.Cells ns.source name) (cells_found n ns args)) l.events l.leads in
       let h = looks_cells name args n p.space r p.after p.rest in
-      record { node = cells_node name args p.space h; is = bound_cells at p.space p.came p.place p.before p.leads name args h }
+      record { node = cells_node name args p.space h; is = bound_cells at p.space p.place p.before p.leads name args h }
   value_bound (Item at args) r m i =
       let n : Node = Item at args in
       let l = left n (body n) r (record { front = []; leads = refl }) m in
       let p = passes look (Gives r) tt at (item_run n args) l.events l.leads in
       let h = looks_item args n p.space r (ends_with_name p.space.at) refl p.after p.rest in
-      record { node = item_node args p.space h; is = bound_item at p.space p.came p.place p.before p.leads args h }
+      record { node = item_node args p.space h; is = bound_item at p.space p.place p.before p.leads args h }

@@ -17,6 +17,7 @@ use Rattle.mx_runs.specs.Support.{HasSameKeys}
 use Rattle.mx_runs.proofs.Lists.{among_or_not}
 use Rattle.mx_runs.proofs.Agreement.{keys_unchanged, key_agreement}
 use Rattle.mx_formulas.specs.Laws.{BindsTo}
+use Rattle.mx_formulas.proofs.Binds.{one_bound_form as one_over, bound_is_bound as own_bound}
 use Rattle.mx_formulas.proofs.Sound.{asked_is_bound, tests_are_covered}
 use Rattle.mx_answers.specs.Held.{nodes_of, Counts}
 use Rattle.mx_answers.specs.Records.{IsRightMemo, HasReads}
@@ -36,7 +37,7 @@ use Rattle.mx_state.specs.Proper.{HasArguments, IsProper, IsPlace}
 use Rattle.mx_state.specs.State.{State, IsHeldAsBound, IsRightState, AreProper}
 use Rattle.mx_state.specs.Evaluations.{IsAsked, AsBound, AsWritten, Evaluates, TellsReads}
 use Rattle.mx_state.specs.Laws as law
-use Rattle.mx_state.proofs.Bound.{inputs_end, one_bound_form as one_over, bound_as, value_bound}
+use Rattle.mx_state.proofs.Bound.{inputs_end, bound_as, value_bound}
 use Rattle.mx_state.proofs.Staying.{binds_still}
 
 pub texts_have_runs : law.TextsHaveRuns
@@ -60,7 +61,7 @@ one_bound_answer s n None (Some c) p q = absurd (p c q)
 one_bound_answer s n None None p q = refl
 
 pub bound_is_bound : law.BoundIsBound
-bound_is_bound text n b p = (bound_as (key_result text) n b p).own
+bound_is_bound text n b p = own_bound (key_result text) n b p
 
 pub value_binds : law.ValueBinds
 value_binds text n r m i =
