@@ -49,7 +49,7 @@ none_unset : (e : Expr) → unset_locals (one_line e) ≡ []
 none_unset e = ap (λ (names : List Label). map (λ (name : Label). (name, None)) (add_all [] (names ++ []))) (bound-return (Some e))
 
 module _ (n : Node) (ns : Namespace) (given : Overlay) (e : Expr) (back : Returned → Run) where
-  line_done : body_done (one_line e) (first_env n ns given (one_line e)) back ≡ reading e (line_env n ns given) (λ v. back (Plain v))
+  pub line_done : body_done (one_line e) (first_env n ns given (one_line e)) back ≡ reading e (line_env n ns given) (λ v. back (Plain v))
   line_done =
       ap (λ (line : ℕ). done_from (map done_by (one_line e)) line (first_env n ns given (one_line e)) (λ x. back (Plain Nothing)) back) (first_line-return e)
       ∙ ap (λ (us : Locals). doing (stmt.Return (Some e)) (record { node = n; namespace = ns; line = 1; locals = set_locals given ++ us }) (λ x. back (Plain Nothing)) back) (none_unset e)

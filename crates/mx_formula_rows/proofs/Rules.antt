@@ -117,7 +117,7 @@ pub record Stands (look : Key → KeyResult) (env : Env) (e : Expr) (es : List E
 abbrev pub Comes : (Key → KeyResult) → Env → Expr → List Event → Value → Type 0
 Comes look env e es v = Stands look env e es (Called v)
 
-with_value : (look : Key → KeyResult) (env : Env) (e : Expr) (es : List Event) (v : Value) → Comes look env e es v → (go : Value → Run) → Leads (model_of look) (reading e env go) es (go v)
+pub with_value : (look : Key → KeyResult) (env : Env) (e : Expr) (es : List Event) (v : Value) → Comes look env e es v → (go : Value → Run) → Leads (model_of look) (reading e env go) es (go v)
 with_value look env e es v p go = p.leads (λ c. as_value c env go)
 
 pub lit : {look : Key → KeyResult} {env : Env} {v : Value} → Comes look env (expr.Lit v) [] v

@@ -123,7 +123,7 @@ formula_taken_over = means (static_run [] (one_name (codes "B")) (top (codes "B"
 
 -- ---- tables
 
-out_text : (bytes : List ℕ) → out-Value (Text bytes) ≡ Value-F.Text bytes
+pub out_text : (bytes : List ℕ) → out-Value (Text bytes) ≡ Value-F.Text bytes
 out_text bytes = search (values, rules)
 
 rate_at_30 : entry_of row.rates (Int (pos 30) ∷ Text row.rate ∷ []) ≡ Ok (Fix (pos 2500000))
@@ -148,7 +148,7 @@ abbrev basing_reply : Reply
 basing_reply = record { value = Space (row.s_item 4); namespace = Some basing_space }
 
 -- the base P gives its own path
-base_source : (n : Node) (over : Overlay) → source_or_fault (path_in (out-Value (Space (segment.Name (codes "P") ∷ [])))) n (item_given (child (codes "S") root) (Int (pos 4) ∷ []) over) ≡ item_given (child (codes "S") root) (Int (pos 4) ∷ []) over row.space_p
+pub base_source : (n : Node) (over : Overlay) → source_or_fault (path_in (out-Value (Space (segment.Name (codes "P") ∷ [])))) n (item_given (child (codes "S") root) (Int (pos 4) ∷ []) over) ≡ item_given (child (codes "S") root) (Int (pos 4) ∷ []) over row.space_p
 base_source n over =
     let go : List Label → Run = item_given (child (codes "S") root) (Int (pos 4) ∷ []) over in
     ap (λ (content : Content). source_or_fault (path_in content) n go) (out_space (segment.Name (codes "P") ∷ [])) ∙ ap (λ (s : Step). source_or_fault (with_name s (Some [])) n go) (out_name (codes "P"))

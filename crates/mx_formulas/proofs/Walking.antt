@@ -31,7 +31,7 @@ out_name name = ap out-Segment (sym (segment.rolls-Name name)) ∙ out-roll-Segm
 pub out_item : (args : List Value) → out-Segment (segment.Item args) ≡ Segment-F.Item args
 out_item args = ap out-Segment (sym (segment.rolls-Item args)) ∙ out-roll-Segment (Segment-F.Item args)
 
-walk_append : (xs ys : List Segment) (ns : Namespace) (go : Namespace → Run) → walked_from (xs ++ ys) ns go ≡ walked_from xs ns (λ m. walked_from ys m go)
+pub walk_append : (xs ys : List Segment) (ns : Namespace) (go : Namespace → Run) → walked_from (xs ++ ys) ns go ≡ walked_from xs ns (λ m. walked_from ys m go)
 walk_append [] ys ns go = refl
 walk_append (x ∷ xs) ys ns go =
     ap (λ (k : Namespace → Run). if nat_le 64 (length ns.at) then Ends NoSuch else stepped (out-Segment x) ns k) (fun_ext (λ next. walk_append xs ys next go))

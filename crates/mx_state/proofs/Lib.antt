@@ -1,0 +1,5 @@
+pub mod Walked
+pub mod Bound
+pub mod Staying
+pub mod States
+pub mod Evaluated

@@ -1,0 +1,6 @@
+pub mod Model
+pub mod Proper
+pub mod State
+pub mod Evaluations
+pub mod Changes
+pub mod Laws

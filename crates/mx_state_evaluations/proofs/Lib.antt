@@ -1,0 +1,9 @@
+mod Entries
+mod Products
+mod Choice
+mod Inherited
+mod Fixed
+mod Lost
+mod Circles
+mod Failing
+mod ItemRing

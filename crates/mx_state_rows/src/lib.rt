@@ -1,0 +1,4 @@
+//! Worked examples over model texts, as theorems.
+#![tactic(auto)]
+
+pub mod rows;
