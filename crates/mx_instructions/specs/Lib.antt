@@ -1,0 +1,4 @@
+pub mod Names
+pub mod Operators
+pub mod Expressions
+pub mod Statements

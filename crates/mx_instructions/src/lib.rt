@@ -1,0 +1,4 @@
+//! Formulas as flat lists of instructions, for every form of expression and statement.
+#![tactic(auto)]
+
+pub mod action;
