@@ -1,0 +1,6 @@
+pub mod Places
+pub mod Locals
+pub mod Steps
+pub mod Finding
+pub mod Calling
+pub mod Forms
