@@ -4,3 +4,4 @@ pub mod Steps
 pub mod Finding
 pub mod Calling
 pub mod Forms
+pub mod Generators
