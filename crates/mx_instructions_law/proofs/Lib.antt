@@ -5,3 +5,5 @@ pub mod Finding
 pub mod Calling
 pub mod Forms
 pub mod Generators
+pub mod Names
+pub mod Behind
