@@ -7,3 +7,4 @@ pub mod Forms
 pub mod Generators
 pub mod Names
 pub mod Behind
+pub mod Trees
