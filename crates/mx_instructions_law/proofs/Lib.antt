@@ -8,3 +8,5 @@ pub mod Generators
 pub mod Names
 pub mod Behind
 pub mod Trees
+pub mod Bodies
+pub mod Statements
