@@ -1,9 +1,9 @@
 -- What stands behind a part.
-use Rattle.std.proofs.Common.{◌≡◌, ℕ, ◌+◌, List, [], ◌∷◌, ◌++◌, length, Option, Some, None, Bool, refl, sym, ap, ◌∙◌, subst, arith, length-append}
+use Rattle.std.proofs.Common.{◌≡◌, ℕ, ◌+◌, List, [], ◌∷◌, ◌++◌, length, Option, refl, sym, subst, arith, length-append}
 use Rattle.mx_value.specs.declared.label.Label.{Label}
 use Rattle.mx_value.specs.declared.value.Value.{Value}
 use Rattle.mx_runs.specs.Runs.{Run}
-use Rattle.mx_formulas.specs.Environments.{Locals, Reading}
+use Rattle.mx_formulas.specs.Environments.{Locals}
 use Rattle.mx_formulas.specs.Lookup.{Callee, Called, Function, valued, attribute}
 use Rattle.mx_formulas.specs.Lookup as lookup
 use Rattle.mx_formulas.specs.Expressions.{called_over, applied, applied_from}
@@ -11,7 +11,7 @@ use Rattle.mx_formulas.specs.Expressions as meant
 use Rattle.mx_instructions.specs.declared.action.Instr.{Instr}
 use Rattle.mx_instructions.specs.declared.action.Local.{Local}
 use Rattle.mx_instructions.specs.declared.action.Action.TheVariants as act
-use Rattle.mx_instructions.specs.Expressions.{at, Coded, Part, values_code, Generator, item_code, rounds_code, over_code, Behind, Call, Over, Index, Attr, behind_code, trailed_code, headed_code, post_part}
+use Rattle.mx_instructions.specs.Expressions.{at, Part, values_code, Generator, item_code, rounds_code, over_code, Behind, Call, Over, Index, Attr, behind_code, trailed_code, headed_code, post_part}
 use Rattle.mx_instructions_law.specs.States.{Slot, Holds, Collected, slot_of, state, Home}
 use Rattle.mx_instructions_law.specs.Machine.{deciding_truth, Does}
 use Rattle.mx_instructions_law.specs.Fits.{HasAt, IsScope, Stands, here}
@@ -133,7 +133,7 @@ module _ (code : List Instr) (h : Home) (size : ℕ) where
       let rest = trailed_code (d ∷ ds) scope line in
       let end : n + length rest ≡ pc + length (c ++ rest) = omega (arith, length-append c rest) in
       let on : (u : Callee) → Takes b u → (ms : List (Option Value)) → Stands size scope locals ms → Does code h (state n (slot_of u ∷ stack) ms) (applied_from (b ∷ bs) u (here h line locals) go)
-          = λ u t ms sm. trails_called b bs d ds fd fs scope line sc u t n stack ms locals go (has_back code size pc c rest has) sm (λ w ns sn. moved code h _ _ (Holds w ∷ stack) ns (go (Called w)) end (k w ns sn)) in
+      = λ u t ms sm. trails_called b bs d ds fd fs scope line sc u t n stack ms locals go (has_back code size pc c rest has) sm (λ w ns sn. moved code h _ _ (Holds w ∷ stack) ns (go (Called w)) end (k w ns sn)) in
       heads p r f b bs d fd scope line sc pc stack ls locals go (has_front code size pc c rest has) st on
     where
       heads : (p : Part) (r : lookup.Part) → PartFits code h size r p → (b : meant.Behind) (bs : List meant.Behind) (d : Behind) → FitsTrailer b d → (scope : List Local) (line : ℕ) → IsScope scope → (pc : ℕ) (stack : List Slot) (ls : List (Option Value)) (locals : Locals) (go : Callee → Run) → HasAt code size pc (headed_code p d scope line) → Stands size scope locals ls

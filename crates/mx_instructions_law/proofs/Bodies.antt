@@ -1,5 +1,5 @@
 -- Each form of statement, by its parts.
-use Rattle.std.proofs.Common.{◌≡◌, ℕ, ◌+◌, ◌-◌, List, [], ◌∷◌, ◌++◌, length, map, Option, Some, None, Bool, true, false, refl, sym, ap, ◌∙◌, subst, arith, length-append}
+use Rattle.std.proofs.Common.{◌≡◌, ℕ, ◌+◌, ◌-◌, List, [], ◌∷◌, ◌++◌, length, map, Option, Some, None, refl, sym, ap, ◌∙◌, subst, arith, length-append}
 use Rattle.std.specs.Prelude.{slice_get, slice_set}
 use Rattle.mx_value.specs.declared.label.Label.{Label}
 use Rattle.mx_value.specs.declared.value.Value.{Value}
@@ -23,7 +23,7 @@ use Rattle.mx_instructions.specs.declared.action.Local.{Local}
 use Rattle.mx_instructions.specs.declared.action.Action.TheVariants as act
 use Rattle.mx_instructions.specs.Names.{place_of}
 use Rattle.mx_instructions.specs.Operators.{change_op}
-use Rattle.mx_instructions.specs.Expressions.{at, Coded, name_code, choice_code, rounds_code, expr_code}
+use Rattle.mx_instructions.specs.Expressions.{at, name_code, choice_code, rounds_code, expr_code}
 use Rattle.mx_instructions.specs.Statements.{store_action, nothing_code, refs_code, entries_code, return_code, display_code, assign_code, change_code, turns_code}
 use Rattle.mx_instructions_law.specs.States.{Slot, Holds, Items, Shown, state, On, Home}
 use Rattle.mx_instructions_law.specs.Machine.{Does}

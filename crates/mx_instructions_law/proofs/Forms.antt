@@ -1,10 +1,9 @@
 -- The forms of expression that neither look up nor call, by their parts.
-use Rattle.std.proofs.Common.{◌≡◌, ℕ, zero, suc, ◌+◌, List, [], ◌∷◌, ◌++◌, length, map, Option, Some, None, Bool, true, false, Result, Ok, Err, refl, sym, ap, ◌∙◌, subst, arith, length-append, append-nil}
+use Rattle.std.proofs.Common.{◌≡◌, ℕ, suc, ◌+◌, List, [], ◌∷◌, ◌++◌, length, map, Option, Bool, true, false, Ok, Err, refl, sym, ap, ◌∙◌, subst, arith, length-append, append-nil}
 use Rattle.std.specs.Prelude.{if◌then◌else◌}
 use Rattle.std.specs.Bool.{beq}
 use Rattle.mx_value.specs.declared.value.Value.{Value, out-Value}
 use Rattle.mx_value.specs.declared.value.Value.TheVariants.{Nothing, Flag, Tup}
-use Rattle.mx_value.specs.declared.fault.FaultKind.{FaultKind}
 use Rattle.mx_value.specs.declared.fault.FaultKind.TheVariants.{TypeMismatch}
 use Rattle.mx_syntax.specs.declared.expr.Sign.{Sign}
 use Rattle.mx_syntax.specs.declared.expr.Sign.TheVariants as sign
@@ -25,8 +24,8 @@ use Rattle.mx_instructions.specs.declared.action.Local.{Local}
 use Rattle.mx_instructions.specs.declared.action.Action.TheVariants as act
 use Rattle.mx_instructions.specs.Operators.{sign_op}
 use Rattle.mx_instructions.specs.Expressions.{at, Coded, Part, values_code, joined_code, signs_code, signs_of, beside, raised_code, powered_code, further_code, deciding_code, choice_code, arms_code, Comparing, By, IsNothing, compare_action, none_action, links_code, chain_code}
-use Rattle.mx_instructions_law.specs.States.{Slot, Holds, State, state, Next, On, Home, on_many, tested_next, flag_next}
-use Rattle.mx_instructions_law.specs.Machine.{truth_of, holds, next_of, Leads, Does, Ended}
+use Rattle.mx_instructions_law.specs.States.{Slot, Holds, state, Next, On, Home, on_many}
+use Rattle.mx_instructions_law.specs.Machine.{truth_of, holds, next_of, Does, Ended}
 use Rattle.mx_instructions_law.specs.Fits.{HasAt, IsScope, Stands, here, Fits, CalleeFits}
 use Rattle.mx_instructions_law.proofs.Places.{has_front, has_back}
 use Rattle.mx_instructions_law.proofs.Steps.{acts, went, to_either, computes, tests, flags, hits, moved}

@@ -1,5 +1,5 @@
 -- Generators as the argument of a call.
-use Rattle.std.proofs.Common.{◌≡◌, ◌≤◌, ℕ, suc, ◌+◌, ◌-◌, List, [], ◌∷◌, ◌++◌, length, Option, Some, None, Bool, true, false, refl, sym, ap, ◌∙◌, subst, arith, length-append}
+use Rattle.std.proofs.Common.{◌≡◌, ℕ, ◌+◌, ◌-◌, List, [], ◌∷◌, ◌++◌, length, Option, Some, None, Bool, refl, sym, subst, arith, length-append}
 use Rattle.std.specs.Prelude.{slice_get, slice_set, not, if◌then◌else◌}
 use Rattle.std.specs.Bool.{beq}
 use Rattle.mx_value.specs.declared.label.Label.{Label}
@@ -19,10 +19,10 @@ use Rattle.mx_instructions.specs.declared.action.Instr.{Instr}
 use Rattle.mx_instructions.specs.declared.action.Local.{Local}
 use Rattle.mx_instructions.specs.declared.action.Action.TheVariants as act
 use Rattle.mx_instructions.specs.Names.{with_name}
-use Rattle.mx_instructions.specs.Expressions.{at, Coded, Generator, filter_code, item_code, rounds_code, over_code}
-use Rattle.mx_instructions_law.specs.States.{Slot, Holds, Items, Collected, slot_of, State, state, Next, On, Home, on_callee}
+use Rattle.mx_instructions.specs.Expressions.{at, Coded, Generator, filter_code, item_code, rounds_code}
+use Rattle.mx_instructions_law.specs.States.{Slot, Holds, Items, Collected, slot_of, state, Next, On, Home, on_callee}
 use Rattle.mx_instructions_law.specs.Machine.{deciding_truth, collect_next, made_next, items_next, Leads, Does, Ended}
-use Rattle.mx_instructions_law.specs.Fits.{HasAt, IsScope, Stands, here, Fits}
+use Rattle.mx_instructions_law.specs.Fits.{HasAt, IsScope, Stands, here}
 use Rattle.mx_instructions_law.proofs.Places.{has_front, has_back}
 use Rattle.mx_instructions_law.proofs.Locals.{scope_in, stands_in, stands_out}
 use Rattle.mx_instructions_law.proofs.Steps.{acts, went, computes, tests, hits, moved}

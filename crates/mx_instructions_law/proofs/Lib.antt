@@ -10,3 +10,4 @@ pub mod Behind
 pub mod Trees
 pub mod Bodies
 pub mod Statements
+pub mod Formulas

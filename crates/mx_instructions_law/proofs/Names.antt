@@ -1,10 +1,8 @@
 -- Names, attributes, calls and subscripts: the instructions that look up and ask.
-use Rattle.std.proofs.Common.{◌≡◌, ℕ, ◌+◌, List, [], ◌∷◌, ◌++◌, length, Option, Some, None, Bool, refl, ap, ◌∙◌}
+use Rattle.std.proofs.Common.{◌≡◌, ℕ, ◌+◌, List, [], ◌∷◌, length, Option, Some, None, refl, ap, ◌∙◌}
 use Rattle.std.specs.Prelude.{slice_get}
 use Rattle.mx_value.specs.declared.label.Label.{Label}
 use Rattle.mx_value.specs.declared.value.Value.{Value, out-Value}
-use Rattle.mx_value.specs.declared.value.Segment.{Segment}
-use Rattle.mx_value.specs.declared.namespace.Namespace.{Namespace}
 use Rattle.mx_runs.specs.Runs.{Run}
 use Rattle.mx_formulas.specs.Environments.{Locals, local_of}
 use Rattle.mx_formulas.specs.Lookup.{Callee, Called, Function, sought, named, as_value, valued, attribute}
@@ -16,11 +14,10 @@ use Rattle.mx_instructions.specs.declared.action.Action.{Action}
 use Rattle.mx_instructions.specs.declared.action.Action.TheVariants as act
 use Rattle.mx_instructions.specs.Names.{place_of}
 use Rattle.mx_instructions.specs.Expressions.{at, local_or, name_code, callee_code}
-use Rattle.mx_instructions_law.specs.States.{Slot, Holds, Way, slot_of, State, state, Next, On, Home, on_one}
-use Rattle.mx_instructions_law.specs.Finding.{Place, Again, valued_next, local_next, attribute_next}
-use Rattle.mx_instructions_law.specs.Calling.{call_next, index_next}
+use Rattle.mx_instructions_law.specs.States.{Slot, Holds, Way, slot_of, State, state, Next, On, Home}
+use Rattle.mx_instructions_law.specs.Finding.{Place, Again, valued_next, local_next}
 use Rattle.mx_instructions_law.specs.Machine.{on_walk, next_of, Leads, Does, Ended}
-use Rattle.mx_instructions_law.specs.Fits.{HasAt, IsScope, Stands, here, CalleeFits}
+use Rattle.mx_instructions_law.specs.Fits.{IsScope, here, CalleeFits}
 use Rattle.mx_instructions_law.proofs.Locals.{IsPlaced, stands_placed}
 use Rattle.mx_instructions_law.proofs.Steps.{acts, went}
 use Rattle.mx_instructions_law.proofs.Finding.{name_does, valued_does, attribute_does}

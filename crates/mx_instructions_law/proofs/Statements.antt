@@ -1,7 +1,6 @@
 -- The instructions of a statement do what it means: the forms, put together over the trees.
-use Rattle.std.proofs.Common.{◌≡◌, ◌∙◌, ℕ, ◌+◌, List, [], ◌∷◌, ◌++◌, length, map, Option, Some, None, refl, sym, ap, subst, arith, length-append}
+use Rattle.std.proofs.Common.{◌≡◌, ℕ, ◌+◌, List, [], ◌∷◌, ◌++◌, length, map, Option, Some, None, refl, sym, ap, subst, arith, length-append}
 use Rattle.mx_value.specs.declared.label.Label.{Label}
-use Rattle.mx_value.specs.declared.value.Value.{Value}
 use Rattle.mx_syntax.specs.declared.stmt.Stmt.{Stmt, fold-roll-Stmt}
 use Rattle.mx_syntax.specs.declared.stmt.IfArm.{IfArm, para-IfArm, fold-roll-IfArm, para-roll-IfArm}
 use Rattle.mx_syntax.specs.declared.stmt.Stmt.TheOpen.{Stmt-F, IfArm-F}
@@ -11,8 +10,7 @@ use Rattle.mx_syntax.specs.Heights.{height, arm_height}
 use Rattle.mx_syntax.specs.Lists.{flat}
 use Rattle.mx_syntax.specs.Locals.{bound_by, arm_bound}
 use Rattle.mx_syntax.specs.Locals as locals
-use Rattle.mx_formulas.specs.Environments.{Locals, at_line}
-use Rattle.mx_formulas.specs.Expressions.{reading}
+use Rattle.mx_formulas.specs.Environments.{at_line}
 use Rattle.mx_formulas.specs.Statements.{Doing, Done, ArmDoing, doing, done_by, done_from, other_from, arms_from}
 use Rattle.mx_formulas.specs.Statements as meant
 use Rattle.mx_instructions.specs.declared.action.Instr.{Instr}

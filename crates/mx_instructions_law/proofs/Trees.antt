@@ -1,5 +1,5 @@
 -- The instructions of an expression do what it means: the forms, put together over the trees.
-use Rattle.std.proofs.Common.{◌≡◌, ℕ, true, false, List, [], ◌∷◌, ◌++◌, length, map, Option, Some, None, refl, sym, ap, subst, arith, rules}
+use Rattle.std.proofs.Common.{◌≡◌, ℕ, true, false, List, [], ◌∷◌, ◌++◌, length, map, Some, None, refl, sym, subst, rules}
 use Rattle.std.proofs.lemmas.List.{length-map}
 use Rattle.mx_value.specs.declared.value.Value.{Value}
 use Rattle.mx_syntax.specs.declared.expr.Expr.{Expr, fold-roll-Expr, the_lemmas}
@@ -32,7 +32,9 @@ use Rattle.mx_instructions.specs.declared.action.Action.TheVariants as act
 use Rattle.mx_instructions.specs.Operators.{compare_op, sum_op, product_op}
 use Rattle.mx_instructions.specs.Expressions.{Coded, Part, Comparing, By, IsNothing, Behind, Call, Over, Index, Attr, value_of, part_code, expr_code}
 use Rattle.mx_instructions.specs.Expressions as made
+use Rattle.mx_instructions.specs.declared.action.Local.{Local}
 use Rattle.mx_instructions_law.specs.States.{Home}
+use Rattle.mx_instructions_law.specs.Fits.{IsScope, CalleeFits}
 use Rattle.mx_instructions_law.proofs.Forms.{Both, AlwaysFits, PartFits, FitsBeside, FitsArm, FitsComparing, tuple_fits, joined_fits, signed_fits, not_fits, powered_fits, deciding_fits, arms_fit, compared_fits, lit_fits}
 use Rattle.mx_instructions_law.proofs.Names.{name_fits, callee_fits}
 use Rattle.mx_instructions_law.proofs.Behind.{FitsTrailer, post_fits}
@@ -283,3 +285,7 @@ module _ (code : List Instr) (h : Home) (size : ℕ) where
   -- each expression's instructions do what it means
   pub expr_fits : (e : Expr) → AlwaysFits code h size (reading e) (expr_code e)
   expr_fits e = (part_fits e).0
+
+  -- and as a part that is called
+  pub callees_fit : (e : Expr) (scope : List Local) (line : ℕ) → IsScope scope → CalleeFits code h size scope line ((part_code e).callee scope line) (part_read e)
+  callees_fit e = (part_fits e).1
