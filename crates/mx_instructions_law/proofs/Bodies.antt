@@ -1,5 +1,5 @@
 -- Each form of statement, by its parts.
-use Rattle.std.proofs.Common.{◌≡◌, ℕ, ◌+◌, ◌-◌, List, [], ◌∷◌, ◌++◌, length, map, Option, Some, None, refl, sym, ap, ◌∙◌, subst, arith, length-append}
+use Rattle.std.proofs.Common.{◌≡◌, ℕ, ◌+◌, ◌-◌, List, [], ◌∷◌, ◌++◌, length, map, Option, Some, None, refl, sym, ap, ◌∙◌, subst, arith, length-append, false}
 use Rattle.std.specs.Prelude.{slice_get, slice_set}
 use Rattle.mx_value.specs.declared.label.Label.{Label}
 use Rattle.mx_value.specs.declared.value.Value.{Value}
@@ -117,7 +117,7 @@ module _ (code : List Instr) (h : Home) (size : ℕ) where
   pub change_fits : (name : Label) (o : ArithOp) (e : Expr) (scope : List Local) (line : ℕ) → IsScope scope → ((place : ℕ) × (place_of scope name ≡ Some place))
       → DoesFit code h size scope (change_code name o e scope line) (λ env after back. valued (named name) (at_line line env) (λ old. reading e (at_line line env) (λ v. computed (of_two (changing o) old v) (at_line line env) (λ x. after (with_local name x (at_line line env))))))
   change_fits name o e scope line sc p pc stack ls l locals after back has st r k =
-      let n = name_code name scope line in
+      let n = name_code name false scope line in
       let c = expr_code e scope line in
       let hc = has_back code size pc n _ has in
       let q = pc + length n in

@@ -93,7 +93,7 @@ module _ (code : List Instr) (h : Home) (size : ℕ) where
 
   -- a part, as a value and as what is called
   abbrev pub PartFits : lookup.Part → Part → Type 0
-  PartFits r p = AlwaysFits (valued r) p.value × ((scope : List Local) (line : ℕ) → IsScope scope → CalleeFits code h size scope line (p.callee scope line) r)
+  PartFits r p = AlwaysFits (valued r) (p false) × ((scope : List Local) (line : ℕ) → IsScope scope → CalleeFits code h size scope line (p true scope line) r)
 
   -- the same behind a value
   abbrev pub FitsBehind : List Local → ℕ → List Instr → (Value → Reading) → Type 0
@@ -152,8 +152,8 @@ module _ (code : List Instr) (h : Home) (size : ℕ) where
       (computes code h (of_two q.0 u v) line locals (λ x. On (state (n + 1) (Holds x ∷ stack) ms)) _ (λ s.
       joins ps qs b.1 scope line sc s (n + 1) stack ms locals go hb.2 sm (λ v ns sn. moved code h _ _ (Holds v ∷ stack) ns (go v) end (k v ns sn))))))
 
-  pub joined_fits : (p : Part) (r : lookup.Part) (ps : List (Op × Reading)) (qs : List (Op × Coded)) → PartFits r p → Both FitsBeside ps qs → AlwaysFits (λ env go. valued r env (λ v. joined_from ps v env go)) (λ scope line. p.value scope line ++ joined_code qs scope line)
-  joined_fits p r ps qs f b = behind_fits p.value (valued r) (joined_code qs) (joined_from ps) f.0 (joins ps qs b)
+  pub joined_fits : (p : Part) (r : lookup.Part) (ps : List (Op × Reading)) (qs : List (Op × Coded)) → PartFits r p → Both FitsBeside ps qs → AlwaysFits (λ env go. valued r env (λ v. joined_from ps v env go)) (λ scope line. (p false) scope line ++ joined_code qs scope line)
+  joined_fits p r ps qs f b = behind_fits (p false) (valued r) (joined_code qs) (joined_from ps) f.0 (joins ps qs b)
 
   -- ---- signs, powers and `not`
 
@@ -169,11 +169,11 @@ module _ (code : List Instr) (h : Home) (size : ℕ) where
       (acts code h (state p (Holds v ∷ stack) ms) (at line (act.Unary (sign_op s))) _ _ (has_back code size pc c _ has).0 refl
       (computes code h (gives (sign_op s) (v ∷ [])) line locals (λ x. On (state (p + 1) (Holds x ∷ stack) ms)) go (λ x. moved code h _ _ (Holds x ∷ stack) ms (go x) end (k x ms sm))))))
 
-  pub signed_fits : (p : Part) (r : lookup.Part) (signs : List Sign) → PartFits r p → AlwaysFits (λ env go. valued r env (λ v. computed (signed signs v) env go)) (λ scope line. p.value scope line ++ signs_code signs line)
-  signed_fits p r signs f = behind_fits p.value (valued r) (λ scope line. signs_code signs line) (λ u. computed (signed signs u)) f.0 (λ scope line sc. signs_fit signs scope line)
+  pub signed_fits : (p : Part) (r : lookup.Part) (signs : List Sign) → PartFits r p → AlwaysFits (λ env go. valued r env (λ v. computed (signed signs v) env go)) (λ scope line. (p false) scope line ++ signs_code signs line)
+  signed_fits p r signs f = behind_fits (p false) (valued r) (λ scope line. signs_code signs line) (λ u. computed (signed signs u)) f.0 (λ scope line sc. signs_fit signs scope line)
 
-  pub not_fits : (p : Part) (r : lookup.Part) (count : ℕ) → PartFits r p → AlwaysFits (λ env go. valued r env (λ v. computed (denied count v) env go)) (λ scope line. p.value scope line ++ at line (act.Not count) ∷ [])
-  not_fits p r count f = behind_fits p.value (valued r) (λ scope line. at line (act.Not count) ∷ []) (λ u. computed (denied count u)) f.0 (λ scope line sc u pc stack ls locals go has st k.
+  pub not_fits : (p : Part) (r : lookup.Part) (count : ℕ) → PartFits r p → AlwaysFits (λ env go. valued r env (λ v. computed (denied count v) env go)) (λ scope line. (p false) scope line ++ at line (act.Not count) ∷ [])
+  not_fits p r count f = behind_fits (p false) (valued r) (λ scope line. at line (act.Not count) ∷ []) (λ u. computed (denied count u)) f.0 (λ scope line sc u pc stack ls locals go has st k.
       acts code h (state pc (Holds u ∷ stack) ls) (at line (act.Not count)) _ _ has.0 refl (computes code h (denied count u) line locals (λ x. On (state (pc + 1) (Holds x ∷ stack) ls)) go (λ x. k x ls st)))
 
   -- parts of a power that are computed, with those to the right joined first
@@ -210,8 +210,8 @@ module _ (code : List Instr) (h : Home) (size : ℕ) where
       (besides_fit ps qs b.1 scope line sc (done ++ (p.0, v) ∷ []) stack (pc + length is) ms locals go (has_back code size pc is _ has) sm (λ vs ns sn e.
       moved code h _ _ (onto_beside vs stack) ns (go vs) end (k vs ns sn (e ∙ first_last done (p.0, v) (map signs_of qs) ∙ ap (λ (s : List Sign). map first done ++ s ∷ map signs_of qs) b.0.0)))))
 
-  pub powered_fits : (p : Part) (r : lookup.Part) (ps : List (List Sign × Reading)) (qs : List (List Sign × Coded)) → PartFits r p → Both FitsBeside ps qs → AlwaysFits (λ env go. valued r env (λ v. powered_by ps v env go)) (λ scope line. p.value scope line ++ powered_code qs scope line)
-  powered_fits p r ps qs f b = behind_fits p.value (valued r) (powered_code qs) (powered_by ps) f.0 (λ scope line sc u pc stack ls locals go has st k.
+  pub powered_fits : (p : Part) (r : lookup.Part) (ps : List (List Sign × Reading)) (qs : List (List Sign × Coded)) → PartFits r p → Both FitsBeside ps qs → AlwaysFits (λ env go. valued r env (λ v. powered_by ps v env go)) (λ scope line. (p false) scope line ++ powered_code qs scope line)
+  powered_fits p r ps qs f b = behind_fits (p false) (valued r) (powered_code qs) (powered_by ps) f.0 (λ scope line sc u pc stack ls locals go has st k.
       let c = values_code (map beside qs) scope line in
       let cr = raised_code (map signs_of qs) line in
       let end : pc + length c + length cr ≡ pc + length (powered_code qs scope line) = omega (arith, length-append c cr) in
@@ -338,8 +338,8 @@ module _ (code : List Instr) (h : Home) (size : ℕ) where
   chain_fits (p ∷ ps) [] b scope line sc u pc stack ls locals go has st k = absurd b
   chain_fits (p ∷ ps) (q ∷ qs) b scope line sc u pc stack ls locals go has st k = links_fit p ps q qs b.0 b.1 scope line sc u pc stack ls locals go has st k
 
-  pub compared_fits : (p : Part) (r : lookup.Part) (ps : List meant.Comparing) (qs : List Comparing) → PartFits r p → Both FitsComparing ps qs → AlwaysFits (λ env go. valued r env (λ v. compared_from ps v env go)) (λ scope line. p.value scope line ++ chain_code qs scope line)
-  compared_fits p r ps qs f b = behind_fits p.value (valued r) (chain_code qs) (compared_from ps) f.0 (chain_fits ps qs b)
+  pub compared_fits : (p : Part) (r : lookup.Part) (ps : List meant.Comparing) (qs : List Comparing) → PartFits r p → Both FitsComparing ps qs → AlwaysFits (λ env go. valued r env (λ v. compared_from ps v env go)) (λ scope line. (p false) scope line ++ chain_code qs scope line)
+  compared_fits p r ps qs f b = behind_fits (p false) (valued r) (chain_code qs) (compared_from ps) f.0 (chain_fits ps qs b)
 
   pub lit_fits : (v : Value) → AlwaysFits (λ env go. go v) (λ scope line. at line (act.Const v) ∷ [])
   lit_fits v scope line sc pc stack ls locals go has st k = went code h (state pc stack ls) (state (pc + 1) (Holds v ∷ stack) ls) (at line (act.Const v)) (go v) has.0 refl (k v ls st)

@@ -1,5 +1,5 @@
 -- Names, attributes, calls and subscripts: the instructions that look up and ask.
-use Rattle.std.proofs.Common.{◌≡◌, ℕ, ◌+◌, List, [], ◌∷◌, length, Option, Some, None, refl, ap, ◌∙◌}
+use Rattle.std.proofs.Common.{◌≡◌, ℕ, ◌+◌, List, [], ◌∷◌, length, Option, Some, None, refl, ap, ◌∙◌, true, false}
 use Rattle.std.specs.Prelude.{slice_get}
 use Rattle.mx_value.specs.declared.label.Label.{Label}
 use Rattle.mx_value.specs.declared.value.Value.{Value, out-Value}
@@ -13,7 +13,7 @@ use Rattle.mx_instructions.specs.declared.action.Local.{Local}
 use Rattle.mx_instructions.specs.declared.action.Action.{Action}
 use Rattle.mx_instructions.specs.declared.action.Action.TheVariants as act
 use Rattle.mx_instructions.specs.Names.{place_of}
-use Rattle.mx_instructions.specs.Expressions.{at, local_or, name_code, callee_code}
+use Rattle.mx_instructions.specs.Expressions.{at, local_or, name_code}
 use Rattle.mx_instructions_law.specs.States.{Slot, Holds, Way, slot_of, State, state, Next, On, Home}
 use Rattle.mx_instructions_law.specs.Finding.{Place, Again, valued_next, local_next}
 use Rattle.mx_instructions_law.specs.Machine.{on_walk, next_of, Leads, Does, Ended}
@@ -46,13 +46,13 @@ module _ (code : List Instr) (h : Home) (size : ℕ) where
   place_does a name line pc stack ls locals go (Some i) (Some None) has p k d = acts code h (state pc stack ls) (at line (act.Local i)) _ _ has (ap (λ o. local_next h o line (λ v. state (pc + 1) (Holds v ∷ stack) ls)) p) (Ended _)
   place_does a name line pc stack ls locals go (Some i) (Some (Some v)) has p k d = went code h (state pc stack ls) (state (pc + 1) (Holds v ∷ stack) ls) (at line (act.Local i)) _ has (ap (λ o. local_next h o line (λ v. state (pc + 1) (Holds v ∷ stack) ls)) p) (k v)
 
-  pub name_fits : (name : Label) → AlwaysFits code h size (valued (named name)) (name_code name)
+  pub name_fits : (name : Label) → AlwaysFits code h size (valued (named name)) (name_code name false)
   name_fits name scope line sc pc stack ls locals go has st k =
       let to : Value → State = λ v. state (pc + 1) (Holds v ∷ stack) ls in
       place_does (act.Name name) name line pc stack ls locals (λ c. as_value c (here h line locals) go) (place_of scope name) (local_of locals name) has.0 (stands_placed size scope locals ls name sc st) (λ v. k v ls st)
       (name_does code h line locals name (valued_next h line to) _ (valued_does code h line locals to go (λ v. k v ls st)))
 
-  pub callee_fits : (name : Label) (scope : List Local) (line : ℕ) → IsScope scope → CalleeFits code h size scope line (callee_code name scope line) (named name)
+  pub callee_fits : (name : Label) (scope : List Local) (line : ℕ) → IsScope scope → CalleeFits code h size scope line (name_code name true scope line) (named name)
   callee_fits name scope line sc pc stack ls locals go has st k =
       place_does (act.Callee name) name line pc stack ls locals go (place_of scope name) (local_of locals name) has.0 (stands_placed size scope locals ls name sc st) (λ v. k (Called v) ls st)
       (name_does code h line locals name (λ c. On (state (pc + 1) (slot_of c ∷ stack) ls)) go (λ c. k c ls st))

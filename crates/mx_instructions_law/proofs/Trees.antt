@@ -171,8 +171,8 @@ module _ (code : List Instr) (h : Home) (size : ℕ) where
       ((λ scope line sc. f scope line sc), (λ scope line sc pc stack ls locals go has st k. f scope line sc pc stack ls locals _ has st (λ v ms sm. k (lookup.Called v) ms sm)))
 
   -- a first part, with what is made of its value
-  first_fits : (r : lookup.Part) (p : Part) (f : Value → Reading) (c : Coded) → AlwaysFits code h size (λ env go. valued r env (λ v. f v env go)) (λ scope line. p.value scope line ++ c scope line) → PartFits code h size (meant.first_then r f) (made.first_then p c)
-  first_fits r p f c fits = value_fits (λ env go. valued r env (λ v. f v env go)) (λ scope line. p.value scope line ++ c scope line) fits
+  first_fits : (r : lookup.Part) (p : Part) (f : Value → Reading) (c : Coded) → AlwaysFits code h size (λ env go. valued r env (λ v. f v env go)) (λ scope line. p false scope line ++ c scope line) → PartFits code h size (meant.first_then r f) (made.first_then p c)
+  first_fits r p f c fits = value_fits (λ env go. valued r env (λ v. f v env go)) (λ scope line. p false scope line ++ c scope line) fits
 
   abbrev bares : {X : Type 0} {F : X → Type 0} → List ((x : X) × F x) → List X
   bares xs = map (λ x. x.0) xs
@@ -287,5 +287,5 @@ module _ (code : List Instr) (h : Home) (size : ℕ) where
   expr_fits e = (part_fits e).0
 
   -- and as a part that is called
-  pub callees_fit : (e : Expr) (scope : List Local) (line : ℕ) → IsScope scope → CalleeFits code h size scope line ((part_code e).callee scope line) (part_read e)
+  pub callees_fit : (e : Expr) (scope : List Local) (line : ℕ) → IsScope scope → CalleeFits code h size scope line (part_code e true scope line) (part_read e)
   callees_fit e = (part_fits e).1

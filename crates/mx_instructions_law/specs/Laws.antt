@@ -1,5 +1,5 @@
 -- The laws: instructions do what formulas mean.
-use Rattle.std.specs.Prelude.{◌≡◌, ℕ, zero, suc, ◌-◌, Bool, false, List, [], ◌∷◌, ◌++◌, length, map, Option, Some, None}
+use Rattle.std.specs.Prelude.{◌≡◌, ℕ, zero, suc, ◌-◌, Bool, false, List, [], ◌∷◌, ◌++◌, length, map, Option, Some, None, true}
 use Rattle.mx_value.specs.declared.value.Value.{Value}
 use Rattle.mx_value.specs.declared.node.Node.{Node}
 use Rattle.mx_value.specs.declared.namespace.Namespace.{Namespace}
@@ -28,7 +28,7 @@ ExpressionLaw = (code : List Instr) (h : Home) (size : ℕ) (e : Expr) (scope : 
 -- and those of each expression as a part that is called
 abbrev pub CalleeLaw : Type 0
 CalleeLaw = (code : List Instr) (h : Home) (size : ℕ) (e : Expr) (scope : List Local) (line : ℕ) → IsScope scope
-    → CalleeFits code h size scope line ((part_code e).callee scope line) (part_read e)
+    → CalleeFits code h size scope line (part_code e true scope line) (part_read e)
 
 -- the instructions of each statement do what it means, over any scope that has places for the names that it binds
 abbrev pub StatementLaw : Type 0
