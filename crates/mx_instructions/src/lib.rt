@@ -1,4 +1,7 @@
-//! Formulas as flat lists of instructions, for every form of expression and statement.
+//! Formulas as flat lists of instructions, for every form of expression and statement: what the code of a formula is, and
+//! the compiler that makes exactly it.
 #![tactic(auto)]
 
 pub mod action;
+mod emit;
+
