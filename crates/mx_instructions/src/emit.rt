@@ -57,11 +57,7 @@ pub fn place(scope: &[Local], name: &Label) -> Option<usize>
 }
 
 /// The locals with one more in front, at the place behind all others.
-pub fn with_name(
-    alloc: Global,
-    scope: &[Local],
-    name: &Label,
-) -> Result<Vec<Local>, AllocError>
+pub fn with_name(alloc: Global, scope: &[Local], name: &Label) -> Result<Vec<Local>, AllocError>
     ensures { IfOk result (λ more. more.items ≡ names.with_name name.now scope.now) }
 {
     let mut more = Vec::new(alloc);

@@ -1,7 +1,5 @@
-//! Formulas as flat lists of instructions, for every form of expression and statement: what the code of a formula is, and
-//! the compiler that makes exactly it.
+//! Formulas as flat lists of instructions, for every form of expression and statement.
 #![tactic(auto)]
 
 pub mod action;
 mod emit;
-

@@ -1,5 +1,5 @@
 -- What stands behind a part.
-use Rattle.std.proofs.Common.{◌≡◌, ℕ, ◌+◌, List, [], ◌∷◌, ◌++◌, length, Option, refl, sym, subst, arith, length-append}
+use Rattle.std.proofs.Common.{◌≡◌, ℕ, ◌+◌, List, [], ◌∷◌, ◌++◌, length, Option, refl, sym, subst, arith, length-append, Bool, true, false}
 use Rattle.mx_value.specs.declared.label.Label.{Label}
 use Rattle.mx_value.specs.declared.value.Value.{Value}
 use Rattle.mx_runs.specs.Runs.{Run}
@@ -11,7 +11,7 @@ use Rattle.mx_formulas.specs.Expressions as meant
 use Rattle.mx_instructions.specs.declared.action.Instr.{Instr}
 use Rattle.mx_instructions.specs.declared.action.Local.{Local}
 use Rattle.mx_instructions.specs.declared.action.Action.TheVariants as act
-use Rattle.mx_instructions.specs.Expressions.{at, Part, values_code, Generator, item_code, rounds_code, over_code, Behind, Call, Over, Index, Attr, behind_code, trailed_code, headed_code, post_part}
+use Rattle.mx_instructions.specs.Expressions.{at, Part, values_code, Generator, item_code, rounds_code, over_code, Behind, Call, Over, Index, Attr, behind_code, trailed_code, called_before, post_part}
 use Rattle.mx_instructions_law.specs.States.{Slot, Holds, Collected, slot_of, state, Home}
 use Rattle.mx_instructions_law.specs.Machine.{deciding_truth, Does}
 use Rattle.mx_instructions_law.specs.Fits.{HasAt, IsScope, Stands, here}
@@ -124,41 +124,47 @@ module _ (code : List Instr) (h : Home) (size : ℕ) where
       trails bs ds fs scope line sc v (pc + length is) stack ms locals go (has_back code size pc is _ has) sm (λ w ns sn. moved code h _ _ (Holds w ∷ stack) ns (go (Called w)) end (k w ns sn)))
 
   -- a part with what stands behind it
-  posts : (p : Part) (r : lookup.Part) → PartFits code h size r p → (b : meant.Behind) (bs : List meant.Behind) (d : Behind) (ds : List Behind) → FitsTrailer b d → Both FitsTrailer bs ds → (scope : List Local) (line : ℕ) → IsScope scope → (pc : ℕ) (stack : List Slot) (ls : List (Option Value)) (locals : Locals) (go : Callee → Run) → HasAt code size pc (headed_code p d scope line ++ trailed_code (d ∷ ds) scope line) → Stands size scope locals ls
-      → ((v : Value) (ms : List (Option Value)) → Stands size scope locals ms → Does code h (state (pc + length (headed_code p d scope line ++ trailed_code (d ∷ ds) scope line)) (Holds v ∷ stack) ms) (go (Called v)))
+  posts : (called : Bool) (p : Part) (r : lookup.Part) → PartFits code h size r p → (b : meant.Behind) (bs : List meant.Behind) (d : Behind) (ds : List Behind) → FitsTrailer b d → Both FitsTrailer bs ds → (scope : List Local) (line : ℕ) → IsScope scope → (pc : ℕ) (stack : List Slot) (ls : List (Option Value)) (locals : Locals) (go : Callee → Run) → HasAt code size pc (p (called_before (d ∷ ds) called) scope line ++ trailed_code (d ∷ ds) scope line) → Stands size scope locals ls
+      → ((v : Value) (ms : List (Option Value)) → Stands size scope locals ms → Does code h (state (pc + length (p (called_before (d ∷ ds) called) scope line ++ trailed_code (d ∷ ds) scope line)) (Holds v ∷ stack) ms) (go (Called v)))
       → Does code h (state pc stack ls) (r (here h line locals) (λ c. applied_from (b ∷ bs) c (here h line locals) go))
-  posts p r f b bs d ds fd fs scope line sc pc stack ls locals go has st k =
-      let c = headed_code p d scope line in
+  posts called p r f b bs d ds fd fs scope line sc pc stack ls locals go has st k =
+      let c = p (called_before (d ∷ ds) called) scope line in
       let n = pc + length c in
       let rest = trailed_code (d ∷ ds) scope line in
       let end : n + length rest ≡ pc + length (c ++ rest) = omega (arith, length-append c rest) in
       let on : (u : Callee) → Takes b u → (ms : List (Option Value)) → Stands size scope locals ms → Does code h (state n (slot_of u ∷ stack) ms) (applied_from (b ∷ bs) u (here h line locals) go)
       = λ u t ms sm. trails_called b bs d ds fd fs scope line sc u t n stack ms locals go (has_back code size pc c rest has) sm (λ w ns sn. moved code h _ _ (Holds w ∷ stack) ns (go (Called w)) end (k w ns sn)) in
-      heads p r f b bs d fd scope line sc pc stack ls locals go (has_front code size pc c rest has) st on
+      heads called p r f b bs d ds fd scope line sc pc stack ls locals go (has_front code size pc c rest has) st on
     where
-      heads : (p : Part) (r : lookup.Part) → PartFits code h size r p → (b : meant.Behind) (bs : List meant.Behind) (d : Behind) → FitsTrailer b d → (scope : List Local) (line : ℕ) → IsScope scope → (pc : ℕ) (stack : List Slot) (ls : List (Option Value)) (locals : Locals) (go : Callee → Run) → HasAt code size pc (headed_code p d scope line) → Stands size scope locals ls
-          → ((u : Callee) → Takes b u → (ms : List (Option Value)) → Stands size scope locals ms → Does code h (state (pc + length (headed_code p d scope line)) (slot_of u ∷ stack) ms) (applied_from (b ∷ bs) u (here h line locals) go))
+      heads : (called : Bool) (p : Part) (r : lookup.Part) → PartFits code h size r p → (b : meant.Behind) (bs : List meant.Behind) (d : Behind) (ds : List Behind) → FitsTrailer b d → (scope : List Local) (line : ℕ) → IsScope scope → (pc : ℕ) (stack : List Slot) (ls : List (Option Value)) (locals : Locals) (go : Callee → Run) → HasAt code size pc (p (called_before (d ∷ ds) called) scope line) → Stands size scope locals ls
+          → ((u : Callee) → Takes b u → (ms : List (Option Value)) → Stands size scope locals ms → Does code h (state (pc + length (p (called_before (d ∷ ds) called) scope line)) (slot_of u ∷ stack) ms) (applied_from (b ∷ bs) u (here h line locals) go))
           → Does code h (state pc stack ls) (r (here h line locals) (λ c. applied_from (b ∷ bs) c (here h line locals) go))
-      heads p r f (meant.Call rs) bs (Call cs) fd scope line sc pc stack ls locals go has st k = f.1 scope line sc pc stack ls locals _ has st (λ u ms sm. k u tt ms sm)
-      heads p r f (meant.Over g) bs (Over d) fd scope line sc pc stack ls locals go has st k = f.1 scope line sc pc stack ls locals _ has st (λ u ms sm. k u tt ms sm)
-      heads p r f (meant.Index rs) bs (Index cs) fd scope line sc pc stack ls locals go has st k = f.0 scope line sc pc stack ls locals _ has st (λ u ms sm. k (Called u) tt ms sm)
-      heads p r f (meant.Attr a) bs (Attr b) fd scope line sc pc stack ls locals go has st k = f.0 scope line sc pc stack ls locals _ has st (λ u ms sm. k (Called u) tt ms sm)
-      heads p r f (meant.Call rs) bs (Over d) fd scope line sc pc stack ls locals go has st k = absurd fd
-      heads p r f (meant.Call rs) bs (Index cs) fd scope line sc pc stack ls locals go has st k = absurd fd
-      heads p r f (meant.Call rs) bs (Attr b) fd scope line sc pc stack ls locals go has st k = absurd fd
-      heads p r f (meant.Over g) bs (Call cs) fd scope line sc pc stack ls locals go has st k = absurd fd
-      heads p r f (meant.Over g) bs (Index cs) fd scope line sc pc stack ls locals go has st k = absurd fd
-      heads p r f (meant.Over g) bs (Attr b) fd scope line sc pc stack ls locals go has st k = absurd fd
-      heads p r f (meant.Index rs) bs (Call cs) fd scope line sc pc stack ls locals go has st k = absurd fd
-      heads p r f (meant.Index rs) bs (Over d) fd scope line sc pc stack ls locals go has st k = absurd fd
-      heads p r f (meant.Index rs) bs (Attr b) fd scope line sc pc stack ls locals go has st k = absurd fd
-      heads p r f (meant.Attr a) bs (Call cs) fd scope line sc pc stack ls locals go has st k = absurd fd
-      heads p r f (meant.Attr a) bs (Over d) fd scope line sc pc stack ls locals go has st k = absurd fd
-      heads p r f (meant.Attr a) bs (Index cs) fd scope line sc pc stack ls locals go has st k = absurd fd
+      heads called p r f (meant.Call rs) bs (Call cs) ds fd scope line sc pc stack ls locals go has st k = f.1 scope line sc pc stack ls locals _ has st (λ u ms sm. k u tt ms sm)
+      heads called p r f (meant.Over g) bs (Over d) ds fd scope line sc pc stack ls locals go has st k = f.1 scope line sc pc stack ls locals _ has st (λ u ms sm. k u tt ms sm)
+      heads called p r f (meant.Index rs) bs (Index cs) ds fd scope line sc pc stack ls locals go has st k = f.0 scope line sc pc stack ls locals _ has st (λ u ms sm. k (Called u) tt ms sm)
+      heads called p r f (meant.Attr a) bs (Attr b) ds fd scope line sc pc stack ls locals go has st k = f.0 scope line sc pc stack ls locals _ has st (λ u ms sm. k (Called u) tt ms sm)
+      heads called p r f (meant.Call rs) bs (Over d) ds fd scope line sc pc stack ls locals go has st k = absurd fd
+      heads called p r f (meant.Call rs) bs (Index cs) ds fd scope line sc pc stack ls locals go has st k = absurd fd
+      heads called p r f (meant.Call rs) bs (Attr b) ds fd scope line sc pc stack ls locals go has st k = absurd fd
+      heads called p r f (meant.Over g) bs (Call cs) ds fd scope line sc pc stack ls locals go has st k = absurd fd
+      heads called p r f (meant.Over g) bs (Index cs) ds fd scope line sc pc stack ls locals go has st k = absurd fd
+      heads called p r f (meant.Over g) bs (Attr b) ds fd scope line sc pc stack ls locals go has st k = absurd fd
+      heads called p r f (meant.Index rs) bs (Call cs) ds fd scope line sc pc stack ls locals go has st k = absurd fd
+      heads called p r f (meant.Index rs) bs (Over d) ds fd scope line sc pc stack ls locals go has st k = absurd fd
+      heads called p r f (meant.Index rs) bs (Attr b) ds fd scope line sc pc stack ls locals go has st k = absurd fd
+      heads called p r f (meant.Attr a) bs (Call cs) ds fd scope line sc pc stack ls locals go has st k = absurd fd
+      heads called p r f (meant.Attr a) bs (Over d) ds fd scope line sc pc stack ls locals go has st k = absurd fd
+      heads called p r f (meant.Attr a) bs (Index cs) ds fd scope line sc pc stack ls locals go has st k = absurd fd
 
   pub post_fits : (p : Part) (r : lookup.Part) (bs : List meant.Behind) (ds : List Behind) → PartFits code h size r p → Both FitsTrailer bs ds → PartFits code h size (λ env go. r env (λ c. applied_from bs c env go)) (post_part p ds)
-  post_fits p r [] [] f fs = f
+  post_fits p r [] [] f fs = (
+    (λ scope line sc pc stack ls locals go has st k. f.0 scope line sc pc stack ls locals go (has_front code size pc (p false scope line) [] has) st (λ v ms sm. moved code h _ _ (Holds v ∷ stack) ms (go v) (no_more pc (p false scope line)) (k v ms sm))),
+    (λ scope line sc pc stack ls locals go has st k. f.1 scope line sc pc stack ls locals go (has_front code size pc (p true scope line) [] has) st (λ v ms sm. moved code h _ _ (slot_of v ∷ stack) ms (go v) (no_more pc (p true scope line)) (k v ms sm))),
+  )
+    where
+      no_more : (pc : ℕ) (c : List Instr) → pc + length c ≡ pc + length (c ++ [])
+      no_more pc c = omega (arith, length-append c [])
   post_fits p r [] (d ∷ ds) f fs = absurd fs
   post_fits p r (b ∷ bs) [] f fs = absurd fs
   post_fits p r (b ∷ bs) (d ∷ ds) f fs =
-      ((λ scope line sc pc stack ls locals go has st k. posts p r f b bs d ds fs.0 fs.1 scope line sc pc stack ls locals _ has st k), (λ scope line sc pc stack ls locals go has st k. posts p r f b bs d ds fs.0 fs.1 scope line sc pc stack ls locals go has st (λ v ms sm. k (Called v) ms sm)))
+      ((λ scope line sc pc stack ls locals go has st k. posts false p r f b bs d ds fs.0 fs.1 scope line sc pc stack ls locals _ has st k), (λ scope line sc pc stack ls locals go has st k. posts true p r f b bs d ds fs.0 fs.1 scope line sc pc stack ls locals go has st (λ v ms sm. k (Called v) ms sm)))

@@ -32,6 +32,7 @@ use Rattle.mx_instructions.specs.declared.action.Action.TheVariants as act
 use Rattle.mx_instructions.specs.Operators.{compare_op, sum_op, product_op}
 use Rattle.mx_instructions.specs.Expressions.{Coded, Part, Comparing, By, IsNothing, Behind, Call, Over, Index, Attr, value_of, part_code, expr_code}
 use Rattle.mx_instructions.specs.Expressions as made
+use Rattle.mx_instructions.specs.Parts.{args_code, comparison_code, trailer_code, arm_code, power_code, product_code, sum_code}
 use Rattle.mx_instructions.specs.declared.action.Local.{Local}
 use Rattle.mx_instructions_law.specs.States.{Home}
 use Rattle.mx_instructions_law.specs.Fits.{IsScope, CalleeFits}
@@ -39,7 +40,7 @@ use Rattle.mx_instructions_law.proofs.Forms.{Both, AlwaysFits, PartFits, FitsBes
 use Rattle.mx_instructions_law.proofs.Names.{name_fits, callee_fits}
 use Rattle.mx_instructions_law.proofs.Behind.{FitsTrailer, post_fits}
 
--- ---- how the other parts of an expression are read and compiled
+-- ---- how the other parts of an expression are read
 
 abbrev args_read : Args → meant.Behind
 args_read = meant.folded fold-Args meant.args_step meant.comparison_step meant.expr_step meant.behind_step meant.arm_step meant.power_step meant.product_step meant.sum_step
@@ -61,27 +62,6 @@ product_read = meant.folded fold-ProductPart meant.args_step meant.comparison_st
 
 abbrev sum_read : SumPart → Op × Reading
 sum_read = meant.folded fold-SumPart meant.args_step meant.comparison_step meant.expr_step meant.behind_step meant.arm_step meant.power_step meant.product_step meant.sum_step
-
-abbrev args_code : Args → Behind
-args_code = made.folded fold-Args made.args_step made.comparison_step made.expr_step made.behind_step made.arm_step made.power_step made.product_step made.sum_step
-
-abbrev comparison_code : Comparison → Comparing
-comparison_code = made.folded fold-Comparison made.args_step made.comparison_step made.expr_step made.behind_step made.arm_step made.power_step made.product_step made.sum_step
-
-abbrev trailer_code : Trailer → Behind
-trailer_code = made.folded fold-Trailer made.args_step made.comparison_step made.expr_step made.behind_step made.arm_step made.power_step made.product_step made.sum_step
-
-abbrev arm_code : Arm → Coded × Coded
-arm_code = made.folded fold-Arm made.args_step made.comparison_step made.expr_step made.behind_step made.arm_step made.power_step made.product_step made.sum_step
-
-abbrev power_code : PowerPart → List Sign × Coded
-power_code = made.folded fold-PowerPart made.args_step made.comparison_step made.expr_step made.behind_step made.arm_step made.power_step made.product_step made.sum_step
-
-abbrev product_code : ProductPart → Op × Coded
-product_code = made.folded fold-ProductPart made.args_step made.comparison_step made.expr_step made.behind_step made.arm_step made.power_step made.product_step made.sum_step
-
-abbrev sum_code : SumPart → Op × Coded
-sum_code = made.folded fold-SumPart made.args_step made.comparison_step made.expr_step made.behind_step made.arm_step made.power_step made.product_step made.sum_step
 
 -- a layer of parts, as it is read and as it is compiled
 abbrev Bare : Type 0
