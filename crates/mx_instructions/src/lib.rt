@@ -3,3 +3,4 @@
 
 pub mod action;
 mod emit;
+mod expressions;
