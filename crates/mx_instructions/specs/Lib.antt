@@ -1,5 +1,5 @@
 pub mod Names
 pub mod Operators
 pub mod Expressions
-pub mod Parts
 pub mod Statements
+pub mod Parts

@@ -4,3 +4,4 @@
 pub mod action;
 mod emit;
 mod expressions;
+mod statements;
