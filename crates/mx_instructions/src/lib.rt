@@ -1,7 +1,10 @@
-//! Formulas as flat lists of instructions, for every form of expression and statement.
+//! Formulas as flat lists of instructions, for every form of expression and statement: what the code of a formula is, and
+//! the compiler that makes exactly it.
 #![tactic(auto)]
 
 pub mod action;
+pub mod code;
+pub mod compile;
 mod emit;
 mod expressions;
 mod statements;
