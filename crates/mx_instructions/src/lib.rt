@@ -5,6 +5,7 @@
 pub mod action;
 pub mod code;
 pub mod compile;
+pub mod compiled;
 mod emit;
 mod expressions;
 mod statements;
