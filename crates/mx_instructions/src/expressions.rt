@@ -7,10 +7,14 @@ ghost use Rattle.mx_instructions.specs.Expressions as coded;
 ghost use Rattle.mx_instructions.specs.Parts.{args_code, comparison_code, trailer_code, arm_code, power_code, product_code, sum_code};
 
 use crate::action::{Action, Instr, Local};
-use crate::emit::{compare_op, product_op, put, put_block, put_name, sign_op, since, sum_op, way_back, with_name};
+use crate::emit::{
+    compare_op, product_op, put, put_block, put_name, sign_op, since, sum_op, way_back, with_name,
+};
 use mx_list::shared::Shared;
 use mx_ops::op::Op;
-use mx_syntax::expr::{Args, Arm, Comparison, Expr, PowerPart, ProductPart, Sign, SumPart, Trailer};
+use mx_syntax::expr::{
+    Args, Arm, Comparison, Expr, PowerPart, ProductPart, Sign, SumPart, Trailer,
+};
 use mx_value::fault::FaultKind;
 use mx_value::value::Value;
 use std::alloc::{AllocError, Global};
@@ -335,7 +339,14 @@ fn put_args(
         } => {
             let mut item = Vec::new(alloc);
             let inner = with_name(alloc, scope, name)?;
-            put_part(alloc, &mut item, inner.as_slice(), line, element.get(), false)?;
+            put_part(
+                alloc,
+                &mut item,
+                inner.as_slice(),
+                line,
+                element.get(),
+                false,
+            )?;
             put_filter(alloc, &mut item, inner.as_slice(), line, test)?;
             put(code, line, Action::Call(1))?;
             put(code, line, Action::Made)?;

@@ -1,10 +1,8 @@
-use Rattle.std.proofs.Common.{◌≡◌, ℕ, ◌+◌, ◌-◌, List, [], ◌∷◌, ◌++◌, Bool, Some, None, map, drop, length, reverse, refl, sym, ap, ◌∙◌, subst, arith, append-nil}
+use Rattle.std.proofs.Common.{◌≡◌, ◌-◌, List, [], ◌∷◌, ◌++◌, map, length, reverse, refl, sym, ap, ◌∙◌, subst, arith}
 use Rattle.std.specs.Prelude.{OnOk, true, false, option_map}
 use Rattle.std.proofs.lemmas.List.{length-reverse}
 use Rattle.mx_syntax.specs.declared.expr.Expr.{Expr}
 use Rattle.mx_syntax.specs.declared.expr.Expr.TheVariants as form
-use Rattle.mx_syntax.specs.declared.expr.Args.{Args}
-use Rattle.mx_syntax.specs.declared.expr.Args.TheVariants as args
 use Rattle.mx_syntax.specs.declared.expr.Arm.{Arm}
 use Rattle.mx_syntax.specs.declared.expr.Comparison.{Comparison}
 use Rattle.mx_syntax.specs.declared.expr.PowerPart.{PowerPart}
@@ -12,13 +10,12 @@ use Rattle.mx_syntax.specs.declared.expr.ProductPart.{ProductPart}
 use Rattle.mx_syntax.specs.declared.expr.SumPart.{SumPart}
 use Rattle.mx_syntax.specs.declared.expr.Trailer.{Trailer}
 use Rattle.mx_syntax.specs.declared.expr.Sign.{Sign}
-use Rattle.mx_ops.specs.declared.op.Op.{Op}
 use Rattle.mx_instructions.specs.declared.action.Instr.{Instr}
 use Rattle.mx_instructions.specs.declared.action.Action.TheVariants as act
 use Rattle.mx_instructions.specs.declared.action.Local.{Local}
 use Rattle.mx_instructions.specs.Names.{with_name}
 use Rattle.mx_instructions.specs.Operators.{compare_op}
-use Rattle.mx_instructions.specs.Expressions.{at, Coded, Part, value_of, part_code, chain_code, joined_code, powered_code, signs_code, arms_code, trailed_code, called_before, compare_action, Generator, filter_code, first_then, value_part, post_part}
+use Rattle.mx_instructions.specs.Expressions.{at, Part, value_of, part_code, chain_code, joined_code, powered_code, signs_code, arms_code, trailed_code, called_before, compare_action, Generator, filter_code, first_then, post_part}
 use Rattle.mx_instructions.specs.Parts.{arm_code, comparison_code, power_code, product_code, sum_code, trailer_code, args_code}
 use Rattle.mx_instructions.proofs.Putting.{further_more, link_by, link_none, as_part, arms_same, code-op, code-is-none, code-is-not-none, code-gen, code-cond, code-not, code-compare, code-sum, code-product, code-signed, code-power, code-post, over_put}
 use Rattle.mx_instructions.proofs.expressions.+expression.Goals as goal
@@ -152,7 +149,7 @@ put_args-returns-in_ok-put_part-in-Gen-2 t c =
     (over_put c.args.args.now g scope line (length scope) c.put_filter.new.code.items c.put_part.new.code.items c.args.code.now.items c.put-in-Gen.new.code.items c.put-in-Gen-2.new.code.items c.put_collected.new.code.items c.put-in-Gen-3.new.code.items c.put_part-in-Gen.new.code.items
     (ap args_code c.in-Gen.is ∙ code-gen element name over c.in-Gen.test) refl
     (c.in_ok-put_part-in-Gen.ensures ∙ ap (λ (x : Expr). part_code x false c.as_slice-in-Gen.result.now line ++ reverse c.new-item.result.items) c.get.ensures
-        ∙ ap (λ (ls : List Local). part_code element false ls line ++ reverse c.new-item.result.items) first ∙ ap (λ (xs : List Instr). part_code element false inner line ++ reverse xs) c.new-item.ensures.items)
+    ∙ ap (λ (ls : List Local). part_code element false ls line ++ reverse c.new-item.result.items) first ∙ ap (λ (xs : List Instr). part_code element false inner line ++ reverse xs) c.new-item.ensures.items)
     (c.in_ok-put_filter-in-Gen.ensures ∙ ap (λ (ls : List Local). filter_code test ls line ++ reverse c.put_part.new.code.items) second)
     c.in_ok-put-in-Gen.ensures c.in_ok-put-in-Gen-2.ensures c.in_ok-put_collected-in-Gen.ensures c.in_ok-put-in-Gen-3.ensures
     (c.in_ok-put_part-in-Gen-2.ensures ∙ ap (λ (x : Expr). part_code x false scope line ++ reverse c.put-in-Gen-3.new.code.items) c.get-in-Gen.ensures))

@@ -1,4 +1,4 @@
-use Rattle.std.proofs.Common.{◌≡◌, ◌-◌, ◌++◌, ap, ◌∙◌, length, reverse, arith, subst}
+use Rattle.std.proofs.Common.{◌≡◌, ◌-◌, ap, ◌∙◌, length, reverse, arith, subst}
 use Rattle.std.specs.Prelude.{OnOk}
 use Rattle.mx_instructions.specs.declared.action.Action.TheVariants.{Collect}
 use Rattle.mx_instructions.proofs.Putting.{rounds_put}

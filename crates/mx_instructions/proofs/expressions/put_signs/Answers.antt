@@ -2,7 +2,7 @@ use Rattle.std.proofs.Common.{sym, ap, ◌∙◌, ◌∷◌, ◌++◌, reverse, 
 use Rattle.mx_syntax.specs.declared.expr.Sign.TheVariants.{Plus}
 use Rattle.mx_instructions.specs.declared.action.Action.TheVariants.{Unary}
 use Rattle.mx_instructions.specs.Operators.{sign_op}
-use Rattle.mx_instructions.specs.Expressions.{at, signs_code}
+use Rattle.mx_instructions.specs.Expressions.{at}
 use Rattle.mx_instructions.proofs.Putting.{signs_more}
 use Rattle.mx_instructions.proofs.expressions.put_signs.Goals as goal
 

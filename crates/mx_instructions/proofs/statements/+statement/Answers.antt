@@ -41,7 +41,7 @@ put_stmt-returns-in_ok-put-in-For t c =
     let inner = body_code (map coded body) scope (line + 1) in
     let turns = turns_code (place_of scope name) line inner in
     let first : reverse c.put_body-in-For.new.code.items ≡ inner = c.in_ok-put_body-in-For.ensures ∙ ap (λ (b : List Stmt). body_code (map coded b) scope c.in_ok-inner-in-For.inner ++ reverse c.new-turns.result.items) c.as_slice-in-For.ensures
-        ∙ ap (λ n. body_code (map coded body) scope n ++ reverse c.new-turns.result.items) (c.in_ok-inner-in-For.ensures 1 refl) ∙ ap (λ (xs : List Instr). inner ++ reverse xs) c.new-turns.ensures.items ∙ append-nil inner in
+    ∙ ap (λ n. body_code (map coded body) scope n ++ reverse c.new-turns.result.items) (c.in_ok-inner-in-For.ensures 1 refl) ∙ ap (λ (xs : List Instr). inner ++ reverse xs) c.new-turns.ensures.items ∙ append-nil inner in
     let second : reverse c.put_turns.new.code.items ≡ turns ++ rest = c.in_ok-put_turns-in-For.ensures ∙ ap (λ is. turns_code (place_of scope name) line is ++ rest) first in
     let third : reverse c.put-in-For.new.code.items ≡ (at line act.Iterate ∷ turns) ++ rest = c.in_ok-put-in-For.ensures ∙ ap (λ is. at line act.Iterate ∷ is) second in
     subst (λ is. OnOk c.put_part-in-For.result (reverse c.put_part-in-For.new.code.items ≡ is))

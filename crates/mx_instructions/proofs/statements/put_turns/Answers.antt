@@ -1,4 +1,4 @@
-use Rattle.std.proofs.Common.{◌≡◌, ◌-◌, ◌++◌, sym, ap, ◌∙◌, length, reverse, arith, subst}
+use Rattle.std.proofs.Common.{◌≡◌, ◌-◌, sym, ap, ◌∙◌, length, reverse, arith, subst}
 use Rattle.std.specs.Prelude.{OnOk}
 use Rattle.mx_instructions.proofs.Stacking.{turns_put}
 use Rattle.mx_instructions.proofs.statements.put_turns.Goals as goal
