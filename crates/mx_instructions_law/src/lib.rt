@@ -1,0 +1,4 @@
+//! What instructions do, and the law that the instructions of a formula do what it means.
+#![tactic(auto)]
+
+pub mod laws;
