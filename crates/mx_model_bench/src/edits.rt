@@ -3,13 +3,13 @@ use mx_edit::edit::Edit;
 use mx_list::items::Items;
 use mx_list::list::List;
 use mx_list::shared::Shared;
-use mx_world::prepare::{commit, is_read, prepare};
-use mx_world::world::World;
 use mx_syntax::expr::Expr;
 use mx_syntax::stmt::{Formula, Param, Stmt};
 use mx_value::label::Label;
 use mx_value::node::Path;
 use mx_value::value::{Addr, Segment, Value};
+use mx_world::prepare::{commit, is_read, prepare};
+use mx_world::world::World;
 use std::alloc::{AllocError, Global};
 
 /// A letter and a number.

@@ -25,13 +25,19 @@ fn measure(rt: &HostRuntime, times: u32) -> io::Result<()> {
         made = made.wrapping_add(define_cells(alloc, &mut many, 1_000, 10)?);
     }
     let taken = start.elapsed(rt)?;
-    println!(rt; "10,000 cells in 1,000 spaces, {times} times: {} ms, {made} accepted", taken.as_millis())?;
+    println!(rt;
+        "10,000 cells in 1,000 spaces, {times} times: {} ms, {made} accepted",
+        taken.as_millis()
+    )?;
 
     let mut one = new_model(alloc, 1)?;
     let start = Instant::now(rt)?;
     let made = define_cells(alloc, &mut one, 1, 10_000)?;
     let taken = start.elapsed(rt)?;
-    println!(rt; "10,000 cells in one space: {} ms, {made} accepted", taken.as_millis())?;
+    println!(rt;
+        "10,000 cells in one space: {} ms, {made} accepted",
+        taken.as_millis()
+    )?;
 
     let start = Instant::now(rt)?;
     let made = set_inputs(alloc, &mut one, 100_000)?;
@@ -42,7 +48,10 @@ fn measure(rt: &HostRuntime, times: u32) -> io::Result<()> {
     let start = Instant::now(rt)?;
     let made = make_spaces(alloc, &mut spaces, 2_000, 50)?;
     let taken = start.elapsed(rt)?;
-    println!(rt; "2,000 spaces with a base each: {} ms, {made} accepted", taken.as_millis())?;
+    println!(rt;
+        "2,000 spaces with a base each: {} ms, {made} accepted",
+        taken.as_millis()
+    )?;
     Ok(())
 }
 
