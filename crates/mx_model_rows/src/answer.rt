@@ -1,9 +1,11 @@
 //! The answer to one line.
 use crate::found::push_found;
 use crate::query::read_key;
+use mx_c3::space::SpaceId;
 use mx_edit::edit::Edit;
 use mx_edit::refusal::EditRefusal;
 use mx_model::keys::key_result;
+use mx_model::text::ModelText;
 use mx_print::append::push;
 use mx_script::{Command, read_command};
 use mx_text::edit::{push_edit_refusal, push_path};
@@ -44,19 +46,49 @@ pub fn answer(
     out: &mut Vec<u8>,
 ) -> Result<(), AllocError> {
     if line.starts_with(b"key ") {
-        match read_key(alloc, &line[4..])? {
-            None => push(out, b"no key")?,
-            Some(key) => push_found(alloc, out, &key_result(alloc, world.text(), &key)?)?,
-        }
-        return push(out, b"\n");
-    }
-    match read_command(alloc, &WORDS, line) {
-        Ok(Command::Edit(edit)) => change(alloc, world, &edit, out)?,
-        Ok(Command::Order(path)) => push_order(world, &path, out)?,
-        Ok(_) => push(out, b"no row")?,
-        Err(_) => push(out, b"bad form")?,
+        look_up(alloc, world, &line[4..], out)?;
+    } else {
+        run_command(alloc, world, line, out)?;
     }
     push(out, b"\n")
+}
+
+/// Adds what a key leads to.
+fn look_up(alloc: Global, world: &World, text: &[u8], out: &mut Vec<u8>) -> Result<(), AllocError> {
+    match read_key(alloc, text)? {
+        None => push(out, b"no key"),
+        Some(key) => {
+            let found = key_result(alloc, world.text(), &key)?;
+            push_found(alloc, out, &found)
+        }
+    }
+}
+
+/// Answers the command that a line says.
+fn run_command(
+    alloc: Global,
+    world: &mut World,
+    line: &[u8],
+    out: &mut Vec<u8>,
+) -> Result<(), AllocError> {
+    match read_command(alloc, &WORDS, line) {
+        Ok(command) => return carry_out(alloc, world, command, out),
+        Err(_) => return push(out, b"bad form"),
+    }
+}
+
+/// Makes an edit, or tells the order of a path.
+fn carry_out(
+    alloc: Global,
+    world: &mut World,
+    command: Command,
+    out: &mut Vec<u8>,
+) -> Result<(), AllocError> {
+    match command {
+        Command::Edit(edit) => return change(alloc, world, &edit, out),
+        Command::Order(path) => return push_order(world, &path, out),
+        _ => return push(out, b"no row"),
+    }
 }
 
 /// Makes an edit, or tells why it is refused.
@@ -83,15 +115,25 @@ fn change(
 
 /// Adds the paths of the layers of a path.
 fn push_order(world: &World, path: &Path, out: &mut Vec<u8>) -> Result<(), AllocError> {
-    let Some(id) = world.paths().find(path) else {
-        return push(out, b"refused: NoSuchSpace");
-    };
-    push(out, b"order ")?;
-    for (i, space) in world.paths().layers(id).as_slice().iter().enumerate() {
+    let paths = world.paths();
+    match paths.find(path) {
+        Some(id) => {
+            push(out, b"order ")?;
+            push_spaces(world.text(), paths.layers(id).as_slice(), out)
+        }
+        None => push(out, b"refused: NoSuchSpace"),
+    }
+}
+
+/// Adds the paths of spaces.
+fn push_spaces(text: &ModelText, spaces: &[SpaceId], out: &mut Vec<u8>) -> Result<(), AllocError> {
+    for (i, space) in spaces.iter().enumerate() {
         if i > 0 {
             push(out, b", ")?;
         }
-        push_path(out, world.text().path_of(*space).as_slice())?;
+        if space.0 < text.space_count() {
+            push_path(out, text.path_of(*space).as_slice())?;
+        }
     }
     Ok(())
 }
