@@ -1,0 +1,46 @@
+#!/usr/bin/env python3
+"""How long edits of model texts take, with their commands read: the program of mx_model_rows over generated scripts.
+
+    tools/model_bench.py        after `rt run` in crates/mx_model_rows has built the program
+
+Each line gives the seconds of a workload's edits: the time of its script less that of the part that only sets it up. The best of
+three runs counts.
+"""
+import os
+import subprocess
+import time
+
+HERE = os.path.dirname(os.path.abspath(__file__))
+PROGRAM = os.path.join(HERE, "..", "crates", "mx_model_rows", "out", "mx_model_rows")
+
+
+def seconds(lines):
+    script = "\n".join(lines) + "\n"
+    best, ok = None, 0
+    for _ in range(3):
+        start = time.perf_counter()
+        out = subprocess.run([PROGRAM], input=script, capture_output=True, text=True, check=True).stdout
+        took = time.perf_counter() - start
+        best = took if best is None else min(best, took)
+        ok = out.count("ok\n")
+    assert ok == len(lines), f"{len(lines) - ok} edits were refused"
+    return best
+
+
+def main():
+    spaces = [f"space s{i}" for i in range(1000)]
+    cells = [f"cells s{i}.c{n}(t) = {n}" for n in range(10) for i in range(1000)]
+    bare = seconds(spaces)
+    print(f"1,000 spaces: {bare:.2f} s", flush=True)
+    print(f"10,000 cells in 1,000 spaces: {seconds(spaces + cells) - bare:.2f} s", flush=True)
+    print(f"the same, twenty times: {seconds(spaces + 20 * cells) - bare:.2f} s", flush=True)
+    one = [f"cells c{n}(t) = {n}" for n in range(10000)]
+    print(f"10,000 cells in one space: {seconds(one):.2f} s", flush=True)
+    based = [line for i in range(50, 2050) for line in (f"space s{i}", f"bases s{i}: s{i % 50}")]
+    print(f"2,000 spaces with a base each: {seconds(spaces[:50] + based) - seconds(spaces[:50]):.2f} s", flush=True)
+    inputs = ["cells c(t) = t"] + [f"input c({n}) = 1" for n in range(10000)]
+    print(f"10,000 inputs: {seconds(inputs):.2f} s", flush=True)
+
+
+if __name__ == "__main__":
+    main()
