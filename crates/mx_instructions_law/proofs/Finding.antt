@@ -92,7 +92,7 @@ module _ (code : List Instr) (h : Home) where
     -- ---- names
 
     bound_name_does : (ns : Namespace) (name : Label) (to : Value → Next) (go : Value → Run) (other : Next) (otherwise : Run) → Follows to go → Leads code h other otherwise → (q : KeyResult) → Leads code h (bound_name_next h ns name line to other q) (bound_name ns name (here h line locals) go otherwise q)
-    bound_name_does ns name to go other otherwise d e found.CellsHere = cells_does ns.at name to go d
+    bound_name_does ns name to go other otherwise d e found.CellsHere = d _
     bound_name_does ns name to go other otherwise d e found.Child = space_does (child name ns).at to go d
     bound_name_does ns name to go other otherwise d e (found.Ref v owner) = Noted _ _ _ (reference_does v owner ns to go d)
     bound_name_does ns name to go other otherwise d e result = e

@@ -45,7 +45,7 @@ pub record Stands (size : ℕ) (scope : List Local) (locals : Locals) (ls : List
 
 -- where a formula is at a line, with these locals
 abbrev pub here : Home → ℕ → Locals → Env
-here h line locals = record { node = h.node; space = h.space; line = line; locals = locals }
+here h line locals = record { node = h.node; namespace = h.space; line = line; locals = locals }
 
 -- Where the rest of the code does what comes after each value that is read, with the value on the stack, the
 -- instructions before it do what is read.

@@ -31,7 +31,7 @@ reads_are model n es r reads l each =
     let c = value_is_recorded model n (record { reply = r; means = finished model n es (Gives r) tt l }) in
     let m : Leads model (model.body n) c.is.events (Ends (Gives c.entry.reply)) = subst (λ x. Leads model (model.body x) c.is.events (Ends (Gives c.entry.reply))) c.of c.is.leads in
     let e : c.is.events ≡ es = same_events model (model.body n) (Gives c.entry.reply) (Gives r) c.is.events es m l in
-    record { entry = c.entry; of = c.of; is = c.is; read = each_is_one [] (reads_of es) c.entry.reads reads (subst (λ fs. FirstEach [] (reads_of fs) c.entry.reads) e c.is.reads) each }
+    record { recorded = c; read = each_is_one [] (reads_of es) c.entry.reads reads (subst (λ fs. FirstEach [] (reads_of fs) c.entry.reads) e c.is.reads) each }
 
 -- a reference and a node, each read once
 not_seen : (at : List Segment) (name : Label) (n : Node) → Has (read.Ref at name ∷ []) (read.Node n) → ⊥
