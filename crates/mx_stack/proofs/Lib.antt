@@ -1,1 +1,3 @@
 pub mod Stacks
+pub mod Taken
+pub mod Computed

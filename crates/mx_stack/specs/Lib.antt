@@ -1,2 +1,3 @@
 pub mod Slots
 pub mod Flight
+pub mod Came
