@@ -1,6 +1,8 @@
 //! The stack on which formulas run, and what each instruction does to it.
 #![tactic(auto)]
 
+mod displays;
+mod generators;
 mod jumps;
 mod operators;
 pub mod rest;
