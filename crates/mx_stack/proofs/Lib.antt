@@ -1,3 +1,4 @@
 pub mod Stacks
 pub mod Taken
 pub mod Computed
+pub mod Collecting

@@ -1,3 +1,5 @@
 pub mod Slots
 pub mod Flight
 pub mod Came
+pub mod Callees
+pub mod Plain

@@ -1,10 +1,12 @@
 //! The stack on which formulas run, and what each instruction does to it.
 #![tactic(auto)]
 
+pub mod callee;
 mod displays;
 mod generators;
 mod jumps;
 mod operators;
+pub mod plain;
 pub mod rest;
 pub mod slot;
 pub mod stack;
