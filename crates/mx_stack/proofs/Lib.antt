@@ -2,3 +2,4 @@ pub mod Stacks
 pub mod Taken
 pub mod Computed
 pub mod Collecting
+pub mod Walking

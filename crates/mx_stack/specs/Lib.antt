@@ -3,3 +3,5 @@ pub mod Flight
 pub mod Came
 pub mod Callees
 pub mod Plain
+pub mod Returns
+pub mod Walks

@@ -3,14 +3,17 @@
 
 pub mod callee;
 mod displays;
+pub mod functions;
 mod generators;
 mod jumps;
 mod operators;
 pub mod plain;
 pub mod rest;
+pub mod returns;
 pub mod slot;
 pub mod stack;
 mod taking;
 mod tuples;
 mod values;
+pub mod walks;
 pub mod went;

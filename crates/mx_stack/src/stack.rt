@@ -82,7 +82,7 @@ impl Stack {
     /// Takes the topmost slot of the run on top.
     #[inline(always)]
     pub fn pop(&mut self) -> Option<Slot>
-        ensures { MatchOption result (self.old.top.stack ≡ []) (λ x. self.old ≡ on_top (with_slot (told x) self.new.top) self.new) }
+        ensures { MatchOption result ((self.old.top.stack ≡ []) × (self.new ≡ self.old)) (λ x. self.old ≡ on_top (with_slot (told x) self.new.top) self.new) }
     {
         if self.slots.len() <= self.base {
             return None;

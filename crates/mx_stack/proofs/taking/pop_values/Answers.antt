@@ -10,5 +10,5 @@ loop-preserved c =
     let is : c.push.new.self.items ≡ c.loop.values.items ++ c.in_ok-pop_value.field-0 ∷ [] = c.in_ok-push.ensures.items in
     record {
       taken = λ go. c.loop.invariant.taken go ∙ one_more c.args.count c.loop.counter c.loop.values.items c.push.new.self.items c.in_ok-pop_value.field-0 c.loop.stack.top.stack c.pop_value.new.stack.top.stack go c.loop-test.true e is;
-      rest = kept c.args.stack.now c.loop.stack c.pop_value.new.stack c.in_ok-pop_value.field-0 c.loop.invariant.rest c.in_ok-pop_value.ensures;
+      rest = kept c.args.stack.now c.loop.stack c.pop_value.new.stack (Holds c.in_ok-pop_value.field-0) c.loop.invariant.rest c.in_ok-pop_value.ensures;
     }
