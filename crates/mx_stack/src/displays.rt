@@ -1,9 +1,7 @@
 //! Instructions of displays.
-ghost use Rattle.std.specs.Prelude.{◌≡◌, ℕ, IfSome, OnSome};
+ghost use Rattle.std.specs.Prelude.{◌≡◌, OnSome};
 ghost use Rattle.mx_instructions.specs.declared.action.Action.TheVariants as act;
-ghost use Rattle.mx_instructions_law.specs.States.{Home};
-ghost use Rattle.mx_instructions_law.specs.Machine.{next_of};
-ghost use Rattle.mx_stack.specs.Came.{done, went_as};
+ghost use Rattle.mx_stack.specs.Came.{Came, done};
 
 use crate::slot::Slot;
 use crate::stack::Stack;
@@ -14,14 +12,14 @@ use mx_value::label::Label;
 use std::alloc::Global;
 
 pub fn display(alloc: Global, stack: &mut Stack) -> Went
-    ensures came { IfSome (done result) (λ r. (h : Home) (line : ℕ) → next_of h act.Display line stack.old.top ≡ went_as h line r stack.new.top) }
+    ensures came { Came act.Display result stack.old.top stack.new.top }
     ensures below { OnSome (done result) (stack.new.below ≡ stack.old.below) }
 {
     leave(stack, Slot::Shown(Items::new(alloc), None))
 }
 
 pub fn refer(stack: &mut Stack, name: &Label) -> Went
-    ensures came { IfSome (done result) (λ r. (h : Home) (line : ℕ) → next_of h (act.Refer name.now) line stack.old.top ≡ went_as h line r stack.new.top) }
+    ensures came { Came (act.Refer name.now) result stack.old.top stack.new.top }
     ensures below { OnSome (done result) (stack.new.below ≡ stack.old.below) }
 {
     let Ok(value) = pop_value(stack) else {
@@ -40,7 +38,7 @@ pub fn refer(stack: &mut Stack, name: &Label) -> Went
 }
 
 pub fn set_base(alloc: Global, stack: &mut Stack) -> Went
-    ensures came { IfSome (done result) (λ r. (h : Home) (line : ℕ) → next_of h act.Base line stack.old.top ≡ went_as h line r stack.new.top) }
+    ensures came { Came act.Base result stack.old.top stack.new.top }
     ensures below { OnSome (done result) (stack.new.below ≡ stack.old.below) }
 {
     let Ok(value) = pop_value(stack) else {

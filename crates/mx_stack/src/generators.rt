@@ -1,14 +1,11 @@
 //! Instructions of generators.
-ghost use Rattle.std.specs.Prelude.{◌≡◌, ◌+◌, ◌∷◌, ◌++◌, [], ℕ, Some, IfOk, IfSome, OnOk, OnSome};
+ghost use Rattle.std.specs.Prelude.{◌≡◌, Some, IfOk, IfSome, OnOk, OnSome};
 ghost use Rattle.mx_formulas.specs.Lookup.{Callee};
 ghost use Rattle.mx_instructions.specs.declared.action.Action.TheVariants as act;
 ghost use Rattle.mx_instructions_law.specs.States as law;
-ghost use Rattle.mx_instructions_law.specs.States.{Home, slot_of};
-ghost use Rattle.mx_instructions_law.specs.Machine.{deciding_truth, next_of};
-ghost use Rattle.mx_stack.specs.Slots.{told};
 ghost use Rattle.mx_stack.specs.Callees.{callee_of};
 ghost use Rattle.mx_stack.specs.Flight.{at_back, on_top, with_generator, with_slot};
-ghost use Rattle.mx_stack.specs.Came.{done, went_as};
+ghost use Rattle.mx_stack.specs.Came.{Came, done};
 
 use crate::callee::{Callee, decides, pop_callee, push_callee};
 use crate::rest::Coming;
@@ -47,14 +44,14 @@ fn pop_collected(stack: &mut Stack) -> Result<Items<Value>, AllocError>
 }
 
 pub fn gather(alloc: Global, stack: &mut Stack) -> Went
-    ensures came { IfSome (done result) (λ r. (h : Home) (line : ℕ) → next_of h act.Gather line stack.old.top ≡ went_as h line r stack.new.top) }
+    ensures came { Came act.Gather result stack.old.top stack.new.top }
     ensures below { OnSome (done result) (stack.new.below ≡ stack.old.below) }
 {
     leave(stack, Slot::Collected(Items::new(alloc)))
 }
 
 pub fn iterate(stack: &mut Stack) -> Went
-    ensures came { IfSome (done result) (λ r. (h : Home) (line : ℕ) → next_of h act.Iterate line stack.old.top ≡ went_as h line r stack.new.top) }
+    ensures came { Came act.Iterate result stack.old.top stack.new.top }
     ensures below { OnSome (done result) (stack.new.below ≡ stack.old.below) }
 {
     let Ok(value) = pop_value(stack) else {
@@ -67,7 +64,7 @@ pub fn iterate(stack: &mut Stack) -> Went
 }
 
 pub fn next_item(stack: &mut Stack, place: usize, count: usize) -> Went
-    ensures came { IfSome (done result) (λ r. (h : Home) (line : ℕ) → next_of h (act.NextItem place count) line stack.old.top ≡ went_as h line r stack.new.top) }
+    ensures came { Came (act.NextItem place count) result stack.old.top stack.new.top }
     ensures below { OnSome (done result) (stack.new.below ≡ stack.old.below) }
 {
     let Ok(mut coming) = pop_coming(stack) else {
@@ -131,7 +128,7 @@ fn go_on(stack: &mut Stack, generator: Generator, count: usize) -> Went
 }
 
 pub fn collect(stack: &mut Stack, count: usize) -> Went
-    ensures came { IfSome (done result) (λ r. (h : Home) (line : ℕ) → next_of h (act.Collect count) line stack.old.top ≡ went_as h line r stack.new.top) }
+    ensures came { Came (act.Collect count) result stack.old.top stack.new.top }
     ensures below { OnSome (done result) (stack.new.below ≡ stack.old.below) }
 {
     let Ok(value) = pop_value(stack) else {
@@ -159,7 +156,7 @@ pub fn collect(stack: &mut Stack, count: usize) -> Went
 }
 
 pub fn make(stack: &mut Stack) -> Went
-    ensures came { IfSome (done result) (λ r. (h : Home) (line : ℕ) → next_of h act.Made line stack.old.top ≡ went_as h line r stack.new.top) }
+    ensures came { Came act.Made result stack.old.top stack.new.top }
     ensures below { OnSome (done result) (stack.new.below ≡ stack.old.below) }
 {
     let Ok(made) = pop_collected(stack) else {

@@ -1,9 +1,7 @@
 //! Instructions that jump.
-ghost use Rattle.std.specs.Prelude.{◌≡◌, ℕ, IfSome, OnSome};
+ghost use Rattle.std.specs.Prelude.{◌≡◌, OnSome};
 ghost use Rattle.mx_instructions.specs.declared.action.Action.TheVariants as act;
-ghost use Rattle.mx_instructions_law.specs.States.{Home};
-ghost use Rattle.mx_instructions_law.specs.Machine.{next_of};
-ghost use Rattle.mx_stack.specs.Came.{done, went_as};
+ghost use Rattle.mx_stack.specs.Came.{Came, done};
 
 use crate::stack::Stack;
 use crate::taking::{pass, pass_with, pop_value, step_on};
@@ -11,14 +9,14 @@ use crate::went::Went;
 use mx_ops::truth::truth;
 
 pub fn jump(stack: &mut Stack, count: usize) -> Went
-    ensures came { IfSome (done result) (λ r. (h : Home) (line : ℕ) → next_of h (act.Jump count) line stack.old.top ≡ went_as h line r stack.new.top) }
+    ensures came { Came (act.Jump count) result stack.old.top stack.new.top }
     ensures below { OnSome (done result) (stack.new.below ≡ stack.old.below) }
 {
     pass(stack, count)
 }
 
 pub fn jump_back(stack: &mut Stack, count: usize) -> Went
-    ensures came { IfSome (done result) (λ r. (h : Home) (line : ℕ) → next_of h (act.Back count) line stack.old.top ≡ went_as h line r stack.new.top) }
+    ensures came { Came (act.Back count) result stack.old.top stack.new.top }
     ensures below { OnSome (done result) (stack.new.below ≡ stack.old.below) }
 {
     stack.go_before(count);
@@ -26,7 +24,7 @@ pub fn jump_back(stack: &mut Stack, count: usize) -> Went
 }
 
 pub fn jump_unless(stack: &mut Stack, count: usize) -> Went
-    ensures came { IfSome (done result) (λ r. (h : Home) (line : ℕ) → next_of h (act.JumpUnless count) line stack.old.top ≡ went_as h line r stack.new.top) }
+    ensures came { Came (act.JumpUnless count) result stack.old.top stack.new.top }
     ensures below { OnSome (done result) (stack.new.below ≡ stack.old.below) }
 {
     let Ok(value) = pop_value(stack) else {
@@ -40,7 +38,7 @@ pub fn jump_unless(stack: &mut Stack, count: usize) -> Went
 }
 
 pub fn back_unless(stack: &mut Stack, count: usize) -> Went
-    ensures came { IfSome (done result) (λ r. (h : Home) (line : ℕ) → next_of h (act.BackUnless count) line stack.old.top ≡ went_as h line r stack.new.top) }
+    ensures came { Came (act.BackUnless count) result stack.old.top stack.new.top }
     ensures below { OnSome (done result) (stack.new.below ≡ stack.old.below) }
 {
     let Ok(value) = pop_value(stack) else {
@@ -58,7 +56,7 @@ pub fn back_unless(stack: &mut Stack, count: usize) -> Went
 
 /// Keeps the value where its truth is `decides`, and passes so many instructions, or else drops it.
 pub fn decide(stack: &mut Stack, decides: bool, count: usize) -> Went
-    ensures came { IfSome (done result) (λ r. (h : Home) (line : ℕ) → next_of h (act.Decide decides count) line stack.old.top ≡ went_as h line r stack.new.top) }
+    ensures came { Came (act.Decide decides count) result stack.old.top stack.new.top }
     ensures below { OnSome (done result) (stack.new.below ≡ stack.old.below) }
 {
     let Ok(value) = pop_value(stack) else {

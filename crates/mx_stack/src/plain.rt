@@ -1,9 +1,7 @@
 //! The instructions that look nothing up and do not end the run with a value.
-ghost use Rattle.std.specs.Prelude.{◌≡◌, ℕ, IfSome, OnSome};
-ghost use Rattle.mx_instructions_law.specs.States.{Home};
-ghost use Rattle.mx_instructions_law.specs.Machine.{next_of};
+ghost use Rattle.std.specs.Prelude.{◌≡◌, OnSome};
 ghost use Rattle.mx_stack.specs.Plain.{IsPlain};
-ghost use Rattle.mx_stack.specs.Came.{done, went_as};
+ghost use Rattle.mx_stack.specs.Came.{Came, done};
 
 use crate::displays::{display, refer, set_base};
 use crate::generators::{collect, gather, iterate, make, next_item};
@@ -19,7 +17,7 @@ use std::alloc::Global;
 #[inline(always)]
 pub fn run_plain(alloc: Global, stack: &mut Stack, action: &Action) -> Went
     requires { IsPlain action.now }
-    ensures came { IfSome (done result) (λ r. (h : Home) (line : ℕ) → next_of h action.now line stack.old.top ≡ went_as h line r stack.new.top) }
+    ensures came { Came action.now result stack.old.top stack.new.top }
     ensures below { OnSome (done result) (stack.new.below ≡ stack.old.below) }
 {
     match action {

@@ -5,8 +5,7 @@ ghost use Rattle.mx_value.specs.declared.value.Value.{out-Value};
 ghost use Rattle.mx_formulas.specs.Expressions.{nothing_in};
 ghost use Rattle.mx_instructions.specs.declared.action.Action.TheVariants as act;
 ghost use Rattle.mx_instructions_law.specs.States.{Home, Holds, On, computed_next, state};
-ghost use Rattle.mx_instructions_law.specs.Machine.{next_of};
-ghost use Rattle.mx_stack.specs.Came.{done, went_as};
+ghost use Rattle.mx_stack.specs.Came.{Came, done, went_as};
 
 use crate::slot::Slot;
 use crate::stack::Stack;
@@ -30,7 +29,7 @@ pub fn leave_made(stack: &mut Stack, made: Result<Value, FaultKind>) -> Went
 }
 
 pub fn constant(alloc: Global, stack: &mut Stack, value: &Value) -> Went
-    ensures came { IfSome (done result) (λ r. (h : Home) (line : ℕ) → next_of h (act.Const value.now) line stack.old.top ≡ went_as h line r stack.new.top) }
+    ensures came { Came (act.Const value.now) result stack.old.top stack.new.top }
     ensures below { OnSome (done result) (stack.new.below ≡ stack.old.below) }
 {
     let Ok(value) = value.copy(alloc) else {
@@ -40,7 +39,7 @@ pub fn constant(alloc: Global, stack: &mut Stack, value: &Value) -> Went
 }
 
 pub fn local(alloc: Global, stack: &mut Stack, place: usize) -> Went
-    ensures came { IfSome (done result) (λ r. (h : Home) (line : ℕ) → next_of h (act.Local place) line stack.old.top ≡ went_as h line r stack.new.top) }
+    ensures came { Came (act.Local place) result stack.old.top stack.new.top }
     ensures below { OnSome (done result) (stack.new.below ≡ stack.old.below) }
 {
     let value = match stack.local(place) {
@@ -55,7 +54,7 @@ pub fn local(alloc: Global, stack: &mut Stack, place: usize) -> Went
 }
 
 pub fn tuple(alloc: Global, stack: &mut Stack, count: usize) -> Went
-    ensures came { IfSome (done result) (λ r. (h : Home) (line : ℕ) → next_of h (act.Tuple count) line stack.old.top ≡ went_as h line r stack.new.top) }
+    ensures came { Came (act.Tuple count) result stack.old.top stack.new.top }
     ensures below { OnSome (done result) (stack.new.below ≡ stack.old.below) }
 {
     let Ok(values) = pop_values(alloc, stack, count) else {
@@ -65,7 +64,7 @@ pub fn tuple(alloc: Global, stack: &mut Stack, count: usize) -> Went
 }
 
 pub fn drop_value(stack: &mut Stack) -> Went
-    ensures came { IfSome (done result) (λ r. (h : Home) (line : ℕ) → next_of h act.Pop line stack.old.top ≡ went_as h line r stack.new.top) }
+    ensures came { Came act.Pop result stack.old.top stack.new.top }
     ensures below { OnSome (done result) (stack.new.below ≡ stack.old.below) }
 {
     let Ok(_dropped) = pop_value(stack) else {
@@ -75,7 +74,7 @@ pub fn drop_value(stack: &mut Stack) -> Went
 }
 
 pub fn store(stack: &mut Stack, place: usize) -> Went
-    ensures came { IfSome (done result) (λ r. (h : Home) (line : ℕ) → next_of h (act.Store place) line stack.old.top ≡ went_as h line r stack.new.top) }
+    ensures came { Came (act.Store place) result stack.old.top stack.new.top }
     ensures below { OnSome (done result) (stack.new.below ≡ stack.old.below) }
 {
     let Ok(value) = pop_value(stack) else {
@@ -100,7 +99,7 @@ fn is_none(value: &Value) -> bool
 /// The last comparison of a chain: whether a value is None, or where `asked` is false, whether it is
 /// not.
 pub fn none_last(stack: &mut Stack, asked: bool) -> Went
-    ensures came { IfSome (done result) (λ r. (h : Home) (line : ℕ) → next_of h (act.IsNone asked) line stack.old.top ≡ went_as h line r stack.new.top) }
+    ensures came { Came (act.IsNone asked) result stack.old.top stack.new.top }
     ensures below { OnSome (done result) (stack.new.below ≡ stack.old.below) }
 {
     let Ok(value) = pop_value(stack) else {
@@ -111,7 +110,7 @@ pub fn none_last(stack: &mut Stack, asked: bool) -> Went
 
 /// The same with others behind it, which it passes where it does not hold.
 pub fn none_on(stack: &mut Stack, asked: bool, count: usize) -> Went
-    ensures came { IfSome (done result) (λ r. (h : Home) (line : ℕ) → next_of h (act.ChainNone asked count) line stack.old.top ≡ went_as h line r stack.new.top) }
+    ensures came { Came (act.ChainNone asked count) result stack.old.top stack.new.top }
     ensures below { OnSome (done result) (stack.new.below ≡ stack.old.below) }
 {
     let Ok(value) = pop_value(stack) else {
