@@ -1,0 +1,5 @@
+pub mod Stacks
+pub mod Taken
+pub mod Computed
+pub mod Collecting
+pub mod Walking

@@ -1,0 +1,16 @@
+use Rattle.mx_instructions_law.specs.States.{slot_of}
+use Rattle.mx_stack.specs.Callees.{callee_of}
+use Rattle.mx_stack.specs.Walks.{place_of}
+use Rattle.mx_stack.proofs.Taken.{kept, kept_on}
+use Rattle.mx_stack.proofs.Walking.{called}
+use Rattle.mx_stack.proofs.walks.pop_call.Goals as goal
+
+pub returns-clause-came : goal.returns-clause-came
+returns-clause-came c = λ h line.
+    called h line c.args.stack.now c.pop_way.new.stack (place_of c.in_ok-way.way) c.in_ok-way.ensures.taken c.in_ok-way.ensures.below c.in_ok-way.ensures.rest
+    c.args.count c.in_ok-arguments.arguments c.pop_values.new.stack c.in_ok-arguments.ensures.taken c.in_ok-arguments.ensures.rest c.pop_callee.new.stack (callee_of c.in_ok-callee.callee) c.in_ok-callee.ensures
+
+pub returns-clause-rest : goal.returns-clause-rest
+returns-clause-rest c =
+    kept c.args.stack.now c.pop_values.new.stack c.pop_callee.new.stack (slot_of (callee_of c.in_ok-callee.callee))
+    (kept_on c.args.stack.now c.pop_way.new.stack c.pop_values.new.stack c.in_ok-way.ensures.rest c.in_ok-arguments.ensures.rest) c.in_ok-callee.ensures
