@@ -1,0 +1,4 @@
+//! What a run has read so far, and how what comes of an instruction goes on past that.
+#![tactic(auto)]
+
+pub mod seen;
