@@ -12,15 +12,14 @@ use Rattle.mx_vertices.specs.Kept as kept
 use Rattle.mx_vertices.specs.Reading.{asks_in, id_at}
 use Rattle.mx_vertices.specs.Places as places
 use Rattle.mx_memo.specs.Memos.{Memory, AreHeld, HoldsLast}
-use Rattle.mx_memo.specs.Order.{StampsRise}
 use Rattle.mx_memo.specs.Restoring.{AreApart, AskBefore}
-use Rattle.mx_memo.proofs.Restoring.{has_front, restores}
+use Rattle.mx_memo.proofs.Restoring.{has_front, has_rest, restores}
 use Rattle.mx_runs.specs.Lists.{Has}
 use Rattle.mx_runs.proofs.Lists.{has_push_cases, From, has_map_from}
 use Rattle.mx_entries.specs.Entries.{nodes_under, entry_of, entries_of, entry_held, IsOrdered}
-use Rattle.mx_entries.specs.Laws.{HoldsEntry, Holding, HasGrown, GrownFromItself, GrowsByHolding, HeldStays, HasGrownBy, EntriesStay, IsRolledBack, RollingBack}
+use Rattle.mx_entries.specs.Laws.{Holding, LastIsHeld, GrownFromItself, GrowsByHolding, HeldStays, HasGrownBy, EntriesStay, RollingBack}
 use Rattle.mx_entries.proofs.Members.{among, placed, map_same, ask_in, keys_held, asks_held}
-use Rattle.mx_entries.proofs.Nodes.{under_front, entry_same, asks_are_held}
+use Rattle.mx_entries.proofs.Nodes.{under_front, entry_same, asks_are_held, order_is_of_held}
 
 -- the first entries are those that were held
 entries_front : (held more : List Kept) → AskBefore [] held → entries_of (held ++ more) ≡ entries_of held ++ map (entry_of (held ++ more)) more
@@ -79,6 +78,16 @@ holding old new id body keys asks o held after is =
       };
     }
 
+pub last_is_held : LastIsHeld
+last_is_held old new id body keys asks is =
+    let k = entry_with (old.last + 1) id body keys asks in
+    record {
+      entry = k;
+      among = subst (λ rs. places.Has rs k) (sym (ap (λ (m : Memory). m.held) is)) (has_rest old.held (k ∷ []) k (inl refl));
+      id_is = refl;
+      node_is = refl;
+    }
+
 pub grown_from_itself : GrownFromItself
 grown_from_itself m = record { more = []; is = sym (append-nil m.held); later = λ r h. absurd h; given = omega arith }
 
@@ -127,12 +136,5 @@ rolling_back start old new os oo g s last =
           ∙ sym (ap (λ n. take n (entries_of old.held)) (sym many)
           ∙ ap (λ es. take (length (entries_of start.held)) es) more.is
           ∙ take-append_seam (entries_of start.held) more.more);
-      ordered = record {
-        stands = record {
-          apart = subst (λ rs. AreApart rs) (sym same) os.stands.apart;
-          rising = subst (λ rs. StampsRise 0 rs) (sym same) os.stands.rising;
-          given = λ r h. let early : r.stamp ≤ start.last = os.stands.given r (subst (λ rs. places.Has rs r) same h) in omega (arith, early, given, last);
-        };
-        asks = subst (λ rs. AskBefore [] rs) (sym same) os.asks;
-      };
+      ordered = order_is_of_held start new os same (omega (arith, given, last));
     }

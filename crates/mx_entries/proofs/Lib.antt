@@ -5,3 +5,4 @@ pub mod Sifting
 pub mod Scopes
 pub mod Stamps
 pub mod Readers
+pub mod Evaluations

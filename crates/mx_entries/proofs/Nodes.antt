@@ -1,7 +1,7 @@
 -- The nodes under ids, and the entries of held nodes.
-use Rattle.std.proofs.Common.{◌≡◌, ◌∙◌, ℕ, true, false, cond, eqb, List, [], ◌∷◌, ◌++◌, map, refl, sym, ap, subst, inl, inr}
+use Rattle.std.proofs.Common.{◌≡◌, ◌∙◌, ℕ, ◌≤◌, true, false, cond, eqb, List, [], ◌∷◌, ◌++◌, length, map, refl, sym, ap, subst, arith, inl, inr}
 use Rattle.std.proofs.lemmas.Bool.{eqb-true, eqb-false}
-use Rattle.std.proofs.lemmas.List.{append-nil}
+use Rattle.std.proofs.lemmas.List.{append-nil, length-map}
 use Rattle.mx_value.specs.declared.node.Node.{Node}
 use Rattle.mx_edit.specs.declared.key.Key.{Key}
 use Rattle.mx_edit.specs.Entry.{Entry}
@@ -11,7 +11,8 @@ use Rattle.mx_vertices.specs.Found.{IsHeldAs, IsHeldWith, IsNew}
 use Rattle.mx_vertices.specs.Kept.{Kept, asked, IsHeld}
 use Rattle.mx_vertices.specs.Reading.{LookedUp, Asked, keys_in, asks_in, id_at}
 use Rattle.mx_vertices.specs.Places as places
-use Rattle.mx_memo.specs.Memos.{Memory}
+use Rattle.mx_memo.specs.Memos.{Memory, AreHeld}
+use Rattle.mx_memo.specs.Order.{StampsRise}
 use Rattle.mx_memo.specs.Restoring.{AreApart, AskBefore}
 use Rattle.mx_memo.proofs.Restoring.{one_entry, asks_front}
 use Rattle.mx_runs.specs.Lists.{Has, Distinct}
@@ -19,7 +20,7 @@ use Rattle.mx_runs.proofs.Lists.{has_map, From, has_map_from}
 use Rattle.mx_answers.specs.Held.{nodes_of}
 use Rattle.mx_answers.proofs.Held.{named}
 use Rattle.mx_entries.specs.Entries.{node_under, nodes_under, entry_of, entries_of, IsOrdered}
-use Rattle.mx_entries.specs.Laws.{HeldOnce, HeldIsEntered, IsUnderId, EnteredIsHeld, NewIsNotEntered, IsEntered, BodyIsEntered, OneUnderId, AreReadOf, ReadIsEntered}
+use Rattle.mx_entries.specs.Laws.{HeldOnce, HeldIsEntered, EnteredIsHeld, NewIsNotEntered, EntryIsOfBody, BodyIsEntered, OneUnderId, BodyIsOfNode, AsksAreEntered, AsManyEntries, OrderIsOfHeld, ReadIsEntered}
 use Rattle.mx_entries.proofs.Members.{among, placed, map_same, one_mapped, ask_out}
 
 -- the node under the id of a held node
@@ -103,6 +104,18 @@ new_is_not_entered held n = (
   λ none r i e. none (held_is_entered held r.id n (record { entry = r; among = i; id_is = refl; node_is = e })),
 )
 
+pub entry_is_of_body : EntryIsOfBody
+entry_is_of_body held e h =
+    let f : From (entry_of held) held e = held_of held e h in
+    record {
+      id = f.item.id;
+      body = f.item.body;
+      is = record { entry = f.item; among = placed held f.item f.among; id_is = refl; body_is = refl };
+      node_is = ap (λ (x : Entry). x.node) (sym f.is);
+      reply_is = ap (λ (x : Entry). x.reply) (sym f.is);
+      reads_are = ap (λ (x : Entry). x.reads) (sym f.is);
+    }
+
 pub body_is_entered : BodyIsEntered
 body_is_entered held id body h = record {
   entry = entry_of held h.entry;
@@ -114,6 +127,32 @@ body_is_entered held id body h = record {
 
 pub one_under_id : OneUnderId
 one_under_id m id n o h = node_of_id m.held o.stands.apart h.entry h.among id h.id_is ∙ h.node_is
+
+pub body_is_of_node : BodyIsOfNode
+body_is_of_node m id n body o h b =
+    let one : b.entry ≡ h.entry = one_entry m.held o.stands.apart b.entry h.entry b.among h.among (b.id_is ∙ sym h.id_is) in
+    ap (λ (x : Body). x.node) (sym b.body_is) ∙ ap (λ (r : Kept). r.body.node) one ∙ h.node_is
+
+pub asks_are_entered : AsksAreEntered
+asks_are_entered m ids x o held h =
+    let f : From (node_under m.held) (map id_at ids) x = has_map_from (node_under m.held) (map id_at ids) x h in
+    let g : From id_at ids f.item = has_map_from id_at ids f.item f.among in
+    let s : IsHeld m.held g.item.at = held g.item (placed ids g.item g.among) in
+    held_is_entered m.held f.item x
+    (record { entry = s.entry; among = s.among; id_is = s.is ∙ g.is; node_is = sym (node_of_id m.held o.stands.apart s.entry s.among f.item (s.is ∙ g.is)) ∙ f.is })
+
+pub as_many_entries : AsManyEntries
+as_many_entries held = length-map held (entry_of held)
+
+pub order_is_of_held : OrderIsOfHeld
+order_is_of_held old new o held last = record {
+  stands = record {
+    apart = subst (λ rs. AreApart rs) (sym held) o.stands.apart;
+    rising = subst (λ rs. StampsRise 0 rs) (sym held) o.stands.rising;
+    given = λ r h. let given : r.stamp ≤ old.last = o.stands.given r (subst (λ rs. places.Has rs r) held h) in omega (arith, given, last);
+  };
+  asks = subst (λ rs. AskBefore [] rs) (sym held) o.asks;
+}
 
 pub read_is_entered : ReadIsEntered
 read_is_entered m id n keys ids o h k a =

@@ -52,6 +52,19 @@ pub record IsEntered (held : List Kept) (body : Body) : Type 0 where
   pub reply_is : entry.reply ≡ body.reply
   pub reads_are : entry.reads ≡ body.reads
 
+-- a node is held with the reply and the reads of this entry
+pub record IsOfBody (held : List Kept) (e : Entry) : Type 0 where
+  pub id : ℕ
+  pub body : Body
+  pub is : IsHeldWith held id body
+  pub node_is : e.node ≡ body.node
+  pub reply_is : e.reply ≡ body.reply
+  pub reads_are : e.reads ≡ body.reads
+
+-- what is entered is held under some id
+abbrev pub EntryIsOfBody : Type 0
+EntryIsOfBody = (held : List Kept) (e : Entry) → Has (entries_of held) e → IsOfBody held e
+
 -- what is held under an id is entered
 abbrev pub BodyIsEntered : Type 0
 BodyIsEntered = (held : List Kept) (id : ℕ) (body : Body) → IsHeldWith held id body → IsEntered held body
@@ -59,6 +72,22 @@ BodyIsEntered = (held : List Kept) (id : ℕ) (body : Body) → IsHeldWith held 
 -- the node that is held under an id is the one under it
 abbrev pub OneUnderId : Type 0
 OneUnderId = (m : Memory) (id : ℕ) (n : Node) → IsOrdered m → IsHeldAs m.held id n → node_under m.held id ≡ n
+
+-- what is held under the id of a node is of that node
+abbrev pub BodyIsOfNode : Type 0
+BodyIsOfNode = (m : Memory) (id : ℕ) (n : Node) (body : Body) → IsOrdered m → IsHeldAs m.held id n → IsHeldWith m.held id body → body.node ≡ n
+
+-- the nodes that are held under these ids are entered
+abbrev pub AsksAreEntered : Type 0
+AsksAreEntered = (m : Memory) (ids : List NodeId) (x : Node) → IsOrdered m → AreHeld m.held ids → Has (nodes_under m.held (map id_at ids)) x → Has (nodes_of (entries_of m.held)) x
+
+-- as many are entered as are held
+abbrev pub AsManyEntries : Type 0
+AsManyEntries = (held : List Kept) → length (entries_of held) ≡ length held
+
+-- what is in flight has no part in the order, nor have stamps that are given later
+abbrev pub OrderIsOfHeld : Type 0
+OrderIsOfHeld = (old new : Memory) → IsOrdered old → new.held ≡ old.held → old.last ≤ new.last → IsOrdered new
 
 -- the entry of a node that is held: the keys and asks that are read of it are its
 pub record AreReadOf (held : List Kept) (n : Node) (keys : List Key) (asks : List Node) : Type 0 where
@@ -80,6 +109,10 @@ pub record HoldsEntry (old new : Memory) (e : Entry) : Type 0 where
 -- a node that is held last is the last entry, where it asks what was held
 abbrev pub Holding : Type 0
 Holding = (old new : Memory) (id : ℕ) (body : Body) (keys : List Key) (asks : List NodeId) → IsOrdered old → AreHeld old.held asks → IsInOrder new → HoldsLast old new (entry_with (old.last + 1) id body keys asks) → HoldsEntry old new (entry_held old.held body keys asks)
+
+-- what is held last is held under its id
+abbrev pub LastIsHeld : Type 0
+LastIsHeld = (old new : Memory) (id : ℕ) (body : Body) (keys : List Key) (asks : List NodeId) → HoldsLast old new (entry_with (old.last + 1) id body keys asks) → IsHeldAs new.held id body.node
 
 -- what was held is held, behind it what was held later
 pub record HasGrown (start m : Memory) : Type 0 where

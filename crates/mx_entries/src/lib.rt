@@ -2,4 +2,5 @@
 //! has ids. No engine takes part in it.
 #![tactic(auto)]
 
+pub mod keeping;
 pub mod laws;
