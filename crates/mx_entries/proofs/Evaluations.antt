@@ -1,6 +1,5 @@
 -- What stays kept between evaluations.
-use Rattle.std.proofs.Common.{◌≡◌, ◌∙◌, [], List, refl, sym, ap, subst, arith}
-use Rattle.mx_edit.specs.Entry.{Entry}
+use Rattle.std.proofs.Common.{◌≡◌, ◌∙◌, refl, sym, ap, subst, arith}
 use Rattle.mx_memo.specs.Memos.{Memory}
 use Rattle.mx_runs.specs.Runs.{Model}
 use Rattle.mx_answers.specs.Records.{IsRightMemo}
@@ -8,7 +7,6 @@ use Rattle.mx_answers.specs.Retention.{HasChanged, IsInScope}
 use Rattle.mx_answers.specs.Laws.{IsRetained, IsCleared}
 use Rattle.mx_answers.proofs.Retaining.{sifted_by_keys}
 use Rattle.mx_answers.proofs.Clearing.{sifted_by_scope}
-use Rattle.mx_runs.specs.Support.{with_look}
 use Rattle.mx_entries.specs.Entries.{entries_of}
 use Rattle.mx_entries.specs.Laws.{AreSifted, IsRolledBack, HoldsSame}
 use Rattle.mx_entries.specs.Keeping.{NothingIsKept, EditKeeps, ClearingKeeps, RollBackKeeps, RenumberingKeeps}

@@ -4,19 +4,18 @@ use Rattle.std.proofs.lemmas.List.{append-nil, map-append, length-map}
 use Rattle.std.proofs.Math.Seq.{take-append_seam}
 use Rattle.mx_graph.specs.declared.ids.NodeId.{NodeId}
 use Rattle.mx_edit.specs.declared.key.Key.{Key}
-use Rattle.mx_edit.specs.Entry.{Entry}
 use Rattle.mx_vertices.specs.declared.slot.Body.{Body}
 use Rattle.mx_vertices.specs.Held.{entry_with}
 use Rattle.mx_vertices.specs.Kept.{Kept, asked, IsHeld}
 use Rattle.mx_vertices.specs.Kept as kept
 use Rattle.mx_vertices.specs.Reading.{asks_in, id_at}
 use Rattle.mx_vertices.specs.Places as places
-use Rattle.mx_memo.specs.Memos.{Memory, AreHeld, HoldsLast}
+use Rattle.mx_memo.specs.Memos.{Memory, AreHeld}
 use Rattle.mx_memo.specs.Restoring.{AreApart, AskBefore}
 use Rattle.mx_memo.proofs.Restoring.{has_front, has_rest, restores}
 use Rattle.mx_runs.specs.Lists.{Has}
 use Rattle.mx_runs.proofs.Lists.{has_push_cases, From, has_map_from}
-use Rattle.mx_entries.specs.Entries.{nodes_under, entry_of, entries_of, entry_held, IsOrdered}
+use Rattle.mx_entries.specs.Entries.{nodes_under, entry_of, entries_of, entry_held}
 use Rattle.mx_entries.specs.Laws.{Holding, LastIsHeld, GrownFromItself, GrowsByHolding, HeldStays, HasGrownBy, EntriesStay, RollingBack}
 use Rattle.mx_entries.proofs.Members.{among, placed, map_same, ask_in, keys_held, asks_held}
 use Rattle.mx_entries.proofs.Nodes.{under_front, entry_same, asks_are_held, order_is_of_held}
@@ -35,13 +34,13 @@ order_push before [] k a h = (λ m i. elim (h m i) [ inl b ↦ b | inr s ↦ abs
 order_push before (x ∷ held) k a h = (
   a.0,
   order_push (x.id ∷ before) held k a.1
-  (λ m i. elim (h m i) [
-    | inl b ↦ inl (inr b)
-    | inr s ↦ elim s.among [
-      | inl e ↦ inl (inl (ap (λ (r : Kept). r.id) e ∙ s.is))
-      | inr j ↦ inr (record { entry = s.entry; among = j; is = s.is })
-    ]
-  ]),
+      (λ m i. elim (h m i) [
+        | inl b ↦ inl (inr b)
+        | inr s ↦ elim s.among [
+          | inl e ↦ inl (inl (ap (λ (r : Kept). r.id) e ∙ s.is))
+          | inr j ↦ inr (record { entry = s.entry; among = j; is = s.is })
+        ]
+      ]),
 )
 
 module _ (old new : Memory) (id : ℕ) (body : Body) (keys : List Key) (asks : List NodeId) (held : AreHeld old.held asks) where

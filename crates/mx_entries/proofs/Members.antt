@@ -1,5 +1,5 @@
 -- What is among lists, and among the sources of a run.
-use Rattle.std.proofs.Common.{◌≡◌, ◌∙◌, ℕ, Bool, true, false, cond, List, [], ◌∷◌, ◌++◌, map, refl, sym, ap, ◌⊎◌, inl, inr}
+use Rattle.std.proofs.Common.{◌≡◌, ◌∙◌, ℕ, Bool, true, false, cond, List, [], ◌∷◌, ◌++◌, map, refl, sym, ap, inl, inr}
 use Rattle.mx_graph.specs.declared.ids.NodeId.{NodeId}
 use Rattle.mx_value.specs.declared.node.Node.{Node}
 use Rattle.mx_edit.specs.declared.key.Key.{Key}
@@ -10,7 +10,6 @@ use Rattle.mx_vertices.specs.Kept.{Source, looked, asked, own_key}
 use Rattle.mx_vertices.specs.Reading.{keys_in, asks_in, id_at}
 use Rattle.mx_vertices.specs.Places as places
 use Rattle.mx_runs.specs.Lists.{Has, Distinct}
-use Rattle.mx_runs.proofs.Lists.{has_map}
 use Rattle.mx_entries.specs.Entries.{own_keys}
 
 -- what is among a list for the vertices is among it for the runs, and back

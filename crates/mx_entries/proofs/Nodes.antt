@@ -1,17 +1,12 @@
 -- The nodes under ids, and the entries of held nodes.
-use Rattle.std.proofs.Common.{◌≡◌, ◌∙◌, ℕ, ◌≤◌, true, false, cond, eqb, List, [], ◌∷◌, ◌++◌, length, map, refl, sym, ap, subst, arith, inl, inr}
+use Rattle.std.proofs.Common.{◌≡◌, ◌∙◌, ℕ, ◌≤◌, true, false, cond, eqb, List, [], ◌∷◌, ◌++◌, map, refl, sym, ap, subst, arith, inl, inr}
 use Rattle.std.proofs.lemmas.Bool.{eqb-true, eqb-false}
 use Rattle.std.proofs.lemmas.List.{append-nil, length-map}
-use Rattle.mx_value.specs.declared.node.Node.{Node}
-use Rattle.mx_edit.specs.declared.key.Key.{Key}
 use Rattle.mx_edit.specs.Entry.{Entry}
-use Rattle.mx_graph.specs.declared.ids.NodeId.{NodeId}
 use Rattle.mx_vertices.specs.declared.slot.Body.{Body}
-use Rattle.mx_vertices.specs.Found.{IsHeldAs, IsHeldWith, IsNew}
 use Rattle.mx_vertices.specs.Kept.{Kept, asked, IsHeld}
-use Rattle.mx_vertices.specs.Reading.{LookedUp, Asked, keys_in, asks_in, id_at}
+use Rattle.mx_vertices.specs.Reading.{keys_in, asks_in, id_at}
 use Rattle.mx_vertices.specs.Places as places
-use Rattle.mx_memo.specs.Memos.{Memory, AreHeld}
 use Rattle.mx_memo.specs.Order.{StampsRise}
 use Rattle.mx_memo.specs.Restoring.{AreApart, AskBefore}
 use Rattle.mx_memo.proofs.Restoring.{one_entry, asks_front}
@@ -19,7 +14,7 @@ use Rattle.mx_runs.specs.Lists.{Has, Distinct}
 use Rattle.mx_runs.proofs.Lists.{has_map, From, has_map_from}
 use Rattle.mx_answers.specs.Held.{nodes_of}
 use Rattle.mx_answers.proofs.Held.{named}
-use Rattle.mx_entries.specs.Entries.{node_under, nodes_under, entry_of, entries_of, IsOrdered}
+use Rattle.mx_entries.specs.Entries.{node_under, nodes_under, entry_of, entries_of}
 use Rattle.mx_entries.specs.Laws.{HeldOnce, HeldIsEntered, EnteredIsHeld, NewIsNotEntered, EntryIsOfBody, BodyIsEntered, OneUnderId, BodyIsOfNode, AsksAreEntered, AsManyEntries, OrderIsOfHeld, ReadIsEntered}
 use Rattle.mx_entries.proofs.Members.{among, placed, map_same, one_mapped, ask_out}
 

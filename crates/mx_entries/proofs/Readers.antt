@@ -1,12 +1,9 @@
 -- What is read of a memo is what its entries have.
-use Rattle.std.proofs.Common.{◌≡◌, ◌∙◌, ℕ, List, map, refl, sym, ap, subst}
+use Rattle.std.proofs.Common.{◌≡◌, ◌∙◌, List, map, refl, sym, ap, subst}
 use Rattle.mx_graph.specs.declared.ids.NodeId.{NodeId}
 use Rattle.mx_value.specs.declared.node.Node.{Node}
 use Rattle.mx_value.proofs.NodeSames.{node_decides}
-use Rattle.mx_edit.specs.declared.key.Key.{Key}
 use Rattle.mx_edit.specs.Entry.{Entry}
-use Rattle.mx_vertices.specs.declared.slot.Body.{Body}
-use Rattle.mx_vertices.specs.Found.{IsHeldAs}
 use Rattle.mx_vertices.specs.Kept.{Kept, Source, looked, asked, IsHeld}
 use Rattle.mx_vertices.specs.Reading.{DidTake, AreTakers, keys_in, asks_in, id_at}
 use Rattle.mx_vertices.specs.Places as places
@@ -15,8 +12,8 @@ use Rattle.mx_memo.specs.Namespaces.{namespace_held}
 use Rattle.mx_memo.proofs.Held.{namespace_of_held, namespace_of_new}
 use Rattle.mx_runs.specs.Lists.{Has}
 use Rattle.mx_runs.proofs.Lists.{has_map, From, has_map_from}
-use Rattle.mx_entries.specs.Entries.{node_under, nodes_under, entry_of, entries_of, IsOrdered}
-use Rattle.mx_entries.specs.Laws.{NamespaceIsEntered, NoNamespaceIsHeld, IsAsker, IsReader, AskersAreEntered, ReadersAreEntered}
+use Rattle.mx_entries.specs.Entries.{node_under, nodes_under, entry_of, IsOrdered}
+use Rattle.mx_entries.specs.Laws.{NamespaceIsEntered, NoNamespaceIsHeld, AskersAreEntered, ReadersAreEntered}
 use Rattle.mx_entries.proofs.Members.{among, placed, ask_in, ask_out, key_in, key_out}
 use Rattle.mx_entries.proofs.Nodes.{node_of_id, asks_are_held, held_of, entered, one_node, one_under_id, new_is_not_entered}
 

@@ -1,5 +1,5 @@
 -- The tests of a clearing tell what its scope is.
-use Rattle.std.proofs.Common.{◌≡◌, ◌∙◌, ℕ, Bool, true, false, ◌&&◌, List, [], ◌∷◌, ◌++◌, Some, None, refl, sym, ap}
+use Rattle.std.proofs.Common.{◌≡◌, ◌∙◌, ℕ, Bool, true, false, ◌&&◌, List, [], ◌∷◌, ◌++◌, refl, ap}
 use Rattle.std.specs.Bool.{Decides}
 use Rattle.mx_value.specs.declared.node.Node.{Node}
 use Rattle.mx_value.specs.declared.node.Node.TheVariants.{Cell, Item}
@@ -11,7 +11,6 @@ use Rattle.mx_value.specs.Equality.{segment_eq}
 use Rattle.mx_value.proofs.Enums.{text_decides}
 use Rattle.mx_value.proofs.NodeSames.{addr_decides, node_decides}
 use Rattle.mx_value.proofs.Sames.{segment_decides}
-use Rattle.mx_edit.specs.Entry.{Entry}
 use Rattle.mx_edit.specs.declared.scope.Scope.{Scope}
 use Rattle.mx_edit.specs.declared.scope.Scope.TheVariants as scope
 use Rattle.mx_vertices.specs.Kept.{Kept, IsToGo}
@@ -32,8 +31,7 @@ begins_decides [] a = (λ t. record { rest = a; is = refl }, λ h. refl)
 begins_decides (s ∷ at) [] = (λ t. cc, λ h. let e : [] ≡ s ∷ at ++ h.rest = h.is in cc)
 begins_decides (s ∷ at) (t ∷ a) =
     let d : Decides (segment_eq t s && begins_with at a) ((t ≡ s) × BeginsWith at a)
-    = both_decide (segment_eq t s) (begins_with at a) (t ≡ s) (BeginsWith at a) (segment_decides t s) (begins_decides at a) in
-    (
+    = both_decide (segment_eq t s) (begins_with at a) (t ≡ s) (BeginsWith at a) (segment_decides t s) (begins_decides at a) in (
       λ e. let p = d.0 e in record { rest = p.1.rest; is = ap (λ x. x ∷ a) p.0 ∙ ap (λ xs. s ∷ xs) p.1.is },
       λ h.
           let e : t ∷ a ≡ s ∷ (at ++ h.rest) = h.is in

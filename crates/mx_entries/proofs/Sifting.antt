@@ -1,16 +1,14 @@
 -- What a memo drops by ids it drops by nodes.
-use Rattle.std.proofs.Common.{◌≡◌, ◌∙◌, ℕ, ◌<◌, ◌≤◌, Bool, List, [], ◌∷◌, map, refl, sym, ap, subst, arith, inl, inr}
+use Rattle.std.proofs.Common.{◌≡◌, ◌∙◌, ℕ, ◌<◌, ◌≤◌, List, [], ◌∷◌, map, refl, sym, ap, subst, arith, inl, inr}
 use Rattle.mx_value.specs.declared.node.Node.{Node}
-use Rattle.mx_edit.specs.declared.key.Key.{Key}
 use Rattle.mx_edit.specs.Entry.{Entry}
 use Rattle.mx_vertices.specs.Kept.{Kept, asked, IsHeld, IsTouched, Here, ByAsk, Sifts, Done, Keeps, Drops}
 use Rattle.mx_vertices.specs.Kept as kept
-use Rattle.mx_vertices.specs.Reading.{keys_in, asks_in}
+use Rattle.mx_vertices.specs.Reading.{asks_in}
 use Rattle.mx_vertices.specs.Places as places
 use Rattle.mx_memo.specs.Memos.{Memory}
 use Rattle.mx_memo.specs.Order.{StampsRise}
 use Rattle.mx_memo.specs.Restoring.{AreApart, AskBefore}
-use Rattle.mx_memo.proofs.Restoring.{one_entry}
 use Rattle.mx_runs.specs.Lists.{Has}
 use Rattle.mx_runs.proofs.Lists.{has_map, From, has_map_from}
 use Rattle.mx_answers.specs.Retention.{HasChanged}

@@ -1,5 +1,5 @@
 -- What stays kept between evaluations.
-use Rattle.std.specs.Prelude.{◌≡◌, ◌<◌, Bool, List, [], length}
+use Rattle.std.specs.Prelude.{◌≡◌, ◌<◌, Bool, [], length}
 use Rattle.mx_edit.specs.declared.key.Key.{Key}
 use Rattle.mx_edit.specs.declared.key.KeyResult.{KeyResult}
 use Rattle.mx_edit.specs.declared.scope.Scope.{Scope}

@@ -31,7 +31,7 @@ HeldOnce held = Distinct (nodes_of (entries_of held))
 abbrev pub HeldIsEntered : Type 0
 HeldIsEntered = (held : List Kept) (id : ℕ) (n : Node) → IsHeldAs held id n → Has (nodes_of (entries_of held)) n
 
--- the node of this is held under some id
+-- the node is held under some id
 pub record IsUnderId (held : List Kept) (n : Node) : Type 0 where
   pub id : ℕ
   pub is : IsHeldAs held id n
@@ -89,7 +89,7 @@ AsManyEntries = (held : List Kept) → length (entries_of held) ≡ length held
 abbrev pub OrderIsOfHeld : Type 0
 OrderIsOfHeld = (old new : Memory) → IsOrdered old → new.held ≡ old.held → old.last ≤ new.last → IsOrdered new
 
--- the entry of a node that is held: the keys and asks that are read of it are its
+-- the entry of the node has these keys and asks
 pub record AreReadOf (held : List Kept) (n : Node) (keys : List Key) (asks : List Node) : Type 0 where
   pub entry : Entry
   pub among : Has (entries_of held) entry
@@ -157,7 +157,7 @@ pub record AreSifted (In : Entry → Type 0) (old new : Memory) : Type 0 where
   pub entries : Sifts (IsTouched In (entries_of old.held)) (entries_of old.held) (entries_of new.held)
   pub ordered : IsOrdered new
 
--- what keeps the nodes that no changed key touches keeps the entries that none does
+-- what drops the nodes that a changed key touches drops the entries that it touches
 abbrev pub Retention : Type 0
 Retention = (changed : Key → Bool) (old new : Memory) → IsOrdered old → HeldOnce old.held → kept.Sifts (kept.IsTouched (kept.HasChanged changed) old.held) old.held new.held → new.last ≡ old.last → AreSifted (HasChanged changed) old new
 
