@@ -1,0 +1,4 @@
+mod Prefixes
+mod Guarded
+mod Walks
+mod Nodes
