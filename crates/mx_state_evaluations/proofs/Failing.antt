@@ -61,8 +61,7 @@ fault_bound = self_bound (codes "v") [] (below (codes "B") (top (codes "A")) ref
 
 pub fault_is_evaluated : FaultIsEvaluated
 fault_is_evaluated =
-    nothing_held nested row.nested_v row.nested_v (Err (Fault NoName row.nested_v 1)) 1 (AsBound fault_bound)
-    (
+    nothing_held nested row.nested_v row.nested_v (Err (Fault NoName row.nested_v 1)) 1 (AsBound fault_bound) (
       fault_means,
       completes_lost (model_of nested) [] [] (none_right (model_of nested)) row.nested_v (row.nested_v ∷ []) ((λ h. h), tt) (λ x h. absurd h)
           (λ x h. elim h [ inl e ↦ subst (λ y. Reaches (model_of nested) row.nested_v y × (HasValue (model_of nested) y → ⊥)) e (Itself, failure_no_value (model_of nested) row.nested_v fault tt fault_means) | inr z ↦ absurd z ])
@@ -101,8 +100,7 @@ ring_bound = self_bound (codes "f") (row.whole 1 ∷ []) (top (codes "Main")) re
 
 pub ring_is_evaluated : RingIsEvaluated
 ring_is_evaluated =
-    nothing_held asking_round f_cell f_cell (Err (Ring round)) 2 (AsBound ring_bound)
-    (
+    nothing_held asking_round f_cell f_cell (Err (Ring round)) 2 (AsBound ring_bound) (
       cells_ask_each_other.0,
       cells_ask_each_other.1,
       completes_lost (model_of asking_round) [] [] (none_right (model_of asking_round)) f_cell round round_distinct (λ x h. absurd h)

@@ -4,14 +4,12 @@ use Rattle.mx_c3.specs.Merge.{merge}
 use Rattle.mx_c3.specs.Linearisation.{c3}
 use Rattle.mx_value.specs.declared.namespace.Namespace.{Namespace}
 use Rattle.mx_value.specs.declared.node.Node.{Node}
-use Rattle.mx_value.specs.declared.fault.FaultKind.TheVariants.{ZeroDivision}
 use Rattle.mx_value.specs.declared.refusal.EvalRefusal.TheVariants.{Ring}
 use Rattle.mx_edit.specs.declared.key.Key.TheVariants as key
 use Rattle.mx_runs.specs.Lists.{Has}
-use Rattle.mx_runs.specs.Runs.{Run, Ends, Tests, Asks, Faults, Tested}
+use Rattle.mx_runs.specs.Runs.{Run, Tests, Asks, Tested}
 use Rattle.mx_runs.specs.Meaning.{Leads}
-use Rattle.mx_runs.specs.Chains.{asks_of, DoesAsk, Reaches, Itself, Through, MeansNothing}
-use Rattle.mx_runs.proofs.Runs.{asked_by_end}
+use Rattle.mx_runs.specs.Chains.{DoesAsk, Reaches, Itself, Through, MeansNothing}
 use Rattle.mx_runs.proofs.Reach.{reach_within}
 use Rattle.mx_formulas.specs.Namespaces.{root, child}
 use Rattle.mx_formulas.specs.Walks.{entered}
@@ -70,8 +68,7 @@ unbound =
 
 pub item_ring_is_evaluated : ItemRingIsEvaluated
 item_ring_is_evaluated =
-    nothing_held asking_itself itself_cell itself_cell (Err (Ring (its_item ∷ []))) 2 (AsWritten unbound)
-    (
+    nothing_held asking_itself itself_cell itself_cell (Err (Ring (its_item ∷ []))) 2 (AsWritten unbound) (
       item_asks_itself.0,
       item_asks_itself.1,
       completes_lost (model_of asking_itself) [] [] (none_right (model_of asking_itself)) itself_cell chain chain_distinct (λ x h. absurd h)

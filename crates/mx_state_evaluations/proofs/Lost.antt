@@ -1,13 +1,12 @@
 -- An evaluation that comes to no value.
-use Rattle.std.proofs.Common.{◌≡◌, ℕ, ◌+◌, ◌≤◌, ◌⊎◌, inl, inr, Result, List, [], ◌∷◌, ◌++◌, length, refl, sym, ◌∙◌, subst, arith, length-append}
+use Rattle.std.proofs.Common.{◌≡◌, ℕ, ◌+◌, ◌≤◌, ◌⊎◌, inl, inr, Result, List, [], ◌∷◌, ◌++◌, length, refl, subst, arith, length-append}
 use Rattle.std.proofs.lemmas.List.{length-map}
 use Rattle.mx_value.specs.declared.node.Node.{Node}
 use Rattle.mx_value.specs.declared.value.Value.{Value}
 use Rattle.mx_value.specs.declared.refusal.EvalRefusal.{EvalRefusal}
 use Rattle.mx_edit.specs.Entry.{Entry}
 use Rattle.mx_runs.specs.Lists.{Has, Distinct}
-use Rattle.mx_runs.specs.Runs.{Model, Run, Looks, Tests, Asks, Notes, Gives, Event, Looked, Tested, Asked, Noted}
-use Rattle.mx_runs.specs.Meaning.{Means, Leads}
+use Rattle.mx_runs.specs.Runs.{Model}
 use Rattle.mx_runs.specs.Chains.{asks_of, DoesAsk, Reaches, HasValue, MeansNothing}
 use Rattle.mx_runs.proofs.Lists.{no_more, has_left, has_right}
 use Rattle.mx_runs.proofs.Events.{asked_has_value}
