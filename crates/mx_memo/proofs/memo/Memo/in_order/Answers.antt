@@ -1,4 +1,3 @@
-use Rattle.std.proofs.Common.{List}
 use Rattle.mx_memo.specs.Memos.{memory_of}
 use Rattle.mx_memo.proofs.Order.{in_order}
 use Rattle.mx_memo.proofs.memo.Memo.in_order.Goals as goal
