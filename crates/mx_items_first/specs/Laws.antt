@@ -1,4 +1,5 @@
--- A run asks the items on the way of a node before it asks the node.
+-- A run asks the items on the way of a node before it asks the node, and the items that a walk asks lie on the way of the
+-- node's bound form.
 use Rattle.std.specs.Prelude.{◌≡◌, List, ◌∷◌, ◌++◌}
 use Rattle.mx_value.specs.declared.value.Value.{Value}
 use Rattle.mx_value.specs.declared.value.Segment.{Segment}
