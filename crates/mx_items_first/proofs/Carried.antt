@@ -16,7 +16,7 @@ use Rattle.mx_edit.specs.declared.key.Key.TheVariants as key
 use Rattle.mx_edit.specs.declared.key.KeyResult.{KeyResult}
 use Rattle.mx_edit.specs.declared.key.KeyResult.TheVariants as found
 use Rattle.mx_edit.specs.declared.reply.Reply.{Reply}
-use Rattle.mx_runs.specs.Runs.{Run, Ends, Tests, Gives, NoSuch, Event, Tested, Asked}
+use Rattle.mx_runs.specs.Runs.{Run, Ends, Tests, Asks, Gives, NoSuch, WrongCount, Event, Tested, Asked}
 use Rattle.mx_runs.specs.Meaning.{Means}
 use Rattle.mx_formulas.specs.Namespaces.{Step, root, child, ends_with_name, item_at}
 use Rattle.mx_formulas.specs.Walks.{Onward, entered, item_entered, stepped, walked_from, walked}
@@ -24,15 +24,16 @@ use Rattle.mx_formulas.specs.Laws.{model_of, IsSpaceAt}
 use Rattle.mx_formulas.proofs.Walking.{Came, Reached, root_reached, reached_on, came_on, name_steps, item_steps}
 use Rattle.mx_formulas.proofs.Items.{item_reply}
 
--- The steps of a walk keep Q of its namespaces and P of its runs, each by the nodes asked so far. Of the test of an item P
+-- The steps of a walk keep Q of its namespaces and P of its runs, each by the nodes asked so far. Of the ask of an item P
 -- holds where it holds of what comes behind each answer, if there Q holds of the item's space.
 pub record Carries (look : Key → KeyResult) (Q : List Node → Namespace → Type 0) (P : List Node → Run → Type 0) : Type 0 where
   pub refused : (asked : List Node) → P asked (Ends NoSuch)
+  pub miscounted : (asked : List Node) → P asked (Ends WrongCount)
+  pub tested : (asked : List Node) (k : Key) (go : KeyResult → Run) → P asked (go (look k)) → P asked (Tests k go)
   pub named : (asked : List Node) (ns : Namespace) (name : Label) → Q asked ns → Q asked (child name ns)
-  pub entering : (asked : List Node) (ns : Namespace) → Q asked ns → (args : List Value) (go : Onward)
-      → ((ps : Params) → look (key.Params ns.source) ≡ found.Params ps → is_wrong_count ps.params (length args) ≡ false → (r : Reply) → Means (model_of look) (Item ns.at (bound ps.params args)) (Gives r)
-        → ((space : Namespace) → space.at ≡ item_at ns (bound ps.params args) → Q (Item ns.at (bound ps.params args) ∷ asked) space) → P (Item ns.at (bound ps.params args) ∷ asked) (entered r.namespace go))
-      → P asked (Tests (key.Params ns.source) (item_entered ns args go))
+  pub asking : (asked : List Node) (ns : Namespace) → Q asked ns → (vs : List Value) (go : Onward)
+      → ((r : Reply) → Means (model_of look) (Item ns.at vs) (Gives r) → ((space : Namespace) → space.at ≡ item_at ns vs → Q (Item ns.at vs ∷ asked) space) → P (Item ns.at vs ∷ asked) (entered r.namespace go))
+      → P asked (Asks (Item ns.at vs) (λ r. entered r.namespace go))
 
 module _ (look : Key → KeyResult) (Q : List Node → Namespace → Type 0) (P : List Node → Run → Type 0) (carries : Carries look Q P) where
   module _ (asked : List Node) (ns : Namespace) (reached : Reached look ns) (fact : Q asked ns) (few : nat_le 64 (length ns.at) ≡ false) (go : Onward)
@@ -63,8 +64,18 @@ module _ (look : Key → KeyResult) (Q : List Node → Namespace → Type 0) (P 
           (came_on look ns answer.space reached (segment.Item (bound ps.params args)) few events (item_steps look ns answer.space ps args n e q r m has) answer.address)
           (there answer.space answer.address))
 
+    module _ (came : Came look ns) (n : ends_with_name ns.at ≡ true) (args : List Value) where
+      counted_carried : (ps : Params) → look (key.Params ns.source) ≡ found.Params ps → (wrong : Bool) → is_wrong_count ps.params (length args) ≡ wrong
+          → P asked (if wrong then Ends WrongCount else Asks (Item ns.at (bound ps.params args)) (λ r. entered r.namespace go))
+      counted_carried ps e true q = carries.miscounted asked
+      counted_carried ps e false q = carries.asking asked ns fact (bound ps.params args) go (reply_carried came n args ps e q)
+
+      entered_carried : (r : KeyResult) → look (key.Params ns.source) ≡ r → P asked (item_entered ns args go r)
+      entered_carried (found.Params ps) e = counted_carried ps e (is_wrong_count ps.params (length args)) refl
+      entered_carried other e = carries.refused asked
+
     item_carried : (ends_with_name ns.at ≡ true → Came look ns) → (args : List Value) (b : Bool) → ends_with_name ns.at ≡ b → P asked (if b then Tests (key.Params ns.source) (item_entered ns args go) else Ends NoSuch)
-    item_carried c args true n = carries.entering asked ns fact args go (reply_carried (c n) n args)
+    item_carried c args true n = carries.tested asked (key.Params ns.source) (item_entered ns args go) (entered_carried (c n) n args (look (key.Params ns.source)) refl)
     item_carried c args false n = carries.refused asked
 
     step_carried : (ends_with_name ns.at ≡ true → Came look ns) → (s : Step) → P asked (stepped s ns go)

@@ -8,7 +8,6 @@ use Rattle.mx_value.specs.declared.namespace.Namespace.{Namespace}
 use Rattle.mx_value.specs.declared.fault.FaultKind.TheVariants.{BadItem}
 use Rattle.mx_value.specs.declared.node.Node.{Node}
 use Rattle.mx_value.specs.declared.node.Node.TheVariants.{Cell, Item}
-use Rattle.mx_syntax.specs.declared.stmt.Params.{Params}
 use Rattle.mx_syntax.specs.Binding.{bound, is_wrong_count}
 use Rattle.mx_edit.specs.declared.key.Key.{Key}
 use Rattle.mx_edit.specs.declared.key.Key.TheVariants as key
@@ -21,10 +20,9 @@ use Rattle.mx_runs.specs.Lists.{Has}
 use Rattle.mx_runs.specs.Chains.{asks_of}
 use Rattle.mx_runs.proofs.Runs.{asked_by_end}
 use Rattle.mx_formulas.specs.Namespaces.{ends_with_name, item_at}
-use Rattle.mx_formulas.specs.Walks.{Onward, entered, item_entered, walked_from, walked}
-use Rattle.mx_formulas.specs.Binding.{binding, cell_bound, item_bound, item_sought}
-use Rattle.mx_formulas.specs.Laws.{model_of, BindsTo}
-use Rattle.mx_formulas.proofs.Walking.{Came}
+use Rattle.mx_formulas.specs.Walks.{Onward, entered, walked_from, walked}
+use Rattle.mx_formulas.specs.Binding.{binding, cell_bound, item_bound}
+use Rattle.mx_formulas.specs.Laws.{model_of}
 use Rattle.mx_items_first.specs.Laws.{address_of, WaitsOnTheWay}
 use Rattle.mx_items_first.proofs.Prefixes.{Passes, stays_behind}
 use Rattle.mx_items_first.proofs.Carried.{Carries, walked_carried}
@@ -36,7 +34,7 @@ mark n = Ends (Faults BadItem n 0)
 same_mark : (b c : Node) → Faults BadItem b 0 ≡ Faults BadItem c 0 → b ≡ c
 same_mark b c e = cc
 
--- the address of what lies at the node
+-- the address of the space of an item node
 abbrev space_of : Node → List Segment
 space_of (Cell a name vs) = a
 space_of (Item a vs) = a ++ segment.Item vs ∷ []
@@ -78,23 +76,13 @@ module _ (look : Key → KeyResult) (b : Node) (at : List Segment) (args : List 
   space_inside asked ns inside vs space e (inl h) = record { behind = []; is = e ∙ ap space_of h }
   space_inside asked ns inside vs space e (inr h) = subst (Passes at args) (sym e) (stays_behind at args ns.at (segment.Item vs) (inside h))
 
-  module _ (asked : List Node) (ns : Namespace) (inside : Inside asked ns) (vs : List Value) (go : Onward)
-      (k : (ps : Params) → look (key.Params ns.source) ≡ found.Params ps → is_wrong_count ps.params (length vs) ≡ false → (r : Reply) → Means (model_of look) (Item ns.at (bound ps.params vs)) (Gives r)
-        → ((space : Namespace) → space.at ≡ item_at ns (bound ps.params vs) → Inside (Item ns.at (bound ps.params vs) ∷ asked) space) → Trail (entered r.namespace go) (Item ns.at (bound ps.params vs) ∷ asked)) where
-    counted : (ps : Params) → look (key.Params ns.source) ≡ found.Params ps → (wrong : Bool) → is_wrong_count ps.params (length vs) ≡ wrong
-        → Trail (if wrong then Ends WrongCount else Asks (Item ns.at (bound ps.params vs)) (λ r. entered r.namespace go)) asked
-    counted ps e true q = wrong_count asked
-    counted ps e false q = λ r m. k ps e q r m (space_inside asked ns inside (bound ps.params vs))
-
-    entering : (r : KeyResult) → look (key.Params ns.source) ≡ r → Trail (item_entered ns vs go r) asked
-    entering (found.Params ps) e = counted ps e (is_wrong_count ps.params (length vs)) refl
-    entering other e = no_such asked
-
   trail_carries : Carries look Inside (λ asked run. Trail run asked)
   trail_carries = record {
     refused = no_such;
+    miscounted = wrong_count;
+    tested = λ asked k go t. t;
     named = λ asked ns name inside h. stays_behind at args ns.at (segment.Name name) (inside h);
-    entering = λ asked ns inside vs go k. entering asked ns inside vs go k (look (key.Params ns.source)) refl;
+    asking = λ asked ns inside vs go k r m. k r m (space_inside asked ns inside vs);
   }
 
   -- ---- behind the walk

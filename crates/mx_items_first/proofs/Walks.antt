@@ -1,23 +1,19 @@
 -- A walk asks an item before it comes to what lies in its space.
-use Rattle.std.proofs.Common.{Bool, true, false, ◌≡◌, List, [], ◌∷◌, inl, inr, if◌then◌else◌, length, refl, sym, ◌∙◌, ap, subst}
+use Rattle.std.proofs.Common.{◌≡◌, List, [], ◌∷◌, inl, inr, sym, ◌∙◌, ap, subst}
 use Rattle.mx_value.specs.declared.value.Value.{Value}
 use Rattle.mx_value.specs.declared.value.Segment.{Segment}
 use Rattle.mx_value.specs.declared.namespace.Namespace.{Namespace}
 use Rattle.mx_value.specs.declared.node.Node.{Node}
 use Rattle.mx_value.specs.declared.node.Node.TheVariants.{Item}
-use Rattle.mx_syntax.specs.declared.stmt.Params.{Params}
-use Rattle.mx_syntax.specs.Binding.{bound, is_wrong_count}
 use Rattle.mx_edit.specs.declared.key.Key.{Key}
-use Rattle.mx_edit.specs.declared.key.Key.TheVariants as key
 use Rattle.mx_edit.specs.declared.key.KeyResult.{KeyResult}
-use Rattle.mx_edit.specs.declared.key.KeyResult.TheVariants as found
 use Rattle.mx_edit.specs.declared.reply.Reply.{Reply}
-use Rattle.mx_runs.specs.Runs.{Ends, Asks, Gives, WrongCount}
+use Rattle.mx_runs.specs.Runs.{Asks, Gives}
 use Rattle.mx_runs.specs.Meaning.{Means}
 use Rattle.mx_runs.specs.Lists.{Has}
 use Rattle.mx_runs.proofs.Lists.{among_or_not}
 use Rattle.mx_formulas.specs.Namespaces.{item_at}
-use Rattle.mx_formulas.specs.Walks.{Onward, entered, item_entered, walked}
+use Rattle.mx_formulas.specs.Walks.{Onward, entered, walked}
 use Rattle.mx_formulas.specs.Laws.{model_of}
 use Rattle.mx_formulas.proofs.Walking.{Came}
 use Rattle.mx_items_first.proofs.Prefixes.{Passes, none_on_top, name_adds_none, item_adds_itself}
@@ -34,38 +30,30 @@ module _ (look : Key → KeyResult) (at : List Segment) (args : List Value) wher
   abbrev Clear : List Node → Namespace → Type 0
   Clear asked ns = Passes at args ns.at → ⊥
 
-  module _ (asked : List Node) (ns : Namespace) (clear : Clear asked ns) (vs : List Value) (go : Onward)
-      (k : (ps : Params) → look (key.Params ns.source) ≡ found.Params ps → is_wrong_count ps.params (length vs) ≡ false → (r : Reply) → Means (model_of look) (Item ns.at (bound ps.params vs)) (Gives r)
-        → ((space : Namespace) → space.at ≡ item_at ns (bound ps.params vs) → Clear (Item ns.at (bound ps.params vs) ∷ asked) space) → Guarded look at args (entered r.namespace go)) where
-    still_clear : (us : List Value) → (Has (Item at args ∷ []) (Item ns.at us) → ⊥) → (space : Namespace) → space.at ≡ item_at ns us → Passes at args space.at → ⊥
-    still_clear us other space e p =
-        elim (item_adds_itself at args ns.at us (subst (Passes at args) e p)) [
+  module _ (ns : Namespace) (clear : Passes at args ns.at → ⊥) (vs : List Value) where
+    still_clear : (Has (Item at args ∷ []) (Item ns.at vs) → ⊥) → (space : Namespace) → space.at ≡ item_at ns vs → Passes at args space.at → ⊥
+    still_clear other space e p =
+        elim (item_adds_itself at args ns.at vs (subst (Passes at args) e p)) [
           | inl h ↦ clear h
-          | inr h ↦ other (inl (sym (ap (λ a. Item a us) h.0 ∙ ap (Item at) h.1)))
+          | inr h ↦ other (inl (sym (ap (λ a. Item a vs) h.0 ∙ ap (Item at) h.1)))
         ]
 
     -- the ask of an item: it is the one, or what comes behind it lies outside its space
-    ask_guarded : (ps : Params) → look (key.Params ns.source) ≡ found.Params ps → is_wrong_count ps.params (length vs) ≡ false → Guarded look at args (Asks (Item ns.at (bound ps.params vs)) (λ r. entered r.namespace go))
-    ask_guarded ps e q =
-        elim (among_or_not (Item ns.at (bound ps.params vs)) (Item at args ∷ [])) [
+    ask_guarded : (go : Onward) → ((r : Reply) → Means (model_of look) (Item ns.at vs) (Gives r) → ((space : Namespace) → space.at ≡ item_at ns vs → Passes at args space.at → ⊥) → Guarded look at args (entered r.namespace go))
+        → Guarded look at args (Asks (Item ns.at vs) (λ r. entered r.namespace go))
+    ask_guarded go k =
+        elim (among_or_not (Item ns.at vs) (Item at args ∷ [])) [
           | inl h ↦ elim h [ inl same ↦ inl (sym same) | inr none ↦ absurd none ]
-          | inr other ↦ inr (clear, λ r m. k ps e q r m (still_clear (bound ps.params vs) other))
+          | inr other ↦ inr (clear, λ r m. k r m (still_clear other))
         ]
-
-    counted_guarded : (ps : Params) → look (key.Params ns.source) ≡ found.Params ps → (wrong : Bool) → is_wrong_count ps.params (length vs) ≡ wrong
-        → Guarded look at args (if wrong then Ends WrongCount else Asks (Item ns.at (bound ps.params vs)) (λ r. entered r.namespace go))
-    counted_guarded ps e true q = tt
-    counted_guarded ps e false q = ask_guarded ps e q
-
-    entered_guarded : (r : KeyResult) → look (key.Params ns.source) ≡ r → Guarded look at args (item_entered ns vs go r)
-    entered_guarded (found.Params ps) e = counted_guarded ps e (is_wrong_count ps.params (length vs)) refl
-    entered_guarded other e = tt
 
   guarded_carries : Carries look Clear (λ asked run. Guarded look at args run)
   guarded_carries = record {
     refused = λ asked. tt;
+    miscounted = λ asked. tt;
+    tested = λ asked k go g. g;
     named = λ asked ns name clear p. clear (name_adds_none at args ns.at name p);
-    entering = λ asked ns clear vs go k. entered_guarded asked ns clear vs go k (look (key.Params ns.source)) refl;
+    asking = λ asked ns clear vs go k. ask_guarded ns clear vs go k;
   }
 
   pub walked_guarded : (segments : List Segment) (go : Onward) → ((m : Namespace) → Outside m → Guarded look at args (go m)) → Guarded look at args (walked segments go)
