@@ -1,4 +1,6 @@
 mod Prefixes
 mod Guarded
+mod Carried
 mod Walks
 mod Nodes
+mod Waits

@@ -1,5 +1,6 @@
 -- Through which items the way to an address leads.
 use Rattle.std.proofs.Common.{◌≡◌, suc, ◌+◌, List, [], ◌∷◌, ◌++◌, ◌⊎◌, inl, inr, length, refl, sym, ◌∙◌, ap, subst, arith, length-append}
+use Rattle.std.proofs.lemmas.List.{append_assoc}
 use Rattle.mx_value.specs.declared.label.Label.{Label}
 use Rattle.mx_value.specs.declared.value.Value.{Value}
 use Rattle.mx_value.specs.declared.value.Segment.{Segment, out-Segment}
@@ -53,6 +54,10 @@ module _ (at : List Segment) (args : List Value) where
       nothing : (xs behind : List Segment) → [] ≡ xs ++ segment.Item args ∷ behind → ⊥
       nothing [] behind e = absurd (cc)
       nothing (x ∷ xs) behind e = absurd (cc)
+
+  -- what the way leads through, it leads through with one segment more
+  pub stays_behind : (xs : List Segment) (s : Segment) → Passes xs → Passes (xs ++ s ∷ [])
+  stays_behind xs s p = record { behind = p.behind ++ s ∷ []; is = ap (λ ys. ys ++ s ∷ []) p.is ∙ append_assoc at (segment.Item args ∷ p.behind) (s ∷ []) }
 
   -- a name at the end adds none
   pub name_adds_none : (xs : List Segment) (name : Label) → Passes (xs ++ segment.Name name ∷ []) → Passes xs

@@ -1,4 +1,5 @@
--- A run asks the items on the way of a node before it asks the node.
+-- A run asks the items on the way of a node before it asks the node, and the items that a walk asks lie on the way of the
+-- node's bound form.
 use Rattle.std.specs.Prelude.{◌≡◌, List, ◌∷◌, ◌++◌}
 use Rattle.mx_value.specs.declared.value.Value.{Value}
 use Rattle.mx_value.specs.declared.value.Segment.{Segment}
@@ -13,7 +14,8 @@ use Rattle.mx_runs.specs.Meaning.{Leads}
 use Rattle.mx_runs.specs.Lists.{Has}
 use Rattle.mx_runs.specs.Chains.{asks_of}
 use Rattle.mx_formulas.specs.Nodes.{body}
-use Rattle.mx_formulas.specs.Laws.{model_of}
+use Rattle.mx_formulas.specs.Walks.{Onward, entered, walked_from, walked}
+use Rattle.mx_formulas.specs.Laws.{model_of, BindsTo}
 
 -- the address whose walk begins the run of a node
 abbrev pub address_of : Node → List Segment
@@ -32,3 +34,11 @@ ItemsFirst =
     → (at : List Segment) (args : List Value)
     → Leads (model_of look) (body n) es (Asks m go)
     → PassesThrough (address_of m) at args → Has (asks_of es) (Item at args)
+
+-- the bound form of a node lies in the space of each item that the walk of the node's address asks
+abbrev pub WaitsOnTheWay : Type 0
+WaitsOnTheWay =
+    (look : Key → KeyResult) (n b : Node) (es : List Event) (at : List Segment) (args : List Value) (more : List Segment)
+    → BindsTo (model_of look) n b
+    → ((go : Onward) → Leads (model_of look) (walked (address_of n) go) es (Asks (Item at args) (λ r. entered r.namespace (λ ns. walked_from more ns go))))
+    → PassesThrough (address_of b) at args
