@@ -1,0 +1,9 @@
+pub mod Going
+pub mod Inputs
+pub mod Halting
+pub mod Walks
+pub mod Formulas
+pub mod Naming
+pub mod Settling
+pub mod Stopping
+pub mod Beginning

@@ -1,0 +1,4 @@
+pub mod Behind
+pub mod Halts
+pub mod Begins
+pub mod Settles

@@ -1,0 +1,33 @@
+//! Where the run of a node halts, and how it goes on from there.
+use mx_instructions::code::Code;
+use mx_list::shared::Shared;
+use mx_names::ending::Ending;
+use mx_names::home::Home;
+use mx_stack::rest::Onward;
+use mx_steps::stepped::Resume;
+use mx_value::node::Node;
+
+/// How a run goes on with the reply of the node that it asks.
+#[derive(Drop)]
+pub enum Waiting {
+    /// On the walk of its address, through these segments.
+    OnWay(Onward),
+    /// In the code of its formula.
+    InCode(InCode),
+}
+
+/// The code of a formula that goes on with a reply.
+#[derive(Drop)]
+pub struct InCode {
+    pub home: Home,
+    pub code: Shared<Code>,
+    pub resume: Resume,
+}
+
+/// Where a run halts.
+#[derive(Drop)]
+pub enum Halt {
+    Ends(Ending),
+    /// It asks a node.
+    Asks(Node, Waiting),
+}
