@@ -1,12 +1,11 @@
 -- Overlays in parts.
-use Rattle.std.proofs.Common.{◌≡◌, ◌∙◌, ◌<◌, ◌≤◌, ◌+◌, ℕ, List, [], ◌∷◌, ◌++◌, Bool, true, false, Option, Some, None, length, take, drop, get_or, refl, sym, ap, append_assoc, add-one}
+use Rattle.std.proofs.Common.{◌≡◌, ◌∙◌, ◌<◌, ◌≤◌, ◌+◌, ℕ, [], ◌∷◌, ◌++◌, Bool, true, false, length, take, drop, get_or, refl, sym, ap, append_assoc, add-one}
 use Rattle.std.specs.Prelude.{if◌then◌else◌, slice_set}
-use Rattle.std.proofs.lemmas.List.{append-nil, drop_all, drop_more, set_split, take_more}
-use Rattle.std.proofs.Math.Seq.{take-length}
+use Rattle.std.proofs.lemmas.List.{drop_all, drop_more, set_split, take_more}
 use Rattle.mx_value.specs.Name.{same_name}
 use Rattle.mx_value.specs.declared.label.Label.{Label}
 use Rattle.mx_value.specs.declared.value.Value.{Value}
-use Rattle.mx_formulas.specs.Namespaces.{Overlay, overlaid, overlaid_by, value_in}
+use Rattle.mx_formulas.specs.Namespaces.{Overlay, overlaid, overlaid_by}
 
 module _ (os : Overlay) (i : ℕ) (name : Label) (o : Label × Value) (within : i < length os) (is : o ≡ get_or os i o) where
   begun : drop i os ≡ o ∷ drop (i + 1) os

@@ -1,12 +1,10 @@
 -- Paths and addresses in parts.
-use Rattle.std.proofs.Common.{◌≡◌, ◌∙◌, ◌<◌, ◌≤◌, ◌+◌, ◌-◌, ℕ, zero, suc, List, [], ◌∷◌, ◌++◌, Bool, true, false, Option, Some, None, length, take, drop, get_or, refl, sym, ap, arith}
+use Rattle.std.proofs.Common.{◌≡◌, ◌∙◌, ◌<◌, ◌≤◌, ◌+◌, ◌-◌, ℕ, suc, List, [], ◌∷◌, ◌++◌, Bool, true, false, Option, Some, None, length, take, drop, get_or, refl, sym, ap, arith}
 use Rattle.std.specs.Prelude.{if◌then◌else◌, slice_get}
-use Rattle.std.proofs.lemmas.List.{append-nil, append_assoc, drop_all, drop_more}
+use Rattle.std.proofs.lemmas.List.{drop_all, drop_more}
 use Rattle.std.proofs.lemmas.Option.{get_or_from_slice_get, slice_get_within}
 use Rattle.mx_value.specs.Name.{same_name}
 use Rattle.mx_value.specs.declared.label.Label.{Label}
-use Rattle.mx_value.specs.declared.value.Segment.{Segment, out-Segment}
-use Rattle.mx_formulas.specs.Namespaces.{names_of, with_name}
 use Rattle.mx_formulas.specs.References.{behind, member_of, parent_of}
 
 pub parent_taken : {X : Type 0} (xs : List X) → take (length xs - 1) xs ≡ parent_of xs

@@ -1,5 +1,4 @@
-use Rattle.std.proofs.Common.{◌≡◌, ◌∙◌, ap}
-use Rattle.mx_value.specs.declared.value.Value.{Value}
+use Rattle.std.proofs.Common.{◌∙◌, ap}
 use Rattle.mx_value.specs.declared.namespace.Namespace.{Namespace}
 use Rattle.mx_edit.specs.declared.key.Key.TheVariants as key
 use Rattle.mx_model.specs.Keys.{key_result}
