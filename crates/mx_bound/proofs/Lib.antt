@@ -1,0 +1,6 @@
+pub mod Recording
+pub mod Testing
+pub mod Passing
+pub mod Settling
+pub mod Binding
+pub mod Resuming

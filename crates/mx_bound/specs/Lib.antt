@@ -1,0 +1,4 @@
+pub mod Records
+pub mod Walking
+pub mod Settles
+pub mod Bound

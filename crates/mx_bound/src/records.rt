@@ -1,0 +1,73 @@
+//! What is recorded of a run so far.
+ghost use Rattle.std.specs.Prelude.{◌≡◌, ◌==◌, [], OnOk};
+ghost use Rattle.std.specs.List.{list_any};
+ghost use Rattle.mx_value.specs.declared.read.Read.TheVariants as read;
+ghost use Rattle.mx_edit.specs.declared.key.Key.TheVariants as key;
+ghost use Rattle.mx_reading.specs.Seen.{nothing_seen, with_key, with_read};
+ghost use Rattle.mx_bound.specs.Records.{with_ask};
+
+use mx_edit::key::Key;
+use mx_graph::NodeId;
+use mx_list::items::Items;
+use mx_list::shared::Shared;
+use mx_reading::seen::Seen;
+use mx_value::node::Node;
+use mx_value::read::Read;
+use std::alloc::{AllocError, Global};
+
+/// What is recorded of a run so far: the keys that it looked up and what it read, and the held nodes
+/// that it asked, each once and in order of first occurrence.
+#[derive(Drop)]
+pub struct Records {
+    pub seen: Seen,
+    pub asks: Items<NodeId>,
+}
+
+impl Records {
+    /// Of a run that has done nothing.
+    pub fn new(alloc: Global) -> Records
+        ensures seen { result.seen ≡ nothing_seen }
+        ensures asks { result.asks ≡ [] }
+    {
+        Records {
+            seen: Seen::new(alloc),
+            asks: Items::new(alloc),
+        }
+    }
+
+    /// A held node was asked.
+    pub fn ask(&mut self, alloc: Global, node: &Node, id: NodeId) -> Result<(), AllocError>
+        ensures seen { OnOk result (self.new.seen ≡ with_read (read.Node node.now) self.old.seen) }
+        ensures asks { OnOk result (self.new.asks ≡ with_ask id self.old.asks) }
+    {
+        self.seen.note(Read::Node(node.copy(alloc)?))?;
+        enter(&mut self.asks, id)
+    }
+
+    /// An input was asked.
+    pub fn ask_input(&mut self, alloc: Global, node: &Shared<Node>) -> Result<(), AllocError>
+        ensures seen { OnOk result (self.new.seen ≡ with_read (read.Node node.now) (with_key (key.Input node.now) self.old.seen)) }
+        ensures asks { self.new.asks ≡ self.old.asks }
+    {
+        self.seen.look(Key::Input(node.copy()?))?;
+        self.seen.note(Read::Node(node.get().copy(alloc)?))
+    }
+}
+
+/// Enters an id, unless it is there.
+fn enter(asks: &mut Items<NodeId>, id: NodeId) -> Result<(), AllocError>
+    ensures { OnOk result (asks.new ≡ with_ask id asks.old) }
+{
+    if has_id(asks.as_slice(), id) {
+        return Ok(());
+    }
+    asks.push(id)?;
+    Ok(())
+}
+
+/// Whether an id is among these.
+fn has_id(asks: &[NodeId], id: NodeId) -> bool
+    ensures { result ≡ list_any (λ a. a.at == id.at) asks.now }
+{
+    asks.iter().any(|a| *a == id)
+}

@@ -1,0 +1,54 @@
+-- Where a run comes to that goes on past what is known.
+use Rattle.std.specs.Prelude.{◌≡◌, Bool, true, false}
+use Rattle.mx_edit.specs.declared.reply.Reply.{Reply}
+use Rattle.mx_memo.specs.Memos.{Memory}
+use Rattle.mx_runs.specs.Runs.{Model, Run, Asks, Ends}
+use Rattle.mx_suspended.specs.Recorded.{GoesPast}
+use Rattle.mx_value.specs.declared.node.Node.{Node}
+use Rattle.mx_instructions_law.specs.States.{State}
+use Rattle.mx_names.specs.Endings.{ending_of}
+use Rattle.mx_node_runs.specs.Halts.{HaltsAs, Resumes}
+use Rattle.mx_entries.specs.Entries.{entries_of}
+use Rattle.mx_bound.specs.Records.{recorded_in}
+use Rattle.mx_passing.specs.Known.{HasBegun, IsUnknown}
+use Rattle.mx_bound.specs.declared.records.Records.{Records}
+use Rattle.mx_passing.specs.declared.current.Current.{Current}
+use Rattle.mx_passing.specs.declared.current.Running.{Running}
+use Rattle.mx_passing.specs.declared.passing.Passed.{Passed}
+use Rattle.mx_passing.specs.declared.passing.Passed.TheVariants as passed
+use Rattle.mx_passing.specs.declared.passing.Paused.{Paused}
+use Rattle.mx_passing.specs.declared.passing.Paused.TheVariants as paused
+use Rattle.mx_passing.specs.declared.passing.Stretch.{Stretch}
+
+-- the node's own run has begun, or the node is new
+abbrev pub Stands : Model → Memory → Node → Bool → Type 0
+Stands model m n true = HasBegun model m n
+Stands model m n false = IsUnknown model m n
+
+-- the run of n is left where it pauses: at its end, or at an ask of a node that is not known, with whose answer it goes on
+abbrev pub IsPausedAt : Model → Memory → Node → Run → Paused → State → Type 0
+IsPausedAt model m n run (paused.Ends ending) s = run ≡ Ends (ending_of n ending)
+IsPausedAt model m n run (paused.Asks a) s =
+    (go : Reply → Run) × (run ≡ Asks a.node go) × Resumes n a.waiting s go × Stands model m a.node a.is_begun
+
+-- a run goes on to where it pauses, and so its records grow
+pub record Pauses (model : Model) (m : Memory) (run : Run) (olds : Records) (at : Stretch) (s : State) : Type 0 where
+  pub rest : Run
+  pub past : GoesPast model (entries_of m.held) run (recorded_in m.held olds) rest (recorded_in m.held at.current.records)
+  pub pauses : IsPausedAt model m at.current.node rest at.paused s
+
+-- a run goes on past what is known to where it halts, and so its records grow
+pub record HaltsPast (model : Model) (m : Memory) (run : Run) (olds : Records) (at : Running) (s : State) : Type 0 where
+  pub rest : Run
+  pub past : GoesPast model (entries_of m.held) run (recorded_in m.held olds) rest (recorded_in m.held at.current.records)
+  pub halts : HaltsAs at.current.node rest at.halt s
+
+-- the run that went on
+abbrev pub current_of : Passed → Current
+current_of (passed.Halts r) = r.current
+current_of (passed.Pauses s) = s.current
+
+-- it does one or the other
+abbrev pub PassesTo : Model → Memory → Run → Records → Passed → State → Type 0
+PassesTo model m run olds (passed.Halts r) s = HaltsPast model m run olds r s
+PassesTo model m run olds (passed.Pauses at) s = Pauses model m run olds at s

@@ -1,0 +1,56 @@
+//! Asks of nodes that need no run.
+ghost use Rattle.std.specs.Prelude.{◌≡◌, IfOk, OnOk};
+ghost use Rattle.mx_state.specs.Model.{model_of};
+ghost use Rattle.mx_memo.specs.Memos.{AreHeld};
+ghost use Rattle.mx_entries.specs.Entries.{IsOrdered};
+ghost use Rattle.mx_entries.specs.Laws.{HeldOnce};
+ghost use Rattle.mx_passing.specs.Asking.{Meets};
+
+use crate::current::Current;
+use crate::known::{Known, find_known};
+use mx_edit::reply::Reply;
+use mx_list::shared::Shared;
+use mx_memo::Memo;
+use mx_value::node::Node;
+use mx_world::world::World;
+use std::alloc::{AllocError, Global};
+
+/// What a run that asks a node meets.
+#[derive(Drop)]
+pub enum Met {
+    /// The node is held or an input, and so answered.
+    Reply(Shared<Reply>),
+    /// The node's own run has begun.
+    Begun,
+    /// The node needs a run.
+    New,
+}
+
+/// A run asks a node: what is known of that answers it, and is recorded.
+pub fn ask(
+    alloc: Global,
+    world: &World,
+    memo: &Memo,
+    current: &mut Current,
+    node: &Shared<Node>,
+) -> Result<Met, AllocError>
+    requires ordered { IsOrdered memo.now }
+    requires once { HeldOnce memo.now.held }
+    requires asks { AreHeld memo.now.held current.old.records.asks }
+    ensures met { IfOk result (Meets (model_of world.now) memo.now node.now current.old.records current.new.records) }
+    ensures node { current.new.node ≡ current.old.node }
+    ensures asks { OnOk result (AreHeld memo.now.held current.new.records.asks) }
+{
+    match find_known(alloc, world, memo, node)? {
+        Known::Input(reply) => {
+            current.records.ask_input(alloc, node)?;
+            Ok(Met::Reply(reply))
+        }
+        Known::Held(id, reply) => {
+            current.records.ask(alloc, node.get(), id)?;
+            Ok(Met::Reply(reply))
+        }
+        Known::Begun => Ok(Met::Begun),
+        Known::New => Ok(Met::New),
+    }
+}
