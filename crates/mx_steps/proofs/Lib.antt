@@ -1,0 +1,7 @@
+pub mod Adding
+pub mod Opened
+pub mod Past
+pub mod Values
+pub mod Walks
+pub mod Codes
+pub mod Steps
