@@ -4,6 +4,5 @@ pub mod Halting
 pub mod Walks
 pub mod Formulas
 pub mod Naming
-pub mod Settling
 pub mod Stopping
 pub mod Beginning

@@ -1,4 +1,3 @@
 pub mod Behind
 pub mod Halts
 pub mod Begins
-pub mod Settles

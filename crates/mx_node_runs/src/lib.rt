@@ -9,4 +9,3 @@ pub mod halt;
 mod input;
 mod items;
 pub mod runs;
-pub mod settled;

@@ -1,0 +1,13 @@
+//! Walks of addresses, calls and subscripts over a world.
+#![tactic(auto)]
+
+pub mod called;
+pub mod calls;
+mod cells;
+mod copies;
+mod going;
+pub mod items;
+pub mod laws;
+pub mod spaces;
+mod tables;
+pub mod walks;
