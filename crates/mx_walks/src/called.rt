@@ -31,7 +31,8 @@ pub enum Called {
 
 /// What an operator gave, or the fault that came of it.
 pub fn leave_given(given: Result<Value, OpRefusal>) -> Result<Called, AllocError>
-    ensures { IfOk result (λ called. (answer : Answer) → Gives given answer → IsCalled (λ h line again to. computed_next h answer line (λ v. On (to v))) called) }
+    ensures { IfOk result (λ called. (answer : Answer) → Gives given answer
+        → IsCalled (λ h line again to. computed_next h answer line (λ v. On (to v))) called) }
 {
     match given {
         Ok(value) => return Ok(Called::Leaves(value)),

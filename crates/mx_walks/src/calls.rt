@@ -26,7 +26,10 @@ use std::alloc::{AllocError, Global};
 
 /// A call.
 pub fn call(alloc: Global, world: &World, call: Call, seen: &mut Seen) -> Result<Called, AllocError>
-    ensures came { IfOk result (λ called. Comes (key_result world.now) (λ h line again to. call_next h (place_of call.way) (callee_of call.callee) call.arguments line again to) called seen.old seen.new) }
+    ensures came { IfOk result (λ called. Comes (key_result world.now)
+        (λ h line again to.
+        call_next h (place_of call.way) (callee_of call.callee) call.arguments line again to)
+        called seen.old seen.new) }
 {
     let Call {
         way,
@@ -50,7 +53,10 @@ fn call_value(
     arguments: Items<Value>,
     seen: &mut Seen,
 ) -> Result<Called, AllocError>
-    ensures { IfOk result (λ called. Comes (key_result world.now) (λ h line again to. value_called_next h (place_of way) (out-Value value) arguments line again to) called seen.old seen.new) }
+    ensures { IfOk result (λ called. Comes (key_result world.now)
+        (λ h line again to.
+        value_called_next h (place_of way) (out-Value value) arguments line again to)
+        called seen.old seen.new) }
 {
     match value {
         Value::Cells(cells) => return call_cells(alloc, world, way, &cells, arguments, seen),
@@ -72,7 +78,10 @@ pub fn subscript(
     subscript: Subscript,
     seen: &mut Seen,
 ) -> Result<Called, AllocError>
-    ensures came { IfOk result (λ called. Comes (key_result world.now) (λ h line again to. index_next h (place_of subscript.way) subscript.of subscript.arguments line again to) called seen.old seen.new) }
+    ensures came { IfOk result (λ called. Comes (key_result world.now)
+        (λ h line again to.
+        index_next h (place_of subscript.way) subscript.of subscript.arguments line again to)
+        called seen.old seen.new) }
 {
     let Subscript { way, of, arguments } = subscript;
     match of {

@@ -34,7 +34,9 @@ pub fn call_cells(
     arguments: Items<Value>,
     seen: &mut Seen,
 ) -> Result<Called, AllocError>
-    ensures { IfOk result (λ called. Comes (key_result world.now) (λ h line again to. cells_called_next h (place_of way) cells.now arguments line again to) called seen.old seen.new) }
+    ensures { IfOk result (λ called. Comes (key_result world.now)
+        (λ h line again to. cells_called_next h (place_of way) cells.now arguments line again to)
+        called seen.old seen.new) }
 {
     match walk(alloc, world, way, &cells.space)? {
         Walked::Came(namespace) => {
@@ -55,7 +57,10 @@ fn ask_cells(
     arguments: Items<Value>,
     seen: &mut Seen,
 ) -> Result<Called, AllocError>
-    ensures { IfOk result (λ called. Comes (key_result world.now) (λ h line again to. Look (key.Cells namespace.now.source name.now) (cells_asked_next h namespace.now name.now arguments line to)) called seen.old seen.new) }
+    ensures { IfOk result (λ called. Comes (key_result world.now)
+        (λ h line again to. Look (key.Cells namespace.now.source name.now)
+        (cells_asked_next h namespace.now name.now arguments line to))
+        called seen.old seen.new) }
 {
     seen.look(Key::Cells(namespace.source.copy()?, name.copy()?))?;
     match world.compiled(&namespace.source, name) {
@@ -75,7 +80,9 @@ fn bind_cells(
     name: &Label,
     arguments: Items<Value>,
 ) -> Result<Called, AllocError>
-    ensures { IfOk result (IsCalled (λ h line again to. arguments_next h params.now arguments line (λ vs. Ask (Cell at.now name.now vs) (λ r. to r.value)))) }
+    ensures { IfOk result (IsCalled (λ h line again to.
+        arguments_next h params.now arguments line
+        (λ vs. Ask (Cell at.now name.now vs) (λ r. to r.value)))) }
 {
     match bind_arguments(alloc, params, arguments) {
         Ok(full) => return Ok(Called::Asks(Node::Cell(at.copy()?, name.copy()?, full))),

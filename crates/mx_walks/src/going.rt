@@ -102,7 +102,8 @@ pub fn go_on(
     from: Going,
     segments: &[Segment],
 ) -> Result<Stop, AllocError>
-    ensures { IfOk result (λ stop. stopped_way segments.now stop ≡ way_of (key_result world.now) segments.now from) }
+    ensures { IfOk result (λ stop.
+        stopped_way segments.now stop ≡ way_of (key_result world.now) segments.now from) }
 {
     let mut going = from;
     for (place, segment) in segments.iter().enumerate() {

@@ -61,7 +61,11 @@ fn bind_item(
     arguments: &Items<Value>,
     passed: usize,
 ) -> Result<Stop, AllocError>
-    ensures { IfOk result (λ stop. (segments : Many Segments) → stopped_way segments stop ≡ (if is_wrong_count params.now (length arguments.now) then Refused outcome.WrongCount else AsksAt (Item at.now (bound params.now arguments.now)) (drop passed segments))) }
+    ensures { IfOk result (λ stop. (segments : Many Segments) →
+        stopped_way segments stop ≡
+        (if is_wrong_count params.now (length arguments.now)
+        then Refused outcome.WrongCount
+        else AsksAt (Item at.now (bound params.now arguments.now)) (drop passed segments))) }
 {
     match bind(alloc, params, copy_items(alloc, arguments)?) {
         Ok(full) => return Ok(Stop::Asks(Node::Item(at.copy()?, full), passed)),
@@ -78,7 +82,12 @@ pub fn find_item(
     arguments: &Items<Value>,
     passed: usize,
 ) -> Result<Stop, AllocError>
-    ensures { IfOk result (λ stop. (segments : Many Segments) → stopped_way segments stop ≡ (if ends_with_name namespace.now.at then item_way (drop passed segments) namespace.now arguments.now (key_result world.now (key.Params namespace.now.source)) else Refused outcome.NoSuch)) }
+    ensures { IfOk result (λ stop. (segments : Many Segments) →
+        let found = key_result world.now (key.Params namespace.now.source) in
+        stopped_way segments stop ≡
+        (if ends_with_name namespace.now.at
+        then item_way (drop passed segments) namespace.now arguments.now found
+        else Refused outcome.NoSuch)) }
 {
     if !ends_with_name(namespace.at.as_slice()) {
         return Ok(Stop::NoSuch);

@@ -39,7 +39,9 @@ pub fn call_space(
     arguments: Items<Value>,
     seen: &mut Seen,
 ) -> Result<Called, AllocError>
-    ensures { IfOk result (λ called. Comes (key_result world.now) (λ h line again to. space_called_next h (place_of way) at.now arguments line again to) called seen.old seen.new) }
+    ensures { IfOk result (λ called. Comes (key_result world.now)
+        (λ h line again to. space_called_next h (place_of way) at.now arguments line again to)
+        called seen.old seen.new) }
 {
     match walk(alloc, world, way, at)? {
         Walked::Came(namespace) => return ask_item(alloc, world, &namespace, arguments, seen),
@@ -57,7 +59,9 @@ fn ask_item(
     arguments: Items<Value>,
     seen: &mut Seen,
 ) -> Result<Called, AllocError>
-    ensures { IfOk result (λ called. Comes (key_result world.now) (λ h line again to. space_sought_next h arguments line to namespace.now) called seen.old seen.new) }
+    ensures { IfOk result (λ called. Comes (key_result world.now)
+        (λ h line again to. space_sought_next h arguments line to namespace.now)
+        called seen.old seen.new) }
 {
     if !ends_with_name(namespace.at.as_slice()) {
         return Ok(Called::Faults(FaultKind::NotCallable));
@@ -72,14 +76,16 @@ fn ask_item(
     }
 }
 
-/// The item node of a space with these parameters, where the arguments bind and its space may be so large.
+/// The item node of a space with these parameters, where the arguments bind and its space may be
+/// so large.
 fn bind_item(
     alloc: Global,
     params: &[Param],
     namespace: &Namespace,
     arguments: Items<Value>,
 ) -> Result<Called, AllocError>
-    ensures { IfOk result (IsCalled (λ h line again to. arguments_next h params.now arguments line (item_asked_next h namespace.now line to))) }
+    ensures { IfOk result (IsCalled (λ h line again to.
+        arguments_next h params.now arguments line (item_asked_next h namespace.now line to))) }
 {
     match bind_arguments(alloc, params, arguments) {
         Ok(full) => {

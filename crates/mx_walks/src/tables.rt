@@ -24,7 +24,8 @@ use mx_value::value::Value;
 use mx_world::world::World;
 use std::alloc::{AllocError, Global};
 
-/// The entry of a table. The table counts as read, and its key too, before the subscripts are tested.
+/// The entry of a table. The table counts as read, and its key too, before the subscripts are
+/// tested.
 pub fn look_in_table(
     alloc: Global,
     world: &World,
@@ -32,7 +33,9 @@ pub fn look_in_table(
     subscripts: &[Value],
     seen: &mut Seen,
 ) -> Result<Called, AllocError>
-    ensures { IfOk result (λ called. Comes (key_result world.now) (λ h line again to. table_next h name.now subscripts.now line to) called seen.old seen.new) }
+    ensures { IfOk result (λ called. Comes (key_result world.now)
+        (λ h line again to. table_next h name.now subscripts.now line to)
+        called seen.old seen.new) }
 {
     seen.note(Read::Table(name.copy()?))?;
     seen.look(Key::Table(name.copy()?))?;

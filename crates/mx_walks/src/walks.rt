@@ -33,7 +33,8 @@ pub enum Walked {
 
 /// The walk of an address, from the top or from where it is.
 pub fn walk(alloc: Global, world: &World, way: Option<Way>, at: &Addr) -> Result<Walked, AllocError>
-    ensures { IfOk result (λ walked. told walked ≡ walked_way (key_result world.now) (place_of way) at.now) }
+    ensures { IfOk result (λ walked.
+        told walked ≡ walked_way (key_result world.now) (place_of way) at.now) }
 {
     match way {
         Some(way) => return walk_on(alloc, world, way.rest, way.came),
@@ -48,7 +49,8 @@ pub fn walk_on(
     rest: Onward,
     came: Option<Namespace>,
 ) -> Result<Walked, AllocError>
-    ensures { IfOk result (λ walked. told walked ≡ resumed_way (key_result world.now) rest came) }
+    ensures { IfOk result (λ walked.
+        told walked ≡ resumed_way (key_result world.now) rest came) }
 {
     let Some(namespace) = came else {
         return Ok(Walked::NoSuch);
@@ -92,7 +94,8 @@ pub fn walk_from_top(alloc: Global, world: &World, at: &Addr) -> Result<Walked, 
 
 /// The namespace of an address of names alone, unless it is too long.
 fn static_namespace(alloc: Global, at: &Addr) -> Result<Option<Namespace>, AllocError>
-    ensures { IfOk result (λ found. IfSome found (λ namespace. (look : Look) → way_of look at.now root ≡ Came namespace)) }
+    ensures { IfOk result (λ found. IfSome found (λ namespace.
+        (look : Look) → way_of look at.now root ≡ Came namespace)) }
 {
     if SEGMENTS < at.len() {
         return Ok(None);
