@@ -6,7 +6,6 @@ use Rattle.mx_graph.specs.declared.ids.NodeId.{NodeId}
 use Rattle.mx_value.specs.declared.value.Segment.{Segment}
 use Rattle.mx_value.specs.declared.namespace.Namespace.{Namespace}
 use Rattle.mx_value.specs.declared.node.Node.{Node}
-use Rattle.mx_value.specs.declared.read.Read.{Read}
 use Rattle.mx_value.specs.declared.read.Read.TheVariants as read
 use Rattle.mx_value.specs.Equality.{read_eq}
 use Rattle.mx_value.proofs.NodeSames.{read_decides}
@@ -14,21 +13,21 @@ use Rattle.mx_edit.specs.Entry.{Entry}
 use Rattle.mx_edit.specs.declared.key.Key.TheVariants.{Input}
 use Rattle.mx_edit.specs.declared.reply.Reply.{Reply}
 use Rattle.mx_vertices.specs.declared.slot.Body.{Body}
-use Rattle.mx_vertices.specs.Kept.{Kept, IsHeld}
+use Rattle.mx_vertices.specs.Kept.{Kept}
 use Rattle.mx_vertices.specs.Found.{IsHeldAs, IsHeldWith}
 use Rattle.mx_vertices.specs.Reading.{id_at}
 use Rattle.mx_memo.specs.Memos.{Memory, AreHeld}
 use Rattle.mx_runs.specs.Lists.{Has, EachOnce, Done}
 use Rattle.mx_runs.specs.Runs.{Model, Gives, Event, Looked, Tested, Asked, Noted}
 use Rattle.mx_runs.specs.Inputs.{is_input}
-use Rattle.mx_runs.specs.Meaning.{Means, Leads}
+use Rattle.mx_runs.specs.Meaning.{Means}
 use Rattle.mx_runs.proofs.Levels.{leads_append}
 use Rattle.mx_answers.specs.Held.{IsRight}
 use Rattle.mx_answers.specs.Records.{IsRightMemo, recorded_keys, recorded_asks, reads_of}
-use Rattle.mx_formulas.specs.Walks.{Onward, entered, walked, walked_from}
+use Rattle.mx_formulas.specs.Walks.{walked}
 use Rattle.mx_suspended.specs.Recorded.{Recorded, nothing, Adds}
 use Rattle.mx_suspended.proofs.Growing.{each_adds, keys_grow, asks_grow, reads_grow}
-use Rattle.mx_reading.specs.Seen.{Seen, added, with_read}
+use Rattle.mx_reading.specs.Seen.{Seen, with_read}
 use Rattle.mx_walks.specs.Ways.{Leading, AsksAt, begun_way, resumed_way, leading_run}
 use Rattle.mx_entries.specs.Entries.{entries_of, nodes_under, IsOrdered}
 use Rattle.mx_entries.proofs.Nodes.{body_is_entered, body_is_of_node, one_under_id}
@@ -36,7 +35,7 @@ use Rattle.mx_bound.specs.Records.{recorded_in, with_ask}
 use Rattle.mx_bound.specs.declared.records.Records.{Records}
 use Rattle.mx_bound.specs.Walking.{Address, IsAnswered, AreAnswered, WalksTo, Stands, GoesOn}
 use Rattle.mx_bound.proofs.Recording.{added_adds, ask_adds, ask_held}
-use Rattle.mx_bound.proofs.Testing.{AreTests, no_keys, no_asks, no_reads, none_asked, ComesByTests, begun_comes, resumed_comes}
+use Rattle.mx_bound.proofs.Testing.{AreTests, no_keys, no_asks, no_reads, none_asked, begun_comes, resumed_comes}
 
 -- ---- what is held of asks
 

@@ -8,7 +8,6 @@ use Rattle.mx_edit.specs.Entry.{Entry}
 use Rattle.mx_vertices.specs.declared.slot.Body.{Body}
 use Rattle.mx_vertices.specs.Kept.{Kept, IsHeld}
 use Rattle.mx_vertices.specs.Found.{IsHeldAs, IsHeldWith}
-use Rattle.mx_vertices.specs.Places as places
 use Rattle.mx_vertices.specs.Reading.{id_at}
 use Rattle.mx_memo.specs.Memos.{Memory, AreHeld}
 use Rattle.mx_runs.specs.Lists.{Has}

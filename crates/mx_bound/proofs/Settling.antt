@@ -1,10 +1,9 @@
 -- What binding comes to in the namespace of a node.
-use Rattle.std.proofs.Common.{◌≡◌, Bool, true, false, List, [], ◌∷◌, refl, sym, ◌∙◌, ap, subst}
+use Rattle.std.proofs.Common.{◌≡◌, Bool, true, List, [], ◌∷◌, refl, sym, ◌∙◌, ap, subst}
 use Rattle.std.specs.Prelude.{if◌then◌else◌}
 use Rattle.mx_value.specs.declared.label.Label.{Label}
 use Rattle.mx_value.specs.declared.value.Value.{Value}
 use Rattle.mx_value.specs.declared.namespace.Namespace.{Namespace}
-use Rattle.mx_value.specs.declared.node.Node.{Node}
 use Rattle.mx_value.specs.declared.node.Node.TheVariants.{Cell, Item}
 use Rattle.mx_edit.specs.declared.key.Key.{Key}
 use Rattle.mx_edit.specs.declared.key.Key.TheVariants as key
@@ -15,7 +14,6 @@ use Rattle.mx_formulas.specs.Laws.{model_of}
 use Rattle.mx_formulas.specs.Binding.{cell_bound, item_bound, item_sought}
 use Rattle.mx_formulas.specs.Namespaces.{ends_with_name}
 use Rattle.mx_bound.specs.declared.settled.Settled.{Settled}
-use Rattle.mx_bound.specs.declared.settled.Settled.TheVariants as settled
 use Rattle.mx_bound.specs.Walking.{Address}
 use Rattle.mx_bound.specs.Settles.{Goes, Settles, settled_run}
 

@@ -1,5 +1,5 @@
 -- The walk of an address up to its next item does nothing but test keys, and tests the same however it goes on.
-use Rattle.std.proofs.Common.{◌≡◌, Bool, true, false, List, [], ◌∷◌, Option, Some, None, length, refl, sym, ap, subst}
+use Rattle.std.proofs.Common.{◌≡◌, Bool, true, false, List, [], ◌∷◌, Option, Some, None, length, refl}
 use Rattle.std.specs.Prelude.{nat_le, if◌then◌else◌}
 use Rattle.mx_value.specs.declared.value.Value.{Value}
 use Rattle.mx_value.specs.declared.value.Segment.{Segment, out-Segment}
@@ -12,7 +12,7 @@ use Rattle.mx_edit.specs.declared.key.Key.{Key}
 use Rattle.mx_edit.specs.declared.key.Key.TheVariants as key
 use Rattle.mx_edit.specs.declared.key.KeyResult.{KeyResult}
 use Rattle.mx_edit.specs.declared.key.KeyResult.TheVariants as found
-use Rattle.mx_runs.specs.Runs.{Model, Run, Ends, Tests, Asks, NoSuch, WrongCount, Event, Looked, Tested, Asked, Noted}
+use Rattle.mx_runs.specs.Runs.{Model, Run, Ends, Tests, NoSuch, WrongCount, Event, Looked, Tested, Asked, Noted}
 use Rattle.mx_runs.specs.Meaning.{Leads}
 use Rattle.mx_answers.specs.Records.{recorded_keys, recorded_asks, reads_of}
 use Rattle.mx_formulas.specs.Namespaces.{Step, root, child, ends_with_name}

@@ -17,7 +17,6 @@ use Rattle.mx_answers.specs.Records.{recorded_keys, recorded_asks, reads_of}
 use Rattle.mx_formulas.specs.Walks.{Onward, walked}
 use Rattle.mx_suspended.specs.Recorded.{Recorded, Adds}
 use Rattle.mx_walks.specs.Ways.{Leading, Came, AsksAt, Refused, leading_run, told}
-use Rattle.mx_walks.specs.declared.walks.Walked.{Walked}
 use Rattle.mx_entries.specs.Entries.{entries_of}
 use Rattle.mx_bound.specs.Records.{recorded_in}
 use Rattle.mx_bound.specs.declared.records.Records.{Records}
