@@ -1,2 +1,8 @@
-pub mod Items
-pub mod Edits
+pub mod Engine
+pub mod Edited
+pub mod Refused
+pub mod ByText
+pub mod Successors
+pub mod Gathering
+pub mod Order
+pub mod Precedents

@@ -1,10 +1,6 @@
-//! Evaluation: formulas' code is run on one explicit stack, and what it gives is held.
+//! Evaluation: compiled formulas run on one explicit stack, over a world and a memo, and what they give is held.
 #![tactic(auto)]
 
-mod begin;
-pub mod binding;
-pub mod evaluator;
-mod held;
+pub mod bound;
 pub mod machine;
-mod sought;
 pub mod steps;

@@ -1,2 +1,3 @@
 pub mod Restoring
+pub mod Order
 pub mod Held

@@ -1,18 +1,18 @@
 -- A roll-back drops what was held later, and nothing else.
 use Rattle.std.proofs.Common.{◌≡◌, ◌∙◌, ℕ, ◌<◌, ◌≤◌, List, [], ◌∷◌, ◌++◌, refl, sym, ap, subst, arith, ◌⊎◌, inl, inr}
 use Rattle.mx_vertices.specs.Places.{Has}
-use Rattle.mx_vertices.specs.Kept.{Kept, asked, IsTouched, Here, ByAsk, Sifts, Done, Keeps, Drops}
+use Rattle.mx_vertices.specs.Kept.{Kept, asked, IsHeld, IsTouched, Here, ByAsk, Sifts, Done, Keeps, Drops}
 use Rattle.mx_memo.specs.Restoring.{AskBefore, AreApart}
 
-has_front : (xs ys : List Kept) (r : Kept) → Has xs r → Has (xs ++ ys) r
+pub has_front : (xs ys : List Kept) (r : Kept) → Has xs r → Has (xs ++ ys) r
 has_front [] ys r h = absurd h
 has_front (x ∷ xs) ys r h = elim h [ inl e ↦ inl e | inr i ↦ inr (has_front xs ys r i) ]
 
-has_rest : (xs ys : List Kept) (r : Kept) → Has ys r → Has (xs ++ ys) r
+pub has_rest : (xs ys : List Kept) (r : Kept) → Has ys r → Has (xs ++ ys) r
 has_rest [] ys r h = h
 has_rest (x ∷ xs) ys r h = inr (has_rest xs ys r h)
 
-one_entry : (rs : List Kept) → AreApart rs → (r s : Kept) → Has rs r → Has rs s → r.id ≡ s.id → r ≡ s
+pub one_entry : (rs : List Kept) → AreApart rs → (r s : Kept) → Has rs r → Has rs s → r.id ≡ s.id → r ≡ s
 one_entry [] a r s h k e = absurd h
 one_entry (x ∷ rs) a r s h k e =
     elim h [
@@ -26,12 +26,7 @@ one_entry (x ∷ rs) a r s h k e =
       ]
     ]
 
-record Stands (held : List Kept) (m : ℕ) : Type 0 where
-  entry : Kept
-  among : Has held entry
-  is : entry.id ≡ m
-
-asks_front : (before : List ℕ) (held more : List Kept) → AskBefore before (held ++ more) → (r : Kept) → Has held r → (m : ℕ) → Has r.sources (asked m) → Has before m ⊎ Stands held m
+pub asks_front : (before : List ℕ) (held more : List Kept) → AskBefore before (held ++ more) → (r : Kept) → Has held r → (m : ℕ) → Has r.sources (asked m) → Has before m ⊎ IsHeld held m
 asks_front before [] more a r h m k = absurd h
 asks_front before (x ∷ held) more a r h m k =
     elim h [

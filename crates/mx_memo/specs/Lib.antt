@@ -1,3 +1,4 @@
 pub mod Restoring
 pub mod Memos
+pub mod Order
 pub mod Namespaces

@@ -9,6 +9,7 @@ ghost use Rattle.mx_vertices.specs.Stamps.{NoneAfter, IsNextAfter, IsHeldSince, 
 ghost use Rattle.mx_vertices.specs.Found.{HasCome, IsHeldAs, IsHeldWith, IsNew};
 ghost use Rattle.mx_memo.specs.Namespaces.{namespace_held};
 ghost use Rattle.mx_memo.specs.Memos.{AreHeld, HoldsLast, nothing_held, most_held};
+ghost use Rattle.mx_memo.specs.Order.{IsInOrder};
 
 use crate::refusal::HoldRefusal;
 use mx_edit::key::Key;
@@ -100,6 +101,13 @@ impl Memo {
         ensures { result ≡ self.now.last }
     {
         self.order.len()
+    }
+
+    /// What callers may rely on: ids are apart, and stamps rise to at most the last that was given.
+    pub fn in_order(&self)
+        ensures { IsInOrder self.now }
+    {
+        let _ = &self.order;
     }
 
     /// How far a node has come, in one look: its run has begun, or it is held. None for a new one.

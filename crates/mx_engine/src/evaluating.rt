@@ -1,0 +1,106 @@
+//! Evaluations.
+ghost use Rattle.std.specs.Prelude.{◌-◌, ◌≤◌};
+ghost use Rattle.mx_machine.specs.States.{state_of};
+ghost use Rattle.mx_state.specs.Evaluations.{Evaluates, HasPrecedents};
+ghost use Rattle.mx_engine.specs.Engine.{IsSound};
+
+use crate::engine::Engine;
+use crate::gaps::{close_gaps, keep_first};
+use crate::precedents::reads_of;
+use crate::steps::Steps;
+use mx_machine::machine::run;
+use mx_memo::Memo;
+use mx_value::node::Node;
+use mx_value::read::Reads;
+use mx_value::refusal::EvalRefusal;
+use mx_value::value::Value;
+use mx_world::world::World;
+use std::alloc::Global;
+use std::sync::ledger::Ledger;
+
+impl Engine {
+    /// The value of a node, whose arguments are bound first. It is held from then on, with the values of all nodes that it rests
+    /// on. After a fault and a ring what was computed stays held; after each other refusal is held what was held before.
+    pub fn eval<L: Ledger>(
+        &mut self,
+        node: &Node,
+        steps: &mut Steps<L>,
+    ) -> Result<Value, EvalRefusal>
+        ensures evaluates { Evaluates self.old node.now result (steps.new - steps.old) self.new }
+        ensures ticks { steps.old ≤ steps.new }
+    {
+        evaluate(
+            self.alloc,
+            &self.world,
+            self.limit,
+            node,
+            &mut self.memo,
+            steps,
+        )
+    }
+
+    /// What the run of a node read, each once and in order of first read. The node is evaluated first. An input reads nothing.
+    pub fn precedents<L: Ledger>(
+        &mut self,
+        node: &Node,
+        steps: &mut Steps<L>,
+    ) -> Result<Reads, EvalRefusal>
+        ensures precedents { HasPrecedents self.old node.now result (steps.new - steps.old) self.new }
+        ensures ticks { steps.old ≤ steps.new }
+    {
+        read(
+            self.alloc,
+            &self.world,
+            self.limit,
+            node,
+            &mut self.memo,
+            steps,
+        )
+    }
+}
+
+/// The value of a node, with a memo whose stamps have few gaps.
+fn evaluate<L: Ledger>(
+    alloc: Global,
+    world: &World,
+    limit: usize,
+    node: &Node,
+    memo: &mut Memo,
+    steps: &mut Steps<L>,
+) -> Result<Value, EvalRefusal>
+    requires { IsSound world.now memo.old limit }
+    ensures sound { IsSound world.now memo.new limit }
+    ensures evaluates { Evaluates (state_of world.now memo.old limit) node.now result (steps.new - steps.old) (state_of world.now memo.new limit) }
+    ensures ticks { steps.old ≤ steps.new }
+{
+    mx_state::laws::laws();
+    close_gaps(memo);
+    run(alloc, world, limit, node, memo, steps)
+}
+
+/// The reads of a node, which is evaluated first. Where there is no memory for them, nothing more is held than before.
+fn read<L: Ledger>(
+    alloc: Global,
+    world: &World,
+    limit: usize,
+    node: &Node,
+    memo: &mut Memo,
+    steps: &mut Steps<L>,
+) -> Result<Reads, EvalRefusal>
+    requires { IsSound world.now memo.old limit }
+    ensures sound { IsSound world.now memo.new limit }
+    ensures precedents { HasPrecedents (state_of world.now memo.old limit) node.now result (steps.new - steps.old) (state_of world.now memo.new limit) }
+    ensures ticks { steps.old ≤ steps.new }
+{
+    let count = memo.count();
+    match evaluate(alloc, world, limit, node, memo, steps) {
+        Ok(_) => match reads_of(alloc, world, memo, node) {
+            Ok(reads) => return Ok(reads),
+            Err(_) => {
+                keep_first(memo, count);
+                return Err(EvalRefusal::NoMemory);
+            }
+        },
+        Err(why) => return Err(why),
+    }
+}
