@@ -1,2 +1,4 @@
-pub mod Items
-pub mod Edits
+pub mod Engine
+pub mod Refused
+pub mod Successors
+pub mod Order

@@ -1,7 +1,6 @@
-//! The engine: a model text, its edits, and the values that are kept for it.
+//! The engine (stub).
 #![tactic(auto)]
 
-pub mod edit;
 pub mod engine;
-
-pub use mx_machine::steps;
+pub mod refusal;
+pub mod steps;

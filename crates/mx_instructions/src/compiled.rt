@@ -146,6 +146,13 @@ impl CompiledParams {
         self.code.get()
     }
 
+    /// The code of the formula of the items, shared.
+    pub fn share_code(&self) -> Result<Shared<Code>, AllocError>
+        ensures { IfOk result (λ c. (told c ≡ code_of self.now.params (body_of self.now.body)) × (c.size ≡ size_of self.now.params (body_of self.now.body))) }
+    {
+        self.code.copy()
+    }
+
     /// The same parameters and code, shared.
     pub fn copy(&self) -> Result<CompiledParams, AllocError>
         ensures { IfOk result (λ c. c ≡ self.now) }

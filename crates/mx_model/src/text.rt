@@ -15,7 +15,7 @@ use crate::space::Space;
 use indexmap::{IndexMap, IndexSet};
 use mx_c3::lists::{BaseLists, Order};
 use mx_c3::space::SpaceId;
-use mx_code::compiled::{Compiled, CompiledParams};
+use mx_instructions::compiled::{Compiled, CompiledParams};
 use mx_edit::reference::RefValue;
 use mx_edit::table::Table;
 use mx_list::list::List;

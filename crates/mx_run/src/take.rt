@@ -4,16 +4,15 @@ ghost use Rattle.std.specs.Option.{option_to_list};
 ghost use Rattle.mx_outside.specs.Outside.{Rose};
 ghost use Rattle.mx_run.specs.Script.{started, taken};
 ghost use Rattle.mx_script.specs.Script.{without_cr};
-ghost use Rattle.mx_run.specs.Answer.{State};
+ghost use Rattle.mx_state.specs.State.{State};
 ghost use Rattle.mx_run.specs.Transcript.{Wrote, Runs, Begins};
 ghost use Rattle.mx_run.specs.Session.{TakesLine, pending_of, command_of};
 
 use crate::answer::Interpreter;
 use crate::line::{blank, continues, strip_cr};
-use crate::words::WORDS;
 use mx_engine::steps::Steps;
 use mx_outside::{Sink, WriteFailure};
-use mx_words::table::takes_lines;
+use mx_words::table::{WORDS, takes_lines};
 use mx_words::text::strip_spaces;
 use std::alloc::{AllocError, Global};
 use std::sync::ledger::Ledger;

@@ -27,6 +27,7 @@ use Rattle.mx_formulas.specs.Binding.{binding, cell_bound, item_bound, item_soug
 use Rattle.mx_formulas.specs.Nodes.{cells_found, cells_run, input_or, item_found, item_run, body}
 use Rattle.mx_formulas.specs.Laws.{model_of, BindsTo}
 use Rattle.mx_state.specs.Proper.{IsPlace, address_of}
+use Rattle.mx_state.proofs.Alike.{IsAlike}
 use Rattle.mx_state.proofs.Walked.{passes, ended, not_refused}
 
 -- the run of an input ends with its value
@@ -47,7 +48,7 @@ inputs_end look (Item at args) h = cc
 
 module _ (look : Key → KeyResult) where
   -- a run that tells the bound form
-  abbrev told : Node → Run
+  abbrev pub told : Node → Run
   told b = Ends (Faults ZeroDivision b 0)
 
   told_once : (b c : Node) (es : List Event) → Leads (model_of look) (told c) es (told b) → b ≡ c
@@ -67,9 +68,9 @@ module _ (look : Key → KeyResult) where
     abbrev pub cells_node : (ns : Namespace) → HasCells ns → Node
     cells_node ns h = Cell ns.at name (bound h.formula.params args)
 
-    record BindsCells (ns : Namespace) (b : Node) : Type 0 where
-      has : HasCells ns
-      is : b ≡ cells_node ns has
+    pub record BindsCells (ns : Namespace) (b : Node) : Type 0 where
+      pub has : HasCells ns
+      pub is : b ≡ cells_node ns has
 
     module _ (ns : Namespace) (b : Node) where
       counted_cells : (f : Formula) (allow : Bool) → look (key.Cells ns.source name) ≡ found.Formula f allow → (wrong : Bool) → is_wrong_count f.params (length args) ≡ wrong
@@ -88,7 +89,7 @@ module _ (look : Key → KeyResult) where
       found_cells (found.Value v) e es l = not_refused look (Faults ZeroDivision b 0) NoSuch es tt (λ h. h) l
       found_cells (found.Table t) e es l = not_refused look (Faults ZeroDivision b 0) NoSuch es tt (λ h. h) l
 
-      tests_cells : (es : List Event) → Leads (model_of look) (Tests (key.Cells ns.source name) (cell_bound ns name args told)) es (told b) → BindsCells ns b
+      pub tests_cells : (es : List Event) → Leads (model_of look) (Tests (key.Cells ns.source name) (cell_bound ns name args told)) es (told b) → BindsCells ns b
       tests_cells [] l = absurd (cc)
       tests_cells (Looked x ∷ es) l = absurd l
       tests_cells (Asked x r ∷ es) l = absurd l
@@ -133,9 +134,9 @@ module _ (look : Key → KeyResult) where
     abbrev pub item_node : (ns : Namespace) → HasItems ns → Node
     item_node ns h = Item ns.at (bound h.params.params args)
 
-    record BindsItem (ns : Namespace) (b : Node) : Type 0 where
-      has : HasItems ns
-      is : b ≡ item_node ns has
+    pub record BindsItem (ns : Namespace) (b : Node) : Type 0 where
+      pub has : HasItems ns
+      pub is : b ≡ item_node ns has
 
     module _ (ns : Namespace) (b : Node) where
       counted_item : (named : ends_with_name ns.at ≡ true) (ps : Params) → look (key.Params ns.source) ≡ found.Params ps → (wrong : Bool) → is_wrong_count ps.params (length args) ≡ wrong
@@ -154,7 +155,7 @@ module _ (look : Key → KeyResult) where
       found_item named (found.Value v) e es l = not_refused look (Faults ZeroDivision b 0) NoSuch es tt (λ h. h) l
       found_item named (found.Table t) e es l = not_refused look (Faults ZeroDivision b 0) NoSuch es tt (λ h. h) l
 
-      tests_item : (c : Bool) → ends_with_name ns.at ≡ c → (es : List Event) → Leads (model_of look) (if c then Tests (key.Params ns.source) (item_bound ns args told) else Ends NoSuch) es (told b) → BindsItem ns b
+      pub tests_item : (c : Bool) → ends_with_name ns.at ≡ c → (es : List Event) → Leads (model_of look) (if c then Tests (key.Params ns.source) (item_bound ns args told) else Ends NoSuch) es (told b) → BindsItem ns b
       tests_item false n es l = not_refused look (Faults ZeroDivision b 0) NoSuch es tt (λ h. h) l
       tests_item true n [] l = absurd (cc)
       tests_item true n (Looked x ∷ es) l = absurd l
@@ -199,6 +200,7 @@ module _ (look : Key → KeyResult) where
   pub record BoundAs (n b : Node) : Type 0 where
     pub space : Namespace
     pub place : IsPlace space.at
+    pub alike : IsAlike look (address_of n) space.at
     pub at : address_of b ≡ space.at
     pub before : List Event
     pub walks : (g : Namespace → Run) → Leads (model_of look) (walked (address_of n) g) before (g space)
@@ -226,42 +228,53 @@ module _ (look : Key → KeyResult) where
 
   -- ---- cells and items that are walked to
 
-  module _ (at : List Segment) (space : Namespace) (place : IsPlace space.at) (before : List Event)
-      (walks : (g : Namespace → Run) → Leads (model_of look) (walked at g) before (g space)) where
-    bound_cells : (name : Label) (args : List Value) (h : HasCells name args space) → BoundAs (Cell at name args) (cells_node name args space h)
-    bound_cells name args h =
+  module _ (at : List Segment) (space : Namespace) (before : List Event) (walks : (g : Namespace → Run) → Leads (model_of look) (walked at g) before (g space)) where
+    -- they bind
+    pub cells_bind_there : (name : Label) (args : List Value) (h : HasCells name args space) (go : Node → Run) → Leads (model_of look) (binding (Cell at name args) go) (before ++ Tested (key.Cells space.source name) ∷ []) (go (cells_node name args space h))
+    cells_bind_there name args h go =
         let k : Key = key.Cells space.source name in
         let b : Node = cells_node name args space h in
-        record {
-          space = space;
-          place = place;
-          at = refl;
-          before = before;
-          walks = walks;
-          key = k;
-          binds = λ go. leads_append (model_of look) _ (Tests k (cell_bound space name args go)) (go b) before (Tested k ∷ []) (walks (λ m. Tests (key.Cells m.source name) (cell_bound m name args go)))
-              (refl, ap (cell_bound space name args go) h.here ∙ ap (λ (wrong : Bool). if wrong then Ends WrongCount else go b) h.count);
-          looks = λ i. let p = cells_begin at name args i in
-              (p.front, cells_found (Cell at name args) space args, leads_append (model_of look) (body (Cell at name args)) (cells_run (Cell at name args) at name args) _ p.front before p.leads (walks (λ m. Looks (key.Cells m.source name) (cells_found (Cell at name args) m args))));
-        }
+        leads_append (model_of look) _ (Tests k (cell_bound space name args go)) (go b) before (Tested k ∷ []) (walks (λ m. Tests (key.Cells m.source name) (cell_bound m name args go)))
+        (refl, ap (cell_bound space name args go) h.here ∙ ap (λ (wrong : Bool). if wrong then Ends WrongCount else go b) h.count)
 
-    bound_item : (args : List Value) (h : HasItems args space) → BoundAs (Item at args) (item_node args space h)
-    bound_item args h =
+    pub item_binds_there : (args : List Value) (h : HasItems args space) (go : Node → Run) → Leads (model_of look) (binding (Item at args) go) (before ++ Tested (key.Params space.source) ∷ []) (go (item_node args space h))
+    item_binds_there args h go =
         let k : Key = key.Params space.source in
-        let n : Node = Item at args in
         let b : Node = item_node args space h in
-        record {
-          space = space;
-          place = place;
-          at = refl;
-          before = before;
-          walks = walks;
-          key = k;
-          binds = λ go. leads_append (model_of look) _ (item_sought space args go) (go b) before (Tested k ∷ []) (walks (λ m. item_sought m args go))
-              (subst (λ (run : Run). Leads (model_of look) run (Tested k ∷ []) (go b)) (sym (ap (λ (c : Bool). if c then Tests k (item_bound space args go) else Ends NoSuch) h.named))
-              (refl, ap (item_bound space args go) h.here ∙ ap (λ (wrong : Bool). if wrong then Ends WrongCount else go b) h.count));
-          looks = λ i. ([], item_found n space args, subst (λ (run : Run). Leads (model_of look) (body n) before run) (ap (λ (c : Bool). if c then Looks k (item_found n space args) else Ends NoSuch) h.named) (walks (item_run n args)));
-        }
+        leads_append (model_of look) _ (item_sought space args go) (go b) before (Tested k ∷ []) (walks (λ m. item_sought m args go))
+        (subst (λ (run : Run). Leads (model_of look) run (Tested k ∷ []) (go b)) (sym (ap (λ (c : Bool). if c then Tests k (item_bound space args go) else Ends NoSuch) h.named))
+        (refl, ap (item_bound space args go) h.here ∙ ap (λ (wrong : Bool). if wrong then Ends WrongCount else go b) h.count))
+
+    module _ (place : IsPlace space.at) (alike : IsAlike look at space.at) where
+      bound_cells : (name : Label) (args : List Value) (h : HasCells name args space) → BoundAs (Cell at name args) (cells_node name args space h)
+      bound_cells name args h = record {
+        space = space;
+        place = place;
+        alike = alike;
+        at = refl;
+        before = before;
+        walks = walks;
+        key = key.Cells space.source name;
+        binds = cells_bind_there name args h;
+        looks = λ i. let p = cells_begin at name args i in
+            (p.front, cells_found (Cell at name args) space args, leads_append (model_of look) (body (Cell at name args)) (cells_run (Cell at name args) at name args) _ p.front before p.leads (walks (λ m. Looks (key.Cells m.source name) (cells_found (Cell at name args) m args))));
+      }
+
+      bound_item : (args : List Value) (h : HasItems args space) → BoundAs (Item at args) (item_node args space h)
+      bound_item args h =
+          let k : Key = key.Params space.source in
+          let n : Node = Item at args in
+          record {
+            space = space;
+            place = place;
+            alike = alike;
+            at = refl;
+            before = before;
+            walks = walks;
+            key = k;
+            binds = item_binds_there args h;
+            looks = λ i. ([], item_found n space args, subst (λ (run : Run). Leads (model_of look) (body n) before run) (ap (λ (c : Bool). if c then Looks k (item_found n space args) else Ends NoSuch) h.named) (walks (item_run n args)));
+          }
 
   -- ---- each node that binds, and each with a value, has these
 
@@ -269,11 +282,11 @@ module _ (look : Key → KeyResult) where
   bound_as (Cell at name args) b t =
       let p = passes look (Faults ZeroDivision b 0) tt at (λ ns. Tests (key.Cells ns.source name) (cell_bound ns name args told)) t.events (t.leads told) in
       let c = tests_cells name args p.space b p.after p.rest in
-      subst (λ m. BoundAs (Cell at name args) m) (sym c.is) (bound_cells at p.space p.place p.before p.leads name args c.has)
+      subst (λ m. BoundAs (Cell at name args) m) (sym c.is) (bound_cells at p.space p.before p.leads p.place p.alike name args c.has)
   bound_as (Item at args) b t =
       let p = passes look (Faults ZeroDivision b 0) tt at (λ ns. item_sought ns args told) t.events (t.leads told) in
       let c = tests_item args p.space b (ends_with_name p.space.at) refl p.after p.rest in
-      subst (λ m. BoundAs (Item at args) m) (sym c.is) (bound_item at p.space p.place p.before p.leads args c.has)
+      subst (λ m. BoundAs (Item at args) m) (sym c.is) (bound_item at p.space p.before p.leads p.place p.alike args c.has)
 
   -- what is left of a whole run
   record Left (run : Run) (r : Reply) : Type 0 where
@@ -298,10 +311,10 @@ module _ (look : Key → KeyResult) where
       let l = left n (cells_run n at name args) r (cells_begin at name args i) m in
       let p = passes look (Gives r) tt at (λ ns. Looks (key.Cells ns.source name) (cells_found n ns args)) l.events l.leads in
       let h = looks_cells name args n p.space r p.after p.rest in
-      record { node = cells_node name args p.space h; is = bound_cells at p.space p.place p.before p.leads name args h }
+      record { node = cells_node name args p.space h; is = bound_cells at p.space p.before p.leads p.place p.alike name args h }
   value_bound (Item at args) r m i =
       let n : Node = Item at args in
       let l = left n (body n) r (record { front = []; leads = refl }) m in
       let p = passes look (Gives r) tt at (item_run n args) l.events l.leads in
       let h = looks_item args n p.space r (ends_with_name p.space.at) refl p.after p.rest in
-      record { node = item_node args p.space h; is = bound_item at p.space p.place p.before p.leads args h }
+      record { node = item_node args p.space h; is = bound_item at p.space p.before p.leads p.place p.alike args h }

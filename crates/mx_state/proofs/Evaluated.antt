@@ -1,5 +1,5 @@
 -- Records that a node reaches are what its evaluation holds.
-use Rattle.std.proofs.Common.{◌≡◌, ℕ, ◌+◌, ◌≤◌, inl, inr, true, false, List, [], ◌∷◌, ◌++◌, length, refl, sym, ◌∙◌, subst, arith, length-append}
+use Rattle.std.proofs.Common.{◌≡◌, ℕ, ◌+◌, ◌≤◌, inl, inr, true, false, List, [], ◌∷◌, ◌++◌, length, Ok, refl, sym, ◌∙◌, subst, arith, length-append}
 use Rattle.std.proofs.lemmas.List.{length-map}
 use Rattle.mx_value.specs.declared.node.Node.{Node}
 use Rattle.mx_edit.specs.Entry.{Entry}
@@ -16,6 +16,7 @@ use Rattle.mx_model.specs.Keys.{key_result}
 use Rattle.mx_state.specs.Model.{model_of}
 use Rattle.mx_state.specs.Laws.{ValueIsAnswered}
 use Rattle.mx_state.proofs.Bound.{inputs_end}
+use Rattle.mx_state.proofs.States.{evaluates_as}
 
 first_reached : (model : Model) (a : Node) (rest : List Node) → AskInTurn model (a ∷ rest) → (x : Node) → Has (a ∷ rest) x → Reaches model a x
 first_reached model a [] t x h = elim h [ inl e ↦ subst (λ y. Reaches model a y) e Itself | inr r ↦ absurd r ]
@@ -77,11 +78,7 @@ module _ (model : Model) (ends : InputsEnd model) (before more : List Entry) (ri
   }
 
 pub value_is_answered : ValueIsAnswered
-value_is_answered s n b r more asked means memo held reached short = record {
-  node = b;
-  asked = asked;
-  answers = (record { reply = r; means = means; value = refl }, completes (model_of s.text) (inputs_end (key_result s.text)) s.held more memo.right b held reached s.limit short);
-  recorded = record { records = memo.records; order = memo.order };
-  text = refl;
-  limit = refl;
-}
+value_is_answered s n b r more asked means memo held reached short =
+    evaluates_as s (record s { held = s.held ++ more }) n b (Ok r.value) (length more) asked
+    (record { reply = r; means = means; value = refl }, completes (model_of s.text) (inputs_end (key_result s.text)) s.held more memo.right b held reached s.limit short)
+    (record { records = memo.records; order = memo.order }) refl refl

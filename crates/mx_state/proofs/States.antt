@@ -19,9 +19,9 @@ use Rattle.mx_runs.proofs.Agreement.{keys_unchanged, key_agreement}
 use Rattle.mx_formulas.specs.Laws.{BindsTo}
 use Rattle.mx_formulas.proofs.Binds.{one_bound_form as one_over, bound_is_bound as own_bound}
 use Rattle.mx_formulas.proofs.Sound.{asked_is_bound, tests_are_covered}
-use Rattle.mx_answers.specs.Held.{nodes_of, Counts}
+use Rattle.mx_answers.specs.Held.{nodes_of, Counts, IsRight}
 use Rattle.mx_answers.specs.Records.{IsRightMemo, HasReads}
-use Rattle.mx_answers.specs.Answers.{IsLimit, Evaluation, Answer, Completes}
+use Rattle.mx_answers.specs.Answers.{IsLimit, IsSettled, Evaluation, Answer, Completes}
 use Rattle.mx_answers.specs.Retention.{Tells}
 use Rattle.mx_answers.proofs.Held.{nodes_cases, named, entry_of}
 use Rattle.mx_answers.proofs.Unique.{one_answer}
@@ -35,7 +35,7 @@ use Rattle.mx_model.specs.Keys.{key_result, is_changed}
 use Rattle.mx_state.specs.Model.{model_of}
 use Rattle.mx_state.specs.Proper.{HasArguments, IsProper, IsPlace}
 use Rattle.mx_state.specs.State.{State, IsHeldAsBound, IsRightState, AreProper}
-use Rattle.mx_state.specs.Evaluations.{IsAsked, AsBound, AsWritten, Evaluates, TellsReads}
+use Rattle.mx_state.specs.Evaluations.{IsAsked, AsBound, AsWritten, HasAsked, KnowsAsked, Evaluates, TellsReads}
 use Rattle.mx_state.specs.Laws as law
 use Rattle.mx_state.proofs.Bound.{inputs_end, bound_as, value_bound}
 use Rattle.mx_state.proofs.Staying.{binds_still}
@@ -75,6 +75,9 @@ bound_is_there text n p =
 
 held_as_bound : (text : ModelRecord) (n : Node) → BindsTo (model_of text) n n → IsHeldAsBound (model_of text) n
 held_as_bound text n b = let s = bound_is_there text n b in record { bound = b; place = s.place; there = s.there }
+
+pub held_is_asked : law.HeldIsAsked
+held_is_asked s n right h = let f = entry_of s.held n h in AsBound (subst (λ x. BindsTo (model_of s.text) x x) f.is (right.bound f.item f.among).bound)
 
 -- ---- states without what is held
 
@@ -145,17 +148,45 @@ new_binds text n b x a w =
       | inr k ↦ asked_is_bound (key_result text) k.by x k.asks
     ]
 
+-- either it is known which node is asked, or what was held is held
+known_or_same : (model : Model) (n : Node) (a : Result Value EvalRefusal) (before after : List Entry) → KnowsAsked model n a before after → HasAsked model n ⊎ (after ≡ before)
+known_or_same model n (Ok v) before after k = inl k
+known_or_same model n (Err (refusal.Fault kind m line)) before after k = inl k
+known_or_same model n (Err (refusal.Ring ring)) before after k = inl k
+known_or_same model n (Err refusal.NoSuch) before after k = inl k
+known_or_same model n (Err refusal.WrongCount) before after k = inl k
+known_or_same model n (Err (refusal.TooDeep m)) before after k = inr k
+known_or_same model n (Err refusal.Full) before after k = inr k
+known_or_same model n (Err refusal.NoMemory) before after k = inr k
+
 module _ (s t : State) (n : Node) (a : Result Value EvalRefusal) (ticks : ℕ) (right : IsRightState s) (ev : Evaluates s n a ticks t) where
-  abbrev evaluation : Evaluation
-  evaluation = record { node = ev.node; held = s.held; limit = s.limit }
+  abbrev evaluation : Node → Evaluation
+  evaluation b = record { node = b; held = s.held; limit = s.limit }
+
+  abbrev known : HasAsked (model_of s.text) n ⊎ (t.held ≡ s.held)
+  known = known_or_same (model_of s.text) n a s.held t.held ev.known
+
+  new_bound : (x : Node) → Has (nodes_of t.held) x → (Has (nodes_of s.held) x → ⊥) → IsHeldAsBound (model_of s.text) x
+  new_bound x h out =
+      elim known [
+        | inl k ↦
+            let new = newly_held (model_of s.text) (evaluation k.node) a t.held ticks (ev.answers k.node k.asked) x h out in
+            held_as_bound s.text x (new_binds s.text n k.node x k.asked new)
+        | inr e ↦ absurd (out (subst (λ es. Has (nodes_of es) x) e h))
+      ]
 
   held_bound : (e : Entry) → Has t.held e → IsHeldAsBound (model_of s.text) e.node
   held_bound e h =
       elim (among_or_not e.node (nodes_of s.held)) [
         | inl i ↦ let f = entry_of s.held e.node i in subst (λ x. IsHeldAsBound (model_of s.text) x) f.is (right.bound f.item f.among)
-        | inr out ↦
-            let new = newly_held (model_of s.text) evaluation a t.held ticks ev.answers e.node (named t.held e h) out in
-            held_as_bound s.text e.node (new_binds s.text n ev.node e.node ev.asked new)
+        | inr out ↦ new_bound e.node (named t.held e h) out
+      ]
+
+  held_right : IsRight (model_of s.text) t.held
+  held_right =
+      elim known [
+        | inl k ↦ stays_right (model_of s.text) (evaluation k.node) a t.held ticks right.memo.right (ev.answers k.node k.asked)
+        | inr e ↦ subst (λ es. IsRight (model_of s.text) es) (sym e) right.memo.right
       ]
 
   abbrev with_text : ModelRecord → Type 0
@@ -164,7 +195,7 @@ module _ (s t : State) (n : Node) (a : Result Value EvalRefusal) (ticks : ℕ) (
   right_after : IsRightState t
   right_after = subst with_text (sym ev.text) (record {
     valid = right.valid;
-    memo = record { right = stays_right (model_of s.text) evaluation a t.held ticks right.memo.right ev.answers; records = ev.recorded.records; order = ev.recorded.order };
+    memo = record { right = held_right; records = ev.recorded.records; order = ev.recorded.order };
     bound = held_bound;
     limit = subst IsLimit (sym ev.limit) right.limit;
   })
@@ -241,28 +272,78 @@ right_after_clearing s t scope right sifted =
 pub keys_decide : law.KeysDecide
 keys_decide before after n r m same = key_agreement (model_of before) (key_result after) n r (tests_are_covered (key_result before)) m same
 
--- the answer of one node
-answer_of : (s t : State) (n b : Node) (a : Result Value EvalRefusal) (ticks : ℕ) (ev : Evaluates s n a ticks t) → ev.node ≡ b → Answer (model_of s.text) (record { node = b; held = s.held; limit = s.limit }) a t.held ticks
-answer_of s t n b a ticks ev e = subst (λ x. Answer (model_of s.text) (record { node = x; held = s.held; limit = s.limit }) a t.held ticks) e ev.answers
+-- a settled answer knows the node that is asked
+settled_asked : (model : Model) (n : Node) (a : Result Value EvalRefusal) (before after : List Entry) → IsSettled a → KnowsAsked model n a before after → HasAsked model n
+settled_asked model n (Ok v) before after settled k = k
+settled_asked model n (Err (refusal.Fault kind m line)) before after settled k = k
+settled_asked model n (Err (refusal.Ring ring)) before after settled k = k
+settled_asked model n (Err refusal.NoSuch) before after settled k = k
+settled_asked model n (Err refusal.WrongCount) before after settled k = k
+settled_asked model n (Err (refusal.TooDeep m)) before after settled k = absurd settled
+settled_asked model n (Err refusal.Full) before after settled k = absurd settled
+settled_asked model n (Err refusal.NoMemory) before after settled k = absurd settled
 
 pub one_answer_of : law.OneAnswer
 one_answer_of s t u n a b ticks runs p q settled other =
-    one_answer (model_of s.text) (record { node = q.node; held = s.held; limit = s.limit }) a b t.held u.held ticks runs
-    (answer_of s t n q.node a ticks p (one_is_asked s.text n p.node q.node p.asked q.asked)) q.answers settled other
+    let k = settled_asked (model_of s.text) n a s.held t.held settled p.known in
+    one_answer (model_of s.text) (record { node = k.node; held = s.held; limit = s.limit }) a b t.held u.held ticks runs (p.answers k.node k.asked) (q.answers k.node k.asked) settled other
 
 pub one_step_of : law.OneStep
 one_step_of s t u n a b ticks runs right p q settled memory =
-    one_step (model_of s.text) (record { node = q.node; held = s.held; limit = s.limit }) s.held a b t.held u.held ticks runs (right_alike (model_of s.text) s.held right.memo.right)
-    (answer_of s t n q.node a ticks p (one_is_asked s.text n p.node q.node p.asked q.asked)) q.answers settled memory
+    let k = settled_asked (model_of s.text) n a s.held t.held settled p.known in
+    one_step (model_of s.text) (record { node = k.node; held = s.held; limit = s.limit }) s.held a b t.held u.held ticks runs (right_alike (model_of s.text) s.held right.memo.right)
+    (p.answers k.node k.asked) (q.answers k.node k.asked) settled memory
 
 pub value_ticks_of : law.ValueTicks
-value_ticks_of s t n v ticks p = value_ticks (model_of s.text) (record { node = p.node; held = s.held; limit = s.limit }) v t.held ticks p.answers
+value_ticks_of s t n v ticks p =
+    value_ticks (model_of s.text) (record { node = p.known.node; held = s.held; limit = s.limit }) v t.held ticks (p.answers p.known.node p.known.asked)
 
-reads_told : (model : Model) (n : Node) (v : Result Value EvalRefusal) (reads : List Read) → TellsReads model n v (Ok reads) → HasReads model n reads
-reads_told model n (Ok v) reads h = h
-reads_told model n (Err why) reads h = absurd h
+-- what an answer of a node tells of it
+known_by : (model : Model) (n b : Node) (held after : List Entry) (limit ticks : ℕ) (a : Result Value EvalRefusal) → IsAsked model n b → Answer model (record { node = b; held = held; limit = limit }) a after ticks → KnowsAsked model n a held after
+known_by model n b held after limit ticks (Ok v) asked p = record { node = b; asked = asked }
+known_by model n b held after limit ticks (Err (refusal.Fault kind m line)) asked p = record { node = b; asked = asked }
+known_by model n b held after limit ticks (Err (refusal.Ring ring)) asked p = record { node = b; asked = asked }
+known_by model n b held after limit ticks (Err refusal.NoSuch) asked p = record { node = b; asked = asked }
+known_by model n b held after limit ticks (Err refusal.WrongCount) asked p = record { node = b; asked = asked }
+known_by model n b held after limit ticks (Err (refusal.TooDeep m)) asked p = p.1
+known_by model n b held after limit ticks (Err refusal.Full) asked p = p.1
+known_by model n b held after limit ticks (Err refusal.NoMemory) asked p = p
+
+pub evaluates_as : law.EvaluatesAs
+evaluates_as s t n b a ticks asked answer recorded text limit = record {
+  known = known_by (model_of s.text) n b s.held t.held s.limit ticks a asked answer;
+  answers = λ c other. subst (λ x. Answer (model_of s.text) (record { node = x; held = s.held; limit = s.limit }) a t.held ticks) (one_is_asked s.text n b c asked other) answer;
+  recorded = recorded;
+  text = text;
+  limit = limit;
+}
+
+-- ---- precedents
+
+pub precedents_as : law.PrecedentsAs
+precedents_as s t n b v a ticks ev asked told = record {
+  value = v;
+  evaluates = ev;
+  tells = λ c other. subst (λ x. TellsReads (model_of s.text) x v a) (one_is_asked s.text n b c asked other) told;
+}
+
+-- it can't be that no node is asked
+not_unasked : (model : Model) (n : Node) → ((b : Node) → IsAsked model n b → ⊥) → ⊥
+not_unasked model n none = none n (AsWritten (λ b p. none b (AsBound p)))
+
+-- the node that is asked has these reads
+record IsReadAs (model : Model) (n : Node) (reads : List Read) : Type 0 where
+  node : Node
+  asked : IsAsked model n node
+  has : HasReads model node reads
+
+reads_told : (model : Model) (n : Node) (v : Result Value EvalRefusal) (before after : List Entry) (reads : List Read) → KnowsAsked model n v before after → ((b : Node) → IsAsked model n b → TellsReads model b v (Ok reads)) → IsReadAs model n reads
+reads_told model n (Ok v) before after reads k tells = record { node = k.node; asked = k.asked; has = tells k.node k.asked }
+reads_told model n (Err why) before after reads k tells = absurd (not_unasked model n tells)
 
 pub one_precedents : law.OnePrecedents
 one_precedents s t u n xs ys ticks runs p q =
-    let e : p.evaluates.node ≡ q.evaluates.node = one_is_asked s.text n p.evaluates.node q.evaluates.node p.evaluates.asked q.evaluates.asked in
-    one_reads (model_of s.text) q.evaluates.node xs ys (subst (λ x. HasReads (model_of s.text) x xs) e (reads_told (model_of s.text) p.evaluates.node p.value xs p.tells)) (reads_told (model_of s.text) q.evaluates.node q.value ys q.tells)
+    let k = reads_told (model_of s.text) n p.value s.held t.held xs p.evaluates.known p.tells in
+    let j = reads_told (model_of s.text) n q.value s.held u.held ys q.evaluates.known q.tells in
+    let e : k.node ≡ j.node = one_is_asked s.text n k.node j.node k.asked j.asked in
+    one_reads (model_of s.text) j.node xs ys (subst (λ x. HasReads (model_of s.text) x xs) e k.has) j.has

@@ -21,18 +21,19 @@ use Rattle.mx_edit.specs.declared.key.KeyResult.{KeyResult}
 use Rattle.mx_edit.specs.declared.key.KeyResult.TheVariants as found
 use Rattle.mx_edit.specs.declared.reply.Reply.{Reply}
 use Rattle.mx_runs.specs.Runs.{Run, Ends, Looks, Tests, Asks, Outcome, Gives, Faults, NoSuch, WrongCount, NoLevel, Event, Looked, Tested, Asked, Noted}
-use Rattle.mx_runs.specs.Inputs.{is_name}
+use Rattle.mx_runs.specs.Inputs.{is_name, is_static}
 use Rattle.mx_runs.specs.Meaning.{Means, Leads}
 use Rattle.mx_runs.proofs.Levels.{ends_only}
 use Rattle.mx_runs.proofs.Runs.{comparable}
 use Rattle.mx_runs.proofs.Meanings.{whole_at}
 use Rattle.mx_formulas.specs.Namespaces.{Step, root, child, ends_with_name, is_allowed, item_at}
-use Rattle.mx_formulas.specs.Walks.{entered, item_entered, stepped, walked_from, walked}
+use Rattle.mx_formulas.specs.Walks.{Onward, entered, item_entered, stepped, walked_from, walked}
 use Rattle.mx_formulas.specs.Nodes.{arguments_of, item_done, item_made, item_found, item_run, body}
 use Rattle.mx_formulas.specs.Laws.{model_of, IsSpaceAt}
 use Rattle.mx_formulas.proofs.Walking.{Reached, Came, root_reached, reached_on, came_on, name_steps, item_steps, bound_on, out_name, out_item}
 use Rattle.mx_formulas.proofs.Items.{item_reply}
 use Rattle.mx_state.specs.Proper.{items_follow, IsPlace}
+use Rattle.mx_state.proofs.Alike.{onward, stepping, IsAlike, IsAlong, along_begins, along_step, along_name, along_item, along_end}
 
 -- ---- addresses that can be there
 
@@ -154,11 +155,13 @@ module _ (look : Key → KeyResult) where
 
   -- ---- passing a walk
 
-  -- The run that begins so passes to a namespace, whatever comes then, and goes on from there to its end.
-  pub record Passes (start : (Namespace → Run) → Run) (go : Namespace → Run) (es : List Event) (o : Outcome) : Type 0 where
+  -- The run that begins so, with the walk of a whole address or on the way through it, passes to a namespace, whatever comes
+  -- then, and goes on from there to its end.
+  pub record Passes (whole : List Segment) (start : (Namespace → Run) → Run) (go : Namespace → Run) (es : List Event) (o : Outcome) : Type 0 where
     pub space : Namespace
     pub came : Came look space
     pub place : IsPlace space.at
+    pub alike : IsAlike look whole space.at
     pub before : List Event
     pub after : List Event
     pub is : es ≡ before ++ after
@@ -184,24 +187,29 @@ module _ (look : Key → KeyResult) where
   has_arrived [] ns a = a
   has_arrived (s ∷ more) ns a = tt
 
-  module _ (o : Outcome) (past : IsPast o) where
+  module _ (o : Outcome) (past : IsPast o) (whole : List Segment) where
+    -- the walk of the whole address goes on so from a namespace
+    abbrev Along : (Onward → Run) → Namespace → Bool → Type 0
+    Along start ns names_left = IsAlong look whole start ns names_left
+
     -- on from a namespace, for each way of going on that has a walk of these segments first
     abbrev GoOn : List Segment → (Namespace → Run) → Type 0
-    GoOn more go = (next : Namespace) → Stage next → IsArrived next → (es : List Event) → Leads (model_of look) (walked_from more next go) es (Ends o) → Passes (walked_from more next) go es o
+    GoOn more go = (next : Namespace) → Stage next → IsArrived next → Along (onward more next) next (is_static more) → (es : List Event) → Leads (model_of look) (walked_from more next go) es (Ends o) → Passes whole (walked_from more next) go es o
 
     module _ (more : List Segment) (go : Namespace → Run) (k : GoOn more go) (ns : Namespace) (stage : Stage ns) (few : nat_le 64 (length ns.at) ≡ false) where
       abbrev on : (Namespace → Run) → Namespace → Run
       on g next = walked_from more next g
 
-      name_passes : (name : Label) (es : List Event) → Leads (model_of look) (walked_from more (child name ns) go) es (Ends o) → Passes (λ g. walked_from more (child name ns) g) go es o
-      name_passes name es l =
+      name_passes : (name : Label) → Along (stepping (Segment-F.Name name) more ns) ns (is_static more) → (es : List Event) → Leads (model_of look) (walked_from more (child name ns) go) es (Ends o) → Passes whole (λ g. walked_from more (child name ns) g) go es o
+      name_passes name a es l =
           let s : Segment = segment.Name name in
           let came : Came look (child name ns) = came_on look ns (child name ns) stage.reached s few [] (name_steps look ns name) refl in
           k (child name ns)
           (record { reached = reached_on look ns (child name ns) stage.reached s few [] (name_steps look ns name) refl; came = λ h. came; way = name_way ns.at name few stage.way })
-          (record { came = came; some = has_more ns.at s }) es l
+          (record { came = came; some = has_more ns.at s })
+          (along_name look whole name more ns few a) es l
 
-      module _ (n : ends_with_name ns.at ≡ true) (args : List Value) where
+      module _ (n : ends_with_name ns.at ≡ true) (args : List Value) (along : Along (stepping (Segment-F.Item args) more ns) ns false) where
         module _ (ps : Params) (e : look (key.Params ns.source) ≡ found.Params ps) (q : is_wrong_count ps.params (length args) ≡ false) where
           abbrev node : Node
           node = Item ns.at (bound ps.params args)
@@ -209,7 +217,7 @@ module _ (look : Key → KeyResult) where
           abbrev asks : (Namespace → Run) → Run
           asks g = Asks node (λ r. entered r.namespace (on g))
 
-          entered_passes : (r : Reply) → Means (model_of look) node (Gives r) → (es : List Event) → Leads (model_of look) (entered r.namespace (on go)) es (Ends o) → Passes (λ g. entered r.namespace (on g)) go es o
+          entered_passes : (r : Reply) → Means (model_of look) node (Gives r) → (es : List Event) → Leads (model_of look) (entered r.namespace (on go)) es (Ends o) → Passes whole (λ g. entered r.namespace (on g)) go es o
           entered_passes r m es l =
               let a : IsSpaceAt (item_at ns (bound ps.params args)) r = item_reply look ns (stage.came n) ps args n e q r m in
               let has : r.namespace ≡ Some a.space = ap (λ (x : Reply). x.namespace) a.is in
@@ -218,30 +226,31 @@ module _ (look : Key → KeyResult) where
               let steps = item_steps look ns a.space ps args n e q r m has in
               let came : Came look a.space = came_on look ns a.space stage.reached s few events steps a.address in
               let way : IsWay a.space.at = subst IsWay (sym a.address) (item_way ns.at (bound ps.params args) n (item_allowed ns (stage.came n) ps args n e q r m) stage.way) in
-              subst (λ (x : Option Namespace). Passes (λ g. entered x (on g)) go es o) (sym has)
+              subst (λ (x : Option Namespace). Passes whole (λ g. entered x (on g)) go es o) (sym has)
               (k a.space
               (record { reached = reached_on look ns a.space stage.reached s few events steps a.address; came = λ h. came; way = way })
-              (record { came = came; some = λ z. has_more ns.at s (sym a.address ∙ z) }) es
+              (record { came = came; some = λ z. has_more ns.at s (sym a.address ∙ z) })
+              (along_item look whole ns a.space ps args n e q r m has a.address more few along) es
               (subst (λ (x : Option Namespace). Leads (model_of look) (entered x (on go)) es (Ends o)) has l))
 
-          asks_passes : (es : List Event) → Leads (model_of look) (asks go) es (Ends o) → Passes asks go es o
+          asks_passes : (es : List Event) → Leads (model_of look) (asks go) es (Ends o) → Passes whole asks go es o
           asks_passes [] l = absurd (cc)
           asks_passes (Looked x ∷ es) l = absurd l
           asks_passes (Tested x ∷ es) l = absurd l
           asks_passes (Noted x ∷ es) l = absurd l
           asks_passes (Asked x r ∷ es) l =
               let p = entered_passes r l.1 es l.2 in
-              record { space = p.space; came = p.came; place = p.place; before = Asked x r ∷ p.before; after = p.after; is = ap (λ fs. Asked x r ∷ fs) p.is; leads = λ g. (l.0, l.1, p.leads g); rest = p.rest }
+              record { space = p.space; came = p.came; place = p.place; alike = p.alike; before = Asked x r ∷ p.before; after = p.after; is = ap (λ fs. Asked x r ∷ fs) p.is; leads = λ g. (l.0, l.1, p.leads g); rest = p.rest }
 
         abbrev asked_for : Params → (Namespace → Run) → Run
         asked_for ps g = Asks (Item ns.at (bound ps.params args)) (λ r. entered r.namespace (on g))
 
         counted_passes : (ps : Params) → look (key.Params ns.source) ≡ found.Params ps → (wrong : Bool) → is_wrong_count ps.params (length args) ≡ wrong
-            → (es : List Event) → Leads (model_of look) (if wrong then Ends WrongCount else asked_for ps go) es (Ends o) → Passes (λ g. if wrong then Ends WrongCount else asked_for ps g) go es o
+            → (es : List Event) → Leads (model_of look) (if wrong then Ends WrongCount else asked_for ps go) es (Ends o) → Passes whole (λ g. if wrong then Ends WrongCount else asked_for ps g) go es o
         counted_passes ps e true q es l = not_refused o WrongCount es past (λ h. h) l
         counted_passes ps e false q es l = asks_passes ps e q es l
 
-        found_passes : (r : KeyResult) → look (key.Params ns.source) ≡ r → (es : List Event) → Leads (model_of look) (item_entered ns args (on go) r) es (Ends o) → Passes (λ g. item_entered ns args (on g) r) go es o
+        found_passes : (r : KeyResult) → look (key.Params ns.source) ≡ r → (es : List Event) → Leads (model_of look) (item_entered ns args (on go) r) es (Ends o) → Passes whole (λ g. item_entered ns args (on g) r) go es o
         found_passes (found.Params ps) e es l = counted_passes ps e (is_wrong_count ps.params (length args)) refl es l
         found_passes found.Missing e es l = not_refused o NoSuch es past (λ h. h) l
         found_passes found.CellsHere e es l = not_refused o NoSuch es past (λ h. h) l
@@ -252,45 +261,48 @@ module _ (look : Key → KeyResult) where
         found_passes (found.Value v) e es l = not_refused o NoSuch es past (λ h. h) l
         found_passes (found.Table t) e es l = not_refused o NoSuch es past (λ h. h) l
 
-        tests_pass : (es : List Event) → Leads (model_of look) (Tests (key.Params ns.source) (item_entered ns args (on go))) es (Ends o) → Passes (λ g. Tests (key.Params ns.source) (item_entered ns args (on g))) go es o
+        tests_pass : (es : List Event) → Leads (model_of look) (Tests (key.Params ns.source) (item_entered ns args (on go))) es (Ends o) → Passes whole (λ g. Tests (key.Params ns.source) (item_entered ns args (on g))) go es o
         tests_pass [] l = absurd (cc)
         tests_pass (Looked x ∷ es) l = absurd l
         tests_pass (Asked x r ∷ es) l = absurd l
         tests_pass (Noted x ∷ es) l = absurd l
         tests_pass (Tested x ∷ es) l =
             let p = found_passes (look (key.Params ns.source)) refl es l.1 in
-            record { space = p.space; came = p.came; place = p.place; before = Tested x ∷ p.before; after = p.after; is = ap (λ fs. Tested x ∷ fs) p.is; leads = λ g. (l.0, p.leads g); rest = p.rest }
+            record { space = p.space; came = p.came; place = p.place; alike = p.alike; before = Tested x ∷ p.before; after = p.after; is = ap (λ fs. Tested x ∷ fs) p.is; leads = λ g. (l.0, p.leads g); rest = p.rest }
 
-      item_passes : (args : List Value) (b : Bool) → ends_with_name ns.at ≡ b → (es : List Event) → Leads (model_of look) (if b then Tests (key.Params ns.source) (item_entered ns args (on go)) else Ends NoSuch) es (Ends o)
-          → Passes (λ g. if b then Tests (key.Params ns.source) (item_entered ns args (on g)) else Ends NoSuch) go es o
-      item_passes args true n es l = tests_pass n args es l
-      item_passes args false n es l = not_refused o NoSuch es past (λ h. h) l
+      item_passes : (args : List Value) → Along (stepping (Segment-F.Item args) more ns) ns false → (b : Bool) → ends_with_name ns.at ≡ b → (es : List Event) → Leads (model_of look) (if b then Tests (key.Params ns.source) (item_entered ns args (on go)) else Ends NoSuch) es (Ends o)
+          → Passes whole (λ g. if b then Tests (key.Params ns.source) (item_entered ns args (on g)) else Ends NoSuch) go es o
+      item_passes args a true n es l = tests_pass n args a es l
+      item_passes args a false n es l = not_refused o NoSuch es past (λ h. h) l
 
-      step_passes : (s : Step) (es : List Event) → Leads (model_of look) (stepped s ns (on go)) es (Ends o) → Passes (λ g. stepped s ns (on g)) go es o
-      step_passes (Segment-F.Name name) es l = name_passes name es l
-      step_passes (Segment-F.Item args) es l = item_passes args (ends_with_name ns.at) refl es l
+      step_passes : (s : Step) → Along (stepping s more ns) ns (is_name s && is_static more) → (es : List Event) → Leads (model_of look) (stepped s ns (on go)) es (Ends o) → Passes whole (λ g. stepped s ns (on g)) go es o
+      step_passes (Segment-F.Name name) a es l = name_passes name a es l
+      step_passes (Segment-F.Item args) a es l = item_passes args a (ends_with_name ns.at) refl es l
 
-    refused_passes : (b : Bool) (start : (Namespace → Run) → Run) (go : Namespace → Run) (es : List Event) → (b ≡ false → Leads (model_of look) (start go) es (Ends o) → Passes start go es o)
-        → Leads (model_of look) (if b then Ends NoSuch else start go) es (Ends o) → Passes (λ g. if b then Ends NoSuch else start g) go es o
+    refused_passes : (b : Bool) (start : (Namespace → Run) → Run) (go : Namespace → Run) (es : List Event) → (b ≡ false → Leads (model_of look) (start go) es (Ends o) → Passes whole start go es o)
+        → Leads (model_of look) (if b then Ends NoSuch else start go) es (Ends o) → Passes whole (λ g. if b then Ends NoSuch else start g) go es o
     refused_passes true start go es k l = not_refused o NoSuch es past (λ h. h) l
     refused_passes false start go es k l = k refl l
 
-    from_passes : (segments : List Segment) (go : Namespace → Run) (ns : Namespace) → Stage ns → HasArrived segments ns → (es : List Event) → Leads (model_of look) (walked_from segments ns go) es (Ends o) → Passes (λ g. walked_from segments ns g) go es o
-    from_passes [] go ns stage a es l = record {
+    from_passes : (segments : List Segment) (go : Namespace → Run) (ns : Namespace) → Stage ns → HasArrived segments ns → Along (onward segments ns) ns (is_static segments) → (es : List Event) → Leads (model_of look) (walked_from segments ns go) es (Ends o) → Passes whole (λ g. walked_from segments ns g) go es o
+    from_passes [] go ns stage a along es l = record {
       space = ns;
       came = a.came;
       place = record { some = a.some; apart = stage.way.apart; short = stage.way.short; small = stage.way.small };
+      alike = along_end look whole ns a.some along;
       before = [];
       after = es;
       is = refl;
       leads = λ g. refl;
       rest = l;
     }
-    from_passes (s ∷ more) go ns stage a es l =
+    from_passes (s ∷ more) go ns stage a along es l =
         refused_passes (nat_le 64 (length ns.at)) (λ g. stepped (out-Segment s) ns (λ next. walked_from more next g)) go es
-        (λ few. step_passes more go (λ next t b fs m. from_passes more go next t (has_arrived more next b) fs m) ns stage few (out-Segment s) es) l
+        (λ few. step_passes more go (λ next t b c fs m. from_passes more go next t (has_arrived more next b) c fs m) ns stage few (out-Segment s) (along_step look whole s more ns few along) es) l
 
-    -- a run that ends as no walk does has passed its walk
-    pub passes : (at : List Segment) (go : Namespace → Run) (es : List Event) → Leads (model_of look) (walked at go) es (Ends o) → Passes (λ g. walked at g) go es o
-    passes [] go es l = not_refused o NoSuch es past (λ h. h) l
-    passes (s ∷ more) go es l = from_passes (s ∷ more) go root (record { reached = root_reached look; came = λ h. absurd (cc); way = root_way }) tt es l
+  -- a run that ends as no walk does has passed its walk
+  pub passes : (o : Outcome) → IsPast o → (at : List Segment) (go : Namespace → Run) (es : List Event) → Leads (model_of look) (walked at go) es (Ends o) → Passes at (λ g. walked at g) go es o
+  passes o past [] go es l = not_refused o NoSuch es past (λ h. h) l
+  passes o past (s ∷ more) go es l =
+      let stage : Stage root = record { reached = root_reached look; came = λ h. absurd (cc); way = root_way } in
+      from_passes o past (s ∷ more) (s ∷ more) go root stage tt (along_begins look s more) es l

@@ -4,6 +4,7 @@ use Rattle.mx_value.specs.declared.node.Node.{Node}
 use Rattle.mx_value.specs.declared.read.Read.{Read}
 use Rattle.mx_value.specs.declared.value.Value.{Value}
 use Rattle.mx_value.specs.declared.refusal.EvalRefusal.{EvalRefusal}
+use Rattle.mx_value.specs.declared.refusal.EvalRefusal.TheVariants as refusal
 use Rattle.mx_edit.specs.Entry.{Entry}
 use Rattle.mx_runs.specs.Lists.{Has}
 use Rattle.mx_runs.specs.Runs.{Model, Run, Event}
@@ -29,12 +30,28 @@ pub record AreRecorded (model : Model) (held : List Entry) : Type 0 where
   pub records : (e : Entry) → Has held e → IsRecordOf model e
   pub order : AskBefore [] held
 
--- An evaluation of n from one state to another, with its answer and the number of formula runs that it began. It changes
--- neither the text nor the limit.
-pub record Evaluates (s : State) (n : Node) (a : Result Value EvalRefusal) (ticks : ℕ) (t : State) : Type 0 where
+-- there is a node that is asked for n
+pub record HasAsked (model : Model) (n : Node) : Type 0 where
   pub node : Node
-  pub asked : IsAsked (model_of s.text) n node
-  pub answers : Answer (model_of s.text) (record { node = node; held = s.held; limit = s.limit }) a t.held ticks
+  pub asked : IsAsked model n node
+
+-- Which node is asked for n is known where the answer is settled. Where the evaluation breaks off before, what was held is
+-- held.
+abbrev pub KnowsAsked : Model → Node → Result Value EvalRefusal → List Entry → List Entry → Type 0
+KnowsAsked model n (Ok v) before after = HasAsked model n
+KnowsAsked model n (Err (refusal.Fault k m line)) before after = HasAsked model n
+KnowsAsked model n (Err (refusal.Ring ring)) before after = HasAsked model n
+KnowsAsked model n (Err refusal.NoSuch) before after = HasAsked model n
+KnowsAsked model n (Err refusal.WrongCount) before after = HasAsked model n
+KnowsAsked model n (Err (refusal.TooDeep m)) before after = after ≡ before
+KnowsAsked model n (Err refusal.Full) before after = after ≡ before
+KnowsAsked model n (Err refusal.NoMemory) before after = after ≡ before
+
+-- An evaluation of n from one state to another, with the answer of the node that is asked and the number of formula runs
+-- that it began. It changes neither the text nor the limit.
+pub record Evaluates (s : State) (n : Node) (a : Result Value EvalRefusal) (ticks : ℕ) (t : State) : Type 0 where
+  pub known : KnowsAsked (model_of s.text) n a s.held t.held
+  pub answers : (b : Node) → IsAsked (model_of s.text) n b → Answer (model_of s.text) (record { node = b; held = s.held; limit = s.limit }) a t.held ticks
   pub recorded : AreRecorded (model_of s.text) t.held
   pub text : t.text ≡ s.text
   pub limit : t.limit ≡ s.limit
@@ -52,7 +69,7 @@ TellsReads model n (Err why) (Err other) = other ≡ why
 pub record HasPrecedents (s : State) (n : Node) (a : Result (List Read) EvalRefusal) (ticks : ℕ) (t : State) : Type 0 where
   pub value : Result Value EvalRefusal
   pub evaluates : Evaluates s n value ticks t
-  pub tells : TellsReads (model_of s.text) evaluates.node value a
+  pub tells : (b : Node) → IsAsked (model_of s.text) n b → TellsReads (model_of s.text) b value a
 
 -- ---- the bound form, by what is held
 

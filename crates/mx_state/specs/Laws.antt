@@ -1,5 +1,9 @@
 -- Laws of states.
-use Rattle.std.specs.Prelude.{◌≡◌, ◌+◌, ◌≤◌, ℕ, false, List, [], ◌++◌, Option, Result, Ok, Err, length}
+use Rattle.std.specs.Prelude.{◌≡◌, ◌↔◌, ◌+◌, ◌≤◌, ℕ, false, List, [], ◌++◌, Option, Some, Result, Ok, Err, length}
+use Rattle.mx_value.specs.declared.label.Label.{Label}
+use Rattle.mx_value.specs.declared.value.Segment.{Segment}
+use Rattle.mx_value.specs.declared.namespace.Namespace.{Namespace}
+use Rattle.mx_value.specs.declared.node.Node.TheVariants.{Cell, Item}
 use Rattle.mx_value.specs.declared.node.Node.{Node}
 use Rattle.mx_value.specs.declared.read.Read.{Read}
 use Rattle.mx_value.specs.declared.value.Value.{Value}
@@ -10,16 +14,18 @@ use Rattle.mx_edit.specs.declared.edit.Edit.{Edit}
 use Rattle.mx_edit.specs.declared.reply.Reply.{Reply}
 use Rattle.mx_edit.specs.declared.scope.Scope.{Scope}
 use Rattle.mx_runs.specs.Lists.{Has}
-use Rattle.mx_runs.specs.Runs.{Gives}
+use Rattle.mx_runs.specs.Runs.{Run, Ends, Asks, Outcome, Gives, Event}
 use Rattle.mx_runs.specs.Inputs.{is_input, InputsEnd}
-use Rattle.mx_runs.specs.Meaning.{Means}
-use Rattle.mx_runs.specs.Chains.{Reaches}
+use Rattle.mx_runs.specs.Meaning.{Means, Leads}
+use Rattle.mx_runs.specs.Chains.{Reaches, HasValue}
 use Rattle.mx_runs.specs.Support.{HasSameKeys, TestsAreCovered}
 use Rattle.mx_runs.specs.Laws.{Agrees}
+use Rattle.mx_formulas.specs.Namespaces.{names_of}
+use Rattle.mx_formulas.specs.Binding.{binding}
 use Rattle.mx_formulas.specs.Laws.{BindsTo}
 use Rattle.mx_answers.specs.Held.{nodes_of}
 use Rattle.mx_answers.specs.Records.{IsRightMemo}
-use Rattle.mx_answers.specs.Answers.{IsLimit, IsSettled}
+use Rattle.mx_answers.specs.Answers.{IsLimit, IsSettled, Answer}
 use Rattle.mx_answers.specs.Laws.{EndAlike}
 use Rattle.mx_model.specs.Apply.{Apply}
 use Rattle.mx_model.specs.Records.{ModelRecord}
@@ -28,7 +34,8 @@ use Rattle.mx_model.specs.Valid.{Valid}
 use Rattle.mx_state.specs.Model.{model_of}
 use Rattle.mx_state.specs.Proper.{HasArguments, IsPlace, IsThere, address_of}
 use Rattle.mx_state.specs.State.{State, IsRightState, AreProper}
-use Rattle.mx_state.specs.Evaluations.{IsAsked, Evaluates, HasPrecedents, HasBoundForm}
+use Rattle.mx_state.specs.Evaluations.{IsAsked, AreRecorded, Evaluates, TellsReads, HasPrecedents, HasBoundForm}
+use Rattle.mx_state.specs.Walks.{ComesTo, WalksAlike, BindsBehind, BindsCells, BindsItem}
 use Rattle.mx_state.specs.Changes.{Edits, IsSifted, Clearing, IsSiftedByScope}
 
 -- ---- what is owed of the runs over a text
@@ -73,6 +80,51 @@ pub record HasItsSpace (text : ModelRecord) (n : Node) : Type 0 where
 
 abbrev pub BoundIsThere : Type 0
 BoundIsThere = (text : ModelRecord) (n : Node) → BindsTo (model_of text) n n → HasItsSpace text n
+
+-- a node that is held in a right state is asked itself
+abbrev pub HeldIsAsked : Type 0
+HeldIsAsked = (s : State) (n : Node) → IsRightState s → Has (nodes_of s.held) n → IsAsked (model_of s.text) n n
+
+-- ---- walks and bindings
+
+-- the binding of a node begins with the walk of its address
+abbrev pub EachBindsBehind : Type 0
+EachBindsBehind = (n : Node) → BindsBehind n
+
+-- the walk of an address that has no item and can be there comes to the path of its names, by no event
+abbrev pub StaticComes : Type 0
+StaticComes =
+    (text : ModelRecord) (at : List Segment) (names : List Label) → names_of at ≡ Some names → (at ≡ [] → ⊥) → length at ≤ 64
+    → ComesTo (model_of text) at [] (record { at = at; source = names; overlay = [] })
+
+-- behind the walk, a node of cells binds where the space has them, and nowhere else
+abbrev pub CellsBind : Type 0
+CellsBind =
+    (text : ModelRecord) (at : List Segment) (name : Label) (args : List Value) (es : List Event) (ns : Namespace)
+    → ComesTo (model_of text) at es ns → (b : Node) → BindsTo (model_of text) (Cell at name args) b ↔ BindsCells (model_of text) ns name args b
+
+-- and an item node where the space has such items
+abbrev pub ItemBinds : Type 0
+ItemBinds =
+    (text : ModelRecord) (at : List Segment) (args : List Value) (es : List Event) (ns : Namespace)
+    → ComesTo (model_of text) at es ns → (b : Node) → BindsTo (model_of text) (Item at args) b ↔ BindsItem (model_of text) ns args b
+
+-- a node has no bound form where its binding comes to ask a node that has no value
+abbrev pub LostBindsNone : Type 0
+LostBindsNone =
+    (text : ModelRecord) (n i : Node) (es : List Event) (to : (Node → Run) → Reply → Run)
+    → ((go : Node → Run) → Leads (model_of text) (binding n go) es (Asks i (to go)))
+    → (HasValue (model_of text) i → ⊥) → (b : Node) → BindsTo (model_of text) n b → ⊥
+
+-- nor where it ends
+abbrev pub EndBindsNone : Type 0
+EndBindsNone =
+    (text : ModelRecord) (n : Node) (es : List Event) (o : Outcome)
+    → ((go : Node → Run) → Leads (model_of text) (binding n go) es (Ends o)) → (b : Node) → BindsTo (model_of text) n b → ⊥
+
+-- a node and its bound form walk alike
+abbrev pub BoundWalksAlike : Type 0
+BoundWalksAlike = (text : ModelRecord) (n b : Node) → BindsTo (model_of text) n b → WalksAlike (model_of text) (address_of n) (address_of b)
 
 -- ---- right states
 
@@ -130,6 +182,13 @@ OneStep = (s t u : State) (n : Node) (a b : Result Value EvalRefusal) (ticks run
 abbrev pub ValueIsAnswered : Type 0
 ValueIsAnswered = (s : State) (n b : Node) (r : Reply) (more : List Entry) → IsAsked (model_of s.text) n b → Means (model_of s.text) b (Gives r) → IsRightMemo (model_of s.text) (s.held ++ more) → Has (nodes_of (s.held ++ more)) b → ((x : Node) → Has (nodes_of more) x → Reaches (model_of s.text) b x) → length more ≤ s.limit → Evaluates s n (Ok r.value) (length more) (record s { held = s.held ++ more })
 
+-- an answer of the node that is asked makes an evaluation
+abbrev pub EvaluatesAs : Type 0
+EvaluatesAs =
+    (s t : State) (n b : Node) (a : Result Value EvalRefusal) (ticks : ℕ) → IsAsked (model_of s.text) n b
+    → Answer (model_of s.text) (record { node = b; held = s.held; limit = s.limit }) a t.held ticks
+    → AreRecorded (model_of s.text) t.held → t.text ≡ s.text → t.limit ≡ s.limit → Evaluates s n a ticks t
+
 -- an evaluation that answers a value began the runs of the nodes that it newly holds, and no others
 abbrev pub ValueTicks : Type 0
 ValueTicks = (s t : State) (n : Node) (v : Value) (ticks : ℕ) → Evaluates s n (Ok v) ticks t → ticks + length s.held ≡ length t.held
@@ -137,3 +196,9 @@ ValueTicks = (s t : State) (n : Node) (v : Value) (ticks : ℕ) → Evaluates s 
 -- the precedents of a node in a state are one
 abbrev pub OnePrecedents : Type 0
 OnePrecedents = (s t u : State) (n : Node) (xs ys : List Read) (ticks runs : ℕ) → HasPrecedents s n (Ok xs) ticks t → HasPrecedents s n (Ok ys) runs u → xs ≡ ys
+
+-- an evaluation, with the reads of the node that is asked, makes precedents
+abbrev pub PrecedentsAs : Type 0
+PrecedentsAs =
+    (s t : State) (n b : Node) (v : Result Value EvalRefusal) (a : Result (List Read) EvalRefusal) (ticks : ℕ)
+    → Evaluates s n v ticks t → IsAsked (model_of s.text) n b → TellsReads (model_of s.text) b v a → HasPrecedents s n a ticks t

@@ -33,7 +33,7 @@ use Rattle.mx_answers.proofs.Sifting.{records_right}
 use Rattle.mx_state.specs.Model.{model_of as state_model}
 use Rattle.mx_state.specs.State.{State}
 use Rattle.mx_state.specs.Evaluations.{IsAsked, Evaluates, HasPrecedents}
-use Rattle.mx_state.proofs.States.{one_is_asked}
+use Rattle.mx_state.proofs.States.{precedents_as}
 
 -- ---- each once, told by tags
 
@@ -178,8 +178,4 @@ self_bound {look = look} {ns = ns} {es = es} {f = f} name vs w e count binds = r
 
 -- an evaluation with a value tells the reads of the node that is asked
 pub reads_told : (s t : State) (n b : Node) (v : Value) (ticks : ℕ) (reads : List Read) → Evaluates s n (Ok v) ticks t → IsAsked (state_model s.text) n b → HasReads (state_model s.text) b reads → HasPrecedents s n (Ok reads) ticks t
-reads_told s t n b v ticks reads ev asked h = record {
-  value = Ok v;
-  evaluates = ev;
-  tells = subst (λ x. HasReads (state_model s.text) x reads) (one_is_asked s.text n b ev.node asked ev.asked) h;
-}
+reads_told s t n b v ticks reads ev asked h = precedents_as s t n b (Ok v) (Ok reads) ticks ev asked h

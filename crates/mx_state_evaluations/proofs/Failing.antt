@@ -1,9 +1,10 @@
 -- Evaluations that answer a fault or a ring.
-use Rattle.std.proofs.Common.{◌≡◌, ℕ, Bool, false, ◌&&◌, inl, inr, List, [], ◌∷◌, refl, sym, ap, subst, arith, pos, codes}
+use Rattle.std.proofs.Common.{◌≡◌, Err, ℕ, Bool, false, ◌&&◌, inl, inr, List, [], ◌∷◌, refl, sym, ap, subst, arith, pos, codes}
 use Rattle.mx_c3.specs.Merge.{merge}
 use Rattle.mx_c3.specs.Linearisation.{c3}
 use Rattle.mx_value.specs.declared.node.Node.{Node}
 use Rattle.mx_value.specs.declared.fault.FaultKind.TheVariants.{NoName}
+use Rattle.mx_value.specs.declared.refusal.EvalRefusal.TheVariants.{Fault, Ring}
 use Rattle.mx_edit.specs.Entry.{Entry}
 use Rattle.mx_edit.specs.declared.key.Key.TheVariants as key
 use Rattle.mx_runs.specs.Lists.{Has}
@@ -32,7 +33,7 @@ use Rattle.mx_state_rows.proofs.Rounds.{round_lost}
 use Rattle.mx_state_evaluations.specs.Rings.{mended_events}
 use Rattle.mx_state_evaluations.specs.Evaluations.{holding, literal_entry, f_cell, g_cell, f_entry, FaultIsEvaluated, RingIsEvaluated, MendedIsEvaluated}
 use Rattle.mx_state_evaluations.proofs.Entries.{asks_nothing, asks_one, keys_last, asks_last, right_memo, self_bound}
-use Rattle.mx_state_evaluations.proofs.Lost.{completes_lost, only_ask}
+use Rattle.mx_state_evaluations.proofs.Lost.{completes_lost, only_ask, nothing_held}
 
 pub none_right : (model : Model) → IsRight model []
 none_right model = record { means = λ e h. absurd h; own = λ n h. absurd h; once = tt; closed = λ n m h a. absurd h; room = omega arith }
@@ -59,19 +60,14 @@ unfolding c3 merge
 fault_bound = self_bound (codes "v") [] (below (codes "B") (top (codes "A")) refl) refl refl refl
 
 pub fault_is_evaluated : FaultIsEvaluated
-fault_is_evaluated = record {
-  node = row.nested_v;
-  asked = AsBound fault_bound;
-  answers = (
-    fault_means,
-    completes_lost (model_of nested) [] [] (none_right (model_of nested)) row.nested_v (row.nested_v ∷ []) ((λ h. h), tt) (λ x h. absurd h)
-        (λ x h. elim h [ inl e ↦ subst (λ y. Reaches (model_of nested) row.nested_v y × (HasValue (model_of nested) y → ⊥)) e (Itself, failure_no_value (model_of nested) row.nested_v fault tt fault_means) | inr z ↦ absurd z ])
-        (λ x r. inr (inl (fault_alone x r))) 5000 (omega arith),
-  );
-  recorded = record { records = λ e h. absurd h; order = tt };
-  text = refl;
-  limit = refl;
-}
+fault_is_evaluated =
+    nothing_held nested row.nested_v row.nested_v (Err (Fault NoName row.nested_v 1)) 1 (AsBound fault_bound)
+    (
+      fault_means,
+      completes_lost (model_of nested) [] [] (none_right (model_of nested)) row.nested_v (row.nested_v ∷ []) ((λ h. h), tt) (λ x h. absurd h)
+          (λ x h. elim h [ inl e ↦ subst (λ y. Reaches (model_of nested) row.nested_v y × (HasValue (model_of nested) y → ⊥)) e (Itself, failure_no_value (model_of nested) row.nested_v fault tt fault_means) | inr z ↦ absurd z ])
+          (λ x r. inr (inl (fault_alone x r))) 5000 (omega arith),
+    )
 
 -- ---- a ring
 
@@ -104,20 +100,15 @@ unfolding c3 merge
 ring_bound = self_bound (codes "f") (row.whole 1 ∷ []) (top (codes "Main")) refl refl (one_bound (codes "n") (pos 1))
 
 pub ring_is_evaluated : RingIsEvaluated
-ring_is_evaluated = record {
-  node = f_cell;
-  asked = AsBound ring_bound;
-  answers = (
-    cells_ask_each_other.0,
-    cells_ask_each_other.1,
-    completes_lost (model_of asking_round) [] [] (none_right (model_of asking_round)) f_cell round round_distinct (λ x h. absurd h)
-        (λ x h. (reached x h, λ v. lost x h _ v.means))
-        (λ x r. inr (reach_within (model_of asking_round) (λ y. Has round y) in_round f_cell x (inl refl) r)) 5000 (omega arith),
-  );
-  recorded = record { records = λ e h. absurd h; order = tt };
-  text = refl;
-  limit = refl;
-}
+ring_is_evaluated =
+    nothing_held asking_round f_cell f_cell (Err (Ring round)) 2 (AsBound ring_bound)
+    (
+      cells_ask_each_other.0,
+      cells_ask_each_other.1,
+      completes_lost (model_of asking_round) [] [] (none_right (model_of asking_round)) f_cell round round_distinct (λ x h. absurd h)
+          (λ x h. (reached x h, λ v. lost x h _ v.means))
+          (λ x r. inr (reach_within (model_of asking_round) (λ y. Has round y) in_round f_cell x (inl refl) r)) 5000 (omega arith),
+    )
 
 -- ---- the ring is mended
 

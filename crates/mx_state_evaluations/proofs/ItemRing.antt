@@ -1,10 +1,11 @@
 -- The ring of an item that asks itself, evaluated.
-use Rattle.std.proofs.Common.{inl, inr, [], ◌∷◌, refl, sym, subst, arith, pos, codes}
+use Rattle.std.proofs.Common.{Err, inl, inr, [], ◌∷◌, refl, sym, subst, arith, pos, codes}
 use Rattle.mx_c3.specs.Merge.{merge}
 use Rattle.mx_c3.specs.Linearisation.{c3}
 use Rattle.mx_value.specs.declared.namespace.Namespace.{Namespace}
 use Rattle.mx_value.specs.declared.node.Node.{Node}
 use Rattle.mx_value.specs.declared.fault.FaultKind.TheVariants.{ZeroDivision}
+use Rattle.mx_value.specs.declared.refusal.EvalRefusal.TheVariants.{Ring}
 use Rattle.mx_edit.specs.declared.key.Key.TheVariants as key
 use Rattle.mx_runs.specs.Lists.{Has}
 use Rattle.mx_runs.specs.Runs.{Run, Ends, Tests, Asks, Faults, Tested}
@@ -21,13 +22,14 @@ use Rattle.mx_formula_rows.proofs.Worked.{ends, one_bound}
 use Rattle.mx_model.specs.Keys.{key_result}
 use Rattle.mx_state.specs.Model.{model_of}
 use Rattle.mx_state.specs.Evaluations.{AsWritten}
+use Rattle.mx_state.proofs.Binding.{lost_binds_none}
 use Rattle.mx_state_rows.specs.Texts.{space_s, asking_itself}
 use Rattle.mx_state_rows.specs.Rows as row
 use Rattle.mx_state_rows.proofs.Halting.{walk_asks}
 use Rattle.mx_state_evaluations.proofs.Circles.{chain, chain_distinct, cells_ask, item_asks, cells_first, item_first, item_asks_itself}
 use Rattle.mx_state_rows.proofs.Rounds.{round_lost}
 use Rattle.mx_state_evaluations.specs.Evaluations.{itself_cell, ItemRingIsEvaluated}
-use Rattle.mx_state_evaluations.proofs.Lost.{completes_lost, only_ask, asked_value}
+use Rattle.mx_state_evaluations.proofs.Lost.{completes_lost, only_ask, nothing_held}
 use Rattle.mx_state_evaluations.proofs.Failing.{none_right}
 
 abbrev its_item : Node
@@ -55,34 +57,24 @@ reached x h =
     ]
 
 -- its binding waits for the item too
-abbrev told : Node → Run
-told b = Ends (Faults ZeroDivision b 0)
+abbrev on : (Node → Run) → Namespace → Run
+on go ns = Tests (key.Cells ns.source (codes "c")) (cell_bound ns (codes "c") [] go)
 
-abbrev on : Namespace → Run
-on ns = Tests (key.Cells ns.source (codes "c")) (cell_bound ns (codes "c") [] told)
-
-waits : Leads (model_of asking_itself) (binding itself_cell told) (Tested (key.Params space_s) ∷ []) (Asks its_item (λ r. entered r.namespace on))
+waits : (go : Node → Run) → Leads (model_of asking_itself) (binding itself_cell go) (Tested (key.Params space_s) ∷ []) (Asks its_item (λ r. entered r.namespace (on go)))
 unfolding c3 merge
-waits = walk_asks (key_result asking_itself) (child (codes "S") root) _ (row.whole 1 ∷ []) (row.whole 1 ∷ []) [] (top (codes "S")) refl (ends (codes "S")) refl on refl (one_bound (codes "x") (pos 1))
+waits go = walk_asks (key_result asking_itself) (child (codes "S") root) _ (row.whole 1 ∷ []) (row.whole 1 ∷ []) [] (top (codes "S")) refl (ends (codes "S")) refl (on go) refl (one_bound (codes "x") (pos 1))
 
 unbound : (b : Node) → BindsTo (model_of asking_itself) itself_cell b → ⊥
-unbound b t =
-    let h : Has (asks_of t.events) its_item = asked_by_end (model_of asking_itself) (binding itself_cell told) its_item (λ r. entered r.namespace on) (Faults ZeroDivision b 0) (Tested (key.Params space_s) ∷ []) t.events waits (t.leads told) in
-    let v = asked_value (model_of asking_itself) (binding itself_cell told) (told b) t.events its_item (t.leads told) h in
-    lost its_item (inr (inl refl)) _ v.means
+unbound =
+    lost_binds_none asking_itself itself_cell its_item (Tested (key.Params space_s) ∷ []) (λ go r. entered r.namespace (on go)) waits (λ v. lost its_item (inr (inl refl)) _ v.means)
 
 pub item_ring_is_evaluated : ItemRingIsEvaluated
-item_ring_is_evaluated = record {
-  node = itself_cell;
-  asked = AsWritten unbound;
-  answers = (
-    item_asks_itself.0,
-    item_asks_itself.1,
-    completes_lost (model_of asking_itself) [] [] (none_right (model_of asking_itself)) itself_cell chain chain_distinct (λ x h. absurd h)
-        (λ x h. (reached x h, λ v. lost x h _ v.means))
-        (λ x r. inr (reach_within (model_of asking_itself) (λ y. Has chain y) in_chain itself_cell x (inl refl) r)) 5000 (omega arith),
-  );
-  recorded = record { records = λ e h. absurd h; order = tt };
-  text = refl;
-  limit = refl;
-}
+item_ring_is_evaluated =
+    nothing_held asking_itself itself_cell itself_cell (Err (Ring (its_item ∷ []))) 2 (AsWritten unbound)
+    (
+      item_asks_itself.0,
+      item_asks_itself.1,
+      completes_lost (model_of asking_itself) [] [] (none_right (model_of asking_itself)) itself_cell chain chain_distinct (λ x h. absurd h)
+          (λ x h. (reached x h, λ v. lost x h _ v.means))
+          (λ x r. inr (reach_within (model_of asking_itself) (λ y. Has chain y) in_chain itself_cell x (inl refl) r)) 5000 (omega arith),
+    )

@@ -1,7 +1,9 @@
 -- An evaluation that comes to no value.
-use Rattle.std.proofs.Common.{◌≡◌, ℕ, ◌+◌, ◌≤◌, ◌⊎◌, inl, inr, List, [], ◌∷◌, ◌++◌, length, refl, sym, ◌∙◌, subst, arith, length-append}
+use Rattle.std.proofs.Common.{◌≡◌, ℕ, ◌+◌, ◌≤◌, ◌⊎◌, inl, inr, Result, List, [], ◌∷◌, ◌++◌, length, refl, sym, ◌∙◌, subst, arith, length-append}
 use Rattle.std.proofs.lemmas.List.{length-map}
 use Rattle.mx_value.specs.declared.node.Node.{Node}
+use Rattle.mx_value.specs.declared.value.Value.{Value}
+use Rattle.mx_value.specs.declared.refusal.EvalRefusal.{EvalRefusal}
 use Rattle.mx_edit.specs.Entry.{Entry}
 use Rattle.mx_runs.specs.Lists.{Has, Distinct}
 use Rattle.mx_runs.specs.Runs.{Model, Run, Looks, Tests, Asks, Notes, Gives, Event, Looked, Tested, Asked, Noted}
@@ -11,9 +13,14 @@ use Rattle.mx_runs.proofs.Lists.{no_more, has_left, has_right}
 use Rattle.mx_runs.proofs.Events.{asked_has_value}
 use Rattle.mx_runs.proofs.Runs.{AskCase, Before, Now, After, ask_case}
 use Rattle.mx_answers.specs.Held.{most_held, nodes_of, IsRight, Counts}
-use Rattle.mx_answers.specs.Answers.{DeepChain, Completes}
+use Rattle.mx_answers.specs.Answers.{DeepChain, Completes, Answer}
 use Rattle.mx_answers.proofs.Held.{nodes_grow, nodes_cases, held_value, holds_more}
+use Rattle.mx_model.specs.Records.{ModelRecord}
+use Rattle.mx_state.specs.Model.{model_of}
+use Rattle.mx_state.specs.Evaluations.{IsAsked, Evaluates}
+use Rattle.mx_state.proofs.States.{evaluates_as}
 use Rattle.mx_state.proofs.Evaluated.{chain_reached}
+use Rattle.mx_state_evaluations.specs.Evaluations.{holding}
 
 -- where n reaches what is held and so many nodes without a value
 module _ (model : Model) (before more : List Entry) (right : IsRight model (before ++ more)) (n : Node) (lost : List Node) (distinct : Distinct lost)
@@ -70,15 +77,6 @@ only_ask model n m k a none lost b = by (ask_case model (model.body n) m k a.go 
     by (Now e f) = f
     by (After h v) = absurd (subst (λ ns. Has ns k) none h)
 
--- a node that a run asked has a value
-pub asked_value : (model : Model) (run rest : Run) (es : List Event) (m : Node) → Leads model run es rest → Has (asks_of es) m → HasValue model m
-asked_value model run rest [] m l h = absurd h
-asked_value model (Looks key go) rest (Looked x ∷ es) m l h = asked_value model (go (model.look key)) rest es m l.1 h
-asked_value model (Tests key go) rest (Tested x ∷ es) m l h = asked_value model (go (model.look key)) rest es m l.1 h
-asked_value model (Notes read run) rest (Noted x ∷ es) m l h = asked_value model run rest es m l.1 h
-asked_value model (Asks n go) rest (Asked x v ∷ es) m l h =
-    elim h [
-      | inl e ↦ record { reply = v; means = subst (λ y. Means model y (Gives v)) (sym l.0 ∙ e) l.1 }
-      | inr r ↦ asked_value model (go v) rest es m l.2 r
-    ]
-asked_value model run rest (e ∷ es) m l h = absurd l
+-- an answer of the node that is asked, where nothing is held before it or after
+pub nothing_held : (text : ModelRecord) (n b : Node) (a : Result Value EvalRefusal) (ticks : ℕ) → IsAsked (model_of text) n b → Answer (model_of text) (record { node = b; held = []; limit = 5000 }) a [] ticks → Evaluates (holding text []) n a ticks (holding text [])
+nothing_held text n b a ticks asked answer = evaluates_as (holding text []) (holding text []) n b a ticks asked answer (record { records = λ e h. absurd h; order = tt }) refl refl

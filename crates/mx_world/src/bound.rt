@@ -1,5 +1,5 @@
 //! What a name is bound to, lent.
-use mx_code::compiled::Compiled;
+use mx_instructions::compiled::Compiled;
 use mx_edit::reference::RefValue;
 use mx_value::node::Path;
 

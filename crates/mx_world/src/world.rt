@@ -20,7 +20,7 @@ ghost use Rattle.mx_edit.specs.declared.key.KeyResult.TheVariants as found;
 use crate::bound::{Bound, BoundCells, BoundReference};
 use mx_c3::lists::Order;
 use mx_c3::space::SpaceId;
-use mx_code::compiled::CompiledParams;
+use mx_instructions::compiled::CompiledParams;
 use mx_edit::reference::RefValue;
 use mx_edit::table::Table;
 use mx_list::shared::Shared;
