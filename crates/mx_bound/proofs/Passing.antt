@@ -1,7 +1,7 @@
 -- How a walk goes on past held items, and what is recorded then.
 use Rattle.std.proofs.Common.{◌≡◌, false, List, [], ◌∷◌, ◌++◌, map, Option, refl, sym, ◌∙◌, ap, subst}
 use Rattle.std.specs.Prelude.{if◌then◌else◌}
-use Rattle.std.proofs.lemmas.List.{append-nil}
+use Rattle.std.proofs.lemmas.List.{append-nil, append_assoc}
 use Rattle.mx_graph.specs.declared.ids.NodeId.{NodeId}
 use Rattle.mx_value.specs.declared.value.Segment.{Segment}
 use Rattle.mx_value.specs.declared.namespace.Namespace.{Namespace}
@@ -33,7 +33,8 @@ use Rattle.mx_entries.specs.Entries.{entries_of, nodes_under, IsOrdered}
 use Rattle.mx_entries.proofs.Nodes.{body_is_entered, body_is_of_node, one_under_id}
 use Rattle.mx_bound.specs.Records.{recorded_in, with_ask}
 use Rattle.mx_bound.specs.declared.records.Records.{Records}
-use Rattle.mx_bound.specs.Walking.{Address, IsAnswered, AreAnswered, WalksTo, Stands, GoesOn}
+use Rattle.mx_bound.specs.declared.walking.Led.{Led}
+use Rattle.mx_bound.specs.Walking.{Address, IsAnswered, AreAnswered, WalksTo, Stands, StandsOn, WaitsForNew, IsLedOn, LeadsOn, led_as, GoesOn}
 use Rattle.mx_bound.proofs.Recording.{added_adds, ask_adds, ask_held}
 use Rattle.mx_bound.proofs.Testing.{AreTests, no_keys, no_asks, no_reads, none_asked, begun_comes, resumed_comes}
 
@@ -126,15 +127,46 @@ stands_first model held at records s a =
       asks = subst (λ (ids : List NodeId). AreHeld held ids) (sym a) (λ id h. absurd h);
     }
 
--- where it stands behind an answer
-pub stands_behind : (model : Model) (held : List Kept) (at : Address) (rest : List Segment) (came : Option Namespace) (records : Records) → IsRight model (entries_of held) → GoesOn model held at rest came records → Stands model held at (resumed_way model.look rest came) records
-stands_behind model held at rest came records right g = record {
-  walk = subst (λ (x : Option Namespace). WalksTo model (entries_of held) at (resumed_way model.look rest x) (recorded_in held records)) (sym g.came_is)
-      (goes_past model (entries_of held) at g.item rest g.reply right g.answered g.before (recorded_in held records)
-      (still_walks g.earlier (entries_of held) g.still model at (AsksAt g.item rest) g.before g.waited)
-      g.keys g.asks g.reads);
-  asks = g.held_asks;
-}
+-- where it stands behind an answer, by the events of the walk that waited and the ask
+pub stands_behind : (model : Model) (held : List Kept) (at : Address) (rest : List Segment) (came : Option Namespace) (records : Records) → IsRight model (entries_of held) → (g : GoesOn model held at rest came records) → StandsOn model held at (g.waited.events ++ Asked g.item g.reply ∷ []) (resumed_way model.look rest came) records
+unfolding goes_past still_walks
+stands_behind model held at rest came records right g =
+    subst (λ (x : Option Namespace). StandsOn model held at (g.waited.events ++ Asked g.item g.reply ∷ []) (resumed_way model.look rest x) records) (sym g.came_is)
+    (record {
+      stands = record {
+        walk = goes_past model (entries_of held) at g.item rest g.reply right g.answered g.before (recorded_in held records)
+            (still_walks g.earlier (entries_of held) g.still model at (AsksAt g.item rest) g.before g.waited)
+            g.keys g.asks g.reads;
+        asks = g.held_asks;
+      };
+      more = behind;
+      is = sym (append_assoc g.waited.events (Asked g.item g.reply ∷ []) behind);
+    })
+  where
+    behind : List Event
+    behind = (resumed_comes model rest g.reply.namespace).events
+
+-- ---- by events that are further ones of a walk
+
+-- a walk that waits for no held item has come to where it leads
+pub led_there : (model : Model) (held : List Kept) (to : Led) (records : Records) → WaitsForNew held to → LeadsOn model held (led_as to) records to records
+led_there model held to records new at s = record { led = record { stands = s; waits = new }; more = []; is = sym (append-nil s.walk.events) }
+
+module _ (model : Model) (held : List Kept) (at : Address) (es : List Event) where
+  -- a walk stands where it stands
+  pub stands_still : (to : Leading) (records : Records) (s : Stands model held at to records) → StandsOn model held at s.walk.events to records
+  stands_still to records s = record { stands = s; more = []; is = sym (append-nil s.walk.events) }
+
+  module _ (from : Leading) (olds news : Records) (s : StandsOn model held at es from olds) where
+    -- what stands further on behind a walk does so behind its first events
+    joined : (whole more : List Event) → whole ≡ s.stands.walk.events ++ more → whole ≡ es ++ (s.more ++ more)
+    joined whole more e = e ∙ ap (λ (fs : List Event). fs ++ more) s.is ∙ append_assoc es s.more more
+
+    pub stands_on : (to : Leading) → StandsOn model held at s.stands.walk.events to news → StandsOn model held at es to news
+    stands_on to n = record { stands = n.stands; more = s.more ++ n.more; is = joined n.stands.walk.events n.more n.is }
+
+    pub led_on : (to : Led) → IsLedOn model held at s.stands.walk.events to news → IsLedOn model held at es to news
+    led_on to n = record { led = n.led; more = s.more ++ n.more; is = joined n.led.stands.walk.events n.more n.is }
 
 module _ (model : Model) (m : Memory) (right : IsRightMemo model (entries_of m.held)) (ordered : IsOrdered m) (item : Node) (id : NodeId) (body : Body) (of : IsHeldAs m.held id.at item) (with : IsHeldWith m.held id.at body) where
   -- a held item is answered
@@ -165,9 +197,14 @@ module _ (model : Model) (m : Memory) (right : IsRightMemo model (entries_of m.h
         subst (λ (ids : List NodeId). AreHeld m.held ids) (sym asks)
         (ask_held m.held before.asks id fit (record { entry = of.entry; among = of.among; is = of.id_is }))
 
-    -- where a walk stands behind a held item that it asked
-    pub stands_past : (at : Address) (rest : List Segment) → Stands model m.held at (AsksAt item rest) before → Stands model m.held at (resumed_way model.look rest body.reply.namespace) after
+    -- where a walk stands behind a held item that it asked, by its events and others
+    pub stands_past : (at : Address) (rest : List Segment) (s : Stands model m.held at (AsksAt item rest) before) → StandsOn model m.held at s.walk.events (resumed_way model.look rest body.reply.namespace) after
+    unfolding goes_past
     stands_past at rest s = record {
-      walk = goes_past model (entries_of m.held) at item rest body.reply right.right is_answered (recorded_in m.held before) (recorded_in m.held after) s.walk (ap (λ (x : Seen). x.keys) seen) asks_added reads_added;
-      asks = fit_still;
+      stands = record {
+        walk = goes_past model (entries_of m.held) at item rest body.reply right.right is_answered (recorded_in m.held before) (recorded_in m.held after) s.walk (ap (λ (x : Seen). x.keys) seen) asks_added reads_added;
+        asks = fit_still;
+      };
+      more = Asked item body.reply ∷ (resumed_comes model rest body.reply.namespace).events;
+      is = refl;
     }

@@ -28,7 +28,7 @@ use Rattle.mx_bound.proofs.Recording.{all_grown}
 use Rattle.mx_bound.proofs.Passing.{is_answered, asks_added, reads_added, fit_still}
 
 -- what was held under ids is held under them
-still_held : (held more : List Kept) (ids : List NodeId) → AreHeld held ids → AreHeld (held ++ more) ids
+pub still_held : (held more : List Kept) (ids : List NodeId) → AreHeld held ids → AreHeld (held ++ more) ids
 still_held held more ids fit id i =
     let h : IsHeld held id.at = fit id i in
     record {
@@ -39,7 +39,7 @@ still_held held more ids fit id i =
 
 module _ (model : Model) (earlier m : Memory) (at : Address) (rest : List Segment) (item : Node) (before after : Records) where
   -- it waited, more was held, and the item among it; the item is recorded as asked and read
-  pub goes_on : IsLed model earlier.held at (led.Waits item rest) before → IsOrdered earlier → HasGrown earlier m → IsRightMemo model (entries_of m.held) → IsOrdered m → (id : NodeId) (body : Body) → IsHeldAs m.held id.at item → IsHeldWith m.held id.at body → after.seen ≡ with_read (read.Node item) before.seen → after.asks ≡ with_ask id before.asks → GoesOn model m.held at rest body.reply.namespace after
+  unfoldable pub goes_on : IsLed model earlier.held at (led.Waits item rest) before → IsOrdered earlier → HasGrown earlier m → IsRightMemo model (entries_of m.held) → IsOrdered m → (id : NodeId) (body : Body) → IsHeldAs m.held id.at item → IsHeldWith m.held id.at body → after.seen ≡ with_read (read.Node item) before.seen → after.asks ≡ with_ask id before.asks → GoesOn model m.held at rest body.reply.namespace after
   goes_on l first grown right ordered id body of with seen asks =
       let stay = entries_stay earlier m first grown in
       let fit : AreHeld m.held before.asks = subst (λ (held : List Kept). AreHeld held before.asks) (sym grown.is) (still_held earlier.held grown.more before.asks l.stands.asks) in

@@ -1,5 +1,5 @@
 -- The walk of an address past the items that are held.
-use Rattle.std.specs.Prelude.{◌≡◌, false, List, [], ◌∷◌, Option}
+use Rattle.std.specs.Prelude.{◌≡◌, false, List, [], ◌∷◌, ◌++◌, Option}
 use Rattle.mx_value.specs.declared.value.Segment.{Segment}
 use Rattle.mx_value.specs.declared.namespace.Namespace.{Namespace}
 use Rattle.mx_value.specs.declared.node.Node.{Node}
@@ -84,18 +84,30 @@ pub record IsLed (model : Model) (held : List Kept) (at : Address) (to : Led) (r
   pub stands : Stands model held at (led_as to) records
   pub waits : WaitsForNew held to
 
--- it stands at the next place, or has come to where it leads
-abbrev pub IsPast : Model → List Kept → Address → Passed → Records → Type 0
-IsPast model held at (passed.On walked) records = Stands model held at (told walked) records
-IsPast model held at (passed.Stops to) records = IsLed model held at to records
+-- the walk of an address leads to this, by these events and others behind them
+pub record IsLedOn (model : Model) (held : List Kept) (at : Address) (es : List Event) (to : Led) (records : Records) : Type 0 where
+  pub led : IsLed model held at to records
+  pub more : List Event
+  pub is : led.stands.walk.events ≡ es ++ more
 
--- a walk that stood there, with those records, leads to this with these
+-- the walk of an address stands here, by these events and others behind them
+pub record StandsOn (model : Model) (held : List Kept) (at : Address) (es : List Event) (to : Leading) (records : Records) : Type 0 where
+  pub stands : Stands model held at to records
+  pub more : List Event
+  pub is : stands.walk.events ≡ es ++ more
+
+-- by these events and others behind them it stands at the next place, or has come to where it leads
+abbrev pub IsPastOn : Model → List Kept → Address → List Event → Passed → Records → Type 0
+IsPastOn model held at es (passed.On walked) records = StandsOn model held at es (told walked) records
+IsPastOn model held at es (passed.Stops to) records = IsLedOn model held at es to records
+
+-- a walk that stood there, with those records, goes on and leads to this with these
 abbrev pub LeadsOn : Model → List Kept → Leading → Records → Led → Records → Type 0
-LeadsOn model held from olds to news = (at : Address) → Stands model held at from olds → IsLed model held at to news
+LeadsOn model held from olds to news = (at : Address) → (s : Stands model held at from olds) → IsLedOn model held at s.walk.events to news
 
 -- likewise past one item
 abbrev pub PassesOn : Model → List Kept → Leading → Records → Passed → Records → Type 0
-PassesOn model held from olds past news = (at : Address) → Stands model held at from olds → IsPast model held at past news
+PassesOn model held from olds past news = (at : Address) → (s : Stands model held at from olds) → IsPastOn model held at s.walk.events past news
 
 -- A walk that waited for an item is to go on with what the item gives. The item is held now, with all that was held as
 -- the walk came to wait, and it is recorded that the walk asked it.
@@ -113,6 +125,7 @@ pub record GoesOn (model : Model) (held : List Kept) (at : Address) (rest : List
   pub reads : Adds before.reads (read.Node item) records.seen.reads
   pub held_asks : AreHeld held records.asks
 
--- a walk that is to go on leads to this
+-- a walk that is to go on asks the item that it waited for, goes on and leads to this
 abbrev pub LeadsFurther : Model → List Kept → List Segment → Option Namespace → Records → Led → Records → Type 0
-LeadsFurther model held rest came olds to news = (at : Address) → GoesOn model held at rest came olds → IsLed model held at to news
+LeadsFurther model held rest came olds to news =
+    (at : Address) → (g : GoesOn model held at rest came olds) → IsLedOn model held at (g.waited.events ++ Asked g.item g.reply ∷ []) to news

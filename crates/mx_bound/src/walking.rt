@@ -145,7 +145,7 @@ fn ask_item(
 }
 
 /// The namespace of an item's reply, shared.
-fn copy_namespace(space: &Option<Namespace>) -> Result<Option<Namespace>, AllocError>
+pub fn copy_namespace(space: &Option<Namespace>) -> Result<Option<Namespace>, AllocError>
     ensures { IfOk result (λ copy. copy ≡ space.now) }
 {
     match space {

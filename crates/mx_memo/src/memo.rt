@@ -160,6 +160,7 @@ impl Memo {
         ensures held { self.new.held ≡ self.old.held }
         ensures last { self.new.last ≡ self.old.last }
         ensures begun { self.old.begun ≡ self.new.begun ++ option_to_list result }
+        ensures none { IfNone result (self.old.begun ≡ []) }
     {
         node_laws();
         end_in(&mut self.table.nodes, &mut self.begun)

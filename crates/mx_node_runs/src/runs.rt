@@ -108,8 +108,8 @@ fn copy_namespace(reply: &Reply) -> Result<Option<Namespace>, AllocError>
     }
 }
 
-/// Goes on where the walk of a node led to.
-fn arrive(
+/// Goes on where the walk of a node led to: behind the walk nothing of its code has begun.
+pub fn arrive(
     alloc: Global,
     world: &World,
     node: &Shared<Node>,

@@ -31,6 +31,11 @@ IsPausedAt model m n run (paused.Ends ending) s = run ≡ Ends (ending_of n endi
 IsPausedAt model m n run (paused.Asks a) s =
     (go : Reply → Run) × (run ≡ Asks a.node go) × Resumes n a.waiting s go × Stands model m a.node a.is_begun
 
+-- whatever run it was, what is told of the node that it asks is so
+abbrev pub IsTold : Model → Memory → Paused → Type 0
+IsTold model m (paused.Ends ending) = Unit {0}
+IsTold model m (paused.Asks a) = Stands model m a.node a.is_begun
+
 -- a run goes on to where it pauses, and so its records grow
 pub record Pauses (model : Model) (m : Memory) (run : Run) (olds : Records) (at : Stretch) (s : State) : Type 0 where
   pub rest : Run
@@ -52,3 +57,8 @@ current_of (passed.Pauses s) = s.current
 abbrev pub PassesTo : Model → Memory → Run → Records → Passed → State → Type 0
 PassesTo model m run olds (passed.Halts r) s = HaltsPast model m run olds r s
 PassesTo model m run olds (passed.Pauses at) s = Pauses model m run olds at s
+
+-- it has halted once more, or what is told of the node that it asks is so
+abbrev pub IsToldThen : Model → Memory → Passed → Type 0
+IsToldThen model m (passed.Halts r) = Unit {0}
+IsToldThen model m (passed.Pauses at) = IsTold model m at.paused

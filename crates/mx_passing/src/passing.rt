@@ -7,7 +7,7 @@ ghost use Rattle.mx_entries.specs.Entries.{IsOrdered};
 ghost use Rattle.mx_entries.specs.Laws.{HeldOnce};
 ghost use Rattle.mx_node_runs.specs.Halts.{HaltsAs};
 ghost use Rattle.mx_bound.specs.Records.{HasOwnKey};
-ghost use Rattle.mx_passing.specs.Passing.{Pauses, PassesTo, current_of};
+ghost use Rattle.mx_passing.specs.Passing.{IsTold, IsToldThen, Pauses, PassesTo, current_of};
 ghost use Rattle.mx_passing.specs.declared.passing.Paused.TheVariants as paused;
 
 use crate::asking::{Met, ask};
@@ -67,6 +67,7 @@ pub fn pass(
     requires asks { AreHeld memo.now.held running.current.records.asks }
     ensures node { IfOk result (λ s. s.current.node ≡ running.current.node) }
     ensures asks { IfOk result (λ s. AreHeld memo.now.held s.current.records.asks) }
+    ensures told { IfOk result (λ s. IsTold (model_of world.now) memo.now s.paused) }
     ensures passes { IfOk result (λ s. (run : Run) → HaltsAs running.current.node run running.halt stack.old.top → Pauses (model_of world.now) memo.now run running.current.records s stack.new.top × (stack.new.below ≡ stack.old.below)) }
     ensures own { IfOk result (λ s. (run : Run) → HaltsAs running.current.node run running.halt stack.old.top → HasOwnKey running.current.node running.current.records.seen.keys → HasOwnKey s.current.node s.current.records.seen.keys) }
 {
@@ -93,6 +94,7 @@ fn pass_one(
     requires asks { AreHeld memo.now.held running.current.records.asks }
     ensures node { IfOk result (λ p. (current_of p).node ≡ running.current.node) }
     ensures asks { IfOk result (λ p. AreHeld memo.now.held (current_of p).records.asks) }
+    ensures told { IfOk result (λ p. IsToldThen (model_of world.now) memo.now p) }
     ensures passes { IfOk result (λ p. (run : Run) → HaltsAs running.current.node run running.halt stack.old.top → PassesTo (model_of world.now) memo.now run running.current.records p stack.new.top × (stack.new.below ≡ stack.old.below)) }
 {
     let Running { mut current, halt } = running;

@@ -1,5 +1,5 @@
 //! The table of the held nodes and of those whose run has begun.
-ghost use Rattle.std.specs.Prelude.{◌≡◌, ◌++◌, ◌∷◌, [], true, if◌then◌else◌, Some, None, OnOk, OnErr, MatchOption, option_to_list, ℕ};
+ghost use Rattle.std.specs.Prelude.{◌≡◌, ◌++◌, ◌∷◌, [], true, if◌then◌else◌, Some, None, OnOk, OnErr, IfNone, MatchOption, option_to_list, ℕ};
 ghost use Rattle.mx_vertices.specs.declared.standing.Standing.TheVariants.{Begun};
 ghost use Rattle.std.specs.HashMap.{get as look_up};
 ghost use Rattle.mx_value.specs.declared.node.Node.{Node as Asked};
@@ -113,6 +113,7 @@ pub fn begin_in(
 /// Takes the mark off the node whose run began last, and gives it.
 pub fn end_in(table: &mut Nodes, begun: &mut Vec<Shared<Node>>) -> Option<Shared<Node>>
     ensures begun { begun.old.items ≡ begun.new.items ++ option_to_list result }
+    ensures none { IfNone result (begun.old.items ≡ []) }
     ensures table { MatchOption result ((n : Asked) → look_up node_eq table.new n ≡ look_up node_eq table.old n) (λ node. (n : Asked) → look_up node_eq table.new n ≡ (if node_eq node n then None else look_up node_eq table.old n)) }
 {
     let Some(node) = begun.pop() else {

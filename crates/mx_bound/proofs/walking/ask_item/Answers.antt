@@ -7,8 +7,9 @@ use Rattle.mx_model.specs.Keys.{key_result}
 use Rattle.mx_state.specs.Model.{model_of}
 use Rattle.mx_reading.specs.Seen.{with_read}
 use Rattle.mx_walks.specs.Ways.{Leading, resumed_way, told}
-use Rattle.mx_bound.specs.Walking.{Stands}
-use Rattle.mx_bound.proofs.Passing.{stands_past}
+use Rattle.mx_bound.specs.declared.walking.Led.TheVariants.{Waits}
+use Rattle.mx_bound.specs.Walking.{StandsOn}
+use Rattle.mx_bound.proofs.Passing.{stands_past, led_there}
 use Rattle.mx_bound.proofs.walking.ask_item.Goals as goal
 
 pub returns : goal.returns
@@ -19,5 +20,8 @@ returns c = λ at s.
     c.in_ok-came.ensures ∙ ap (λ (r : Reply). r.namespace) c.get-2.ensures in
     let led : resumed_way (key_result c.args.world.now) c.args.rest c.in-Some-body.body.now.reply.namespace ≡ told c.in_ok-walked.walked =
     ap (λ (x : Option Namespace). resumed_way (key_result c.args.world.now) c.args.rest x) (sym came) ∙ sym c.in_ok-walked.ensures in
-    subst (λ (to : Leading). Stands (model_of c.args.world.now) c.args.memo.now.held at to c.ask.new.self) led
+    subst (λ (to : Leading). StandsOn (model_of c.args.world.now) c.args.memo.now.held at s.walk.events to c.ask.new.self) led
     (stands_past (model_of c.args.world.now) c.args.memo.now c.requires.memo c.requires.ordered c.args.item c.in-Some.id c.in-Some-body.body.now c.in-Some.ensures.some c.in-Some-body.ensures c.args.records.now c.ask.new.self seen c.in_ok-ask.ensures.asks s.asks at c.args.rest s)
+
+pub returns-in_default : goal.returns-in_default
+returns-in_default c = led_there (model_of c.args.world.now) c.args.memo.now.held (Waits c.args.item c.args.rest) c.args.records.now c.in_default.ensures.none

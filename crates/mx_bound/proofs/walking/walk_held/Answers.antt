@@ -10,7 +10,7 @@ pub returns : goal.returns
 returns c =
     IfOk-weaker c.pass_held.result _ _
     (λ led past.
-    past c.args.at.now
+    (past c.args.at.now
     (subst (λ (to : Leading). Stands (model_of c.args.world.now) c.args.memo.now.held c.args.at.now to c.args.records.now) (sym c.in_ok-walked.ensures)
-    (stands_first (model_of c.args.world.now) c.args.memo.now.held c.args.at.now c.args.records.now c.requires.seen c.requires.asks)))
+    (stands_first (model_of c.args.world.now) c.args.memo.now.held c.args.at.now c.args.records.now c.requires.seen c.requires.asks))).led)
     c.pass_held.ensures

@@ -4,7 +4,7 @@ use Rattle.mx_state.specs.Model.{model_of}
 use Rattle.mx_suspended.specs.Recorded.{Stays}
 use Rattle.mx_bound.specs.Records.{recorded_in}
 use Rattle.mx_passing.specs.declared.passing.Passed.{Passed}
-use Rattle.mx_passing.specs.Passing.{Pauses, PassesTo, current_of}
+use Rattle.mx_passing.specs.Passing.{IsToldThen, Pauses, PassesTo, current_of}
 use Rattle.mx_passing.proofs.Passes.{then_passes, own_paused}
 use Rattle.mx_passing.proofs.passing.pass.Goals as goal
 
@@ -26,6 +26,9 @@ loop-preserved c = record {
 
 pub returns-in-Pauses-clause-asks : goal.returns-in-Pauses-clause-asks
 returns-in-Pauses-clause-asks c = subst (λ (x : Passed). AreHeld c.args.memo.now.held (current_of x).records.asks) c.in-Pauses.is c.in_ok-next.ensures.asks
+
+pub returns-in-Pauses-clause-told : goal.returns-in-Pauses-clause-told
+returns-in-Pauses-clause-told c = subst (λ (x : Passed). IsToldThen (model_of c.args.world.now) c.args.memo.now x) c.in-Pauses.is c.in_ok-next.ensures.told
 
 pub returns-in-Pauses-clause-passes : goal.returns-in-Pauses-clause-passes
 returns-in-Pauses-clause-passes c = λ run h.

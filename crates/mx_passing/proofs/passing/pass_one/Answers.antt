@@ -11,10 +11,12 @@ use Rattle.mx_node_runs.specs.Halts.{HaltsAs, HaltsAt, Resumes}
 use Rattle.mx_passing.specs.declared.asking.Met.{Met}
 use Rattle.mx_passing.specs.declared.current.Current.{Current}
 use Rattle.mx_passing.specs.declared.current.Running.{Running}
+use Rattle.mx_passing.specs.declared.passing.Paused.{Paused}
 use Rattle.mx_passing.specs.declared.passing.Paused.TheVariants as paused
 use Rattle.mx_passing.specs.declared.passing.Stretch.{Stretch}
 use Rattle.mx_passing.specs.Known.{HasBegun, IsUnknown}
 use Rattle.mx_passing.specs.Asking.{IsAnswered, Meets}
+use Rattle.mx_passing.specs.Passing.{IsTold}
 use Rattle.mx_passing.proofs.Passes.{stays_paused, asks_paused, answered_on}
 use Rattle.mx_passing.proofs.passing.pass_one.Goals as goal
 
@@ -51,6 +53,12 @@ returns-in-Reply-clause-passes c = λ run h.
 pub returns-in-Begun-clause-asks : goal.returns-in-Begun-clause-asks
 returns-in-Begun-clause-asks c = subst (λ (x : Current). AreHeld c.args.memo.now.held x.records.asks) (sym c.asks.ensures.current) c.in_ok-reply.ensures.asks
 
+pub returns-in-Begun-clause-told : goal.returns-in-Begun-clause-told
+returns-in-Begun-clause-told c =
+    let met : HasBegun (model_of c.args.world.now) c.args.memo.now c.in_ok-new-in-Asks.field-0 × (c.ask.new.current.records ≡ c.args.running.current.records) =
+    subst (λ (x : Met). Meets (model_of c.args.world.now) c.args.memo.now c.in_ok-new-in-Asks.field-0 c.args.running.current.records c.ask.new.current.records x) c.in-Begun.is c.in_ok-reply.ensures.met in
+    subst (λ (x : Paused). IsTold (model_of c.args.world.now) c.args.memo.now x) (sym c.asks.ensures.paused) met.0
+
 pub returns-in-Begun-clause-passes : goal.returns-in-Begun-clause-passes
 returns-in-Begun-clause-passes c = λ run h.
     let met : HasBegun (model_of c.args.world.now) c.args.memo.now c.in_ok-new-in-Asks.field-0 × (c.ask.new.current.records ≡ c.args.running.current.records) =
@@ -65,6 +73,12 @@ returns-in-Begun-clause-passes c = λ run h.
 
 pub returns-in-New-clause-asks : goal.returns-in-New-clause-asks
 returns-in-New-clause-asks c = subst (λ (x : Current). AreHeld c.args.memo.now.held x.records.asks) (sym c.asks-in-New.ensures.current) c.in_ok-reply.ensures.asks
+
+pub returns-in-New-clause-told : goal.returns-in-New-clause-told
+returns-in-New-clause-told c =
+    let met : IsUnknown (model_of c.args.world.now) c.args.memo.now c.in_ok-new-in-Asks.field-0 × (c.ask.new.current.records ≡ c.args.running.current.records) =
+    subst (λ (x : Met). Meets (model_of c.args.world.now) c.args.memo.now c.in_ok-new-in-Asks.field-0 c.args.running.current.records c.ask.new.current.records x) c.in-New.is c.in_ok-reply.ensures.met in
+    subst (λ (x : Paused). IsTold (model_of c.args.world.now) c.args.memo.now x) (sym c.asks-in-New.ensures.paused) met.0
 
 pub returns-in-New-clause-passes : goal.returns-in-New-clause-passes
 returns-in-New-clause-passes c = λ run h.

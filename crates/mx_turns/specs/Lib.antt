@@ -1,0 +1,4 @@
+pub mod Flights
+pub mod Rings
+pub mod Giving
+pub mod Driving

@@ -1,0 +1,43 @@
+//! How a run that waits goes on with the reply of the node that it asked.
+ghost use Rattle.std.specs.Prelude.{◌≡◌, ◌≤◌, ℕ, length};
+ghost use Rattle.mx_state.specs.Model.{model_of};
+ghost use Rattle.mx_memo.specs.Memos.{Memory};
+ghost use Rattle.mx_turns.specs.Flights.{IsSound, Work, first_of, frame_nodes};
+ghost use Rattle.mx_turns.specs.Giving.{GoesDown, IsAtHand, IsHandedDown, IsHandedOver};
+
+use crate::progress::{Given, Progress};
+use crate::runs::{Frame, Runs};
+use mx_passing::current::Running;
+use mx_passing::resuming::{Resumed, resume};
+use mx_world::world::World;
+use std::alloc::{AllocError, Global};
+
+/// The last of the runs that wait goes on with the reply of the node that it asked. Where none waits, the first node has
+/// given its reply.
+pub fn hand_down(
+    alloc: Global,
+    world: &World,
+    given: Given,
+    runs: &mut Runs,
+) -> Result<Progress, AllocError>
+    ensures goes { (q : Work) (m : Memory) (now : ℕ) → IsAtHand m runs.old.frames.items given → IsHandedOver (model_of world.now) q m runs.old.stack.below runs.old.frames.items given.node given.reply now → GoesDown (model_of world.now) q m given runs.new.stack runs.new.frames.items (first_of runs.old.frames.items given.node) now result }
+    ensures sound { (m : Memory) → IsAtHand m runs.old.frames.items given → IsSound m runs.old.frames.items (frame_nodes runs.old.frames.items) → IsHandedDown m runs.new.frames.items given result }
+    ensures frames { length runs.new.frames.items ≤ length runs.old.frames.items }
+{
+    let Some(frame) = runs.frames.pop() else {
+        return Ok(Progress::Done(given));
+    };
+    let Frame {
+        mut current,
+        waiting,
+        place,
+    } = frame;
+    current.records.ask(alloc, given.node.get(), given.id)?;
+    runs.stack.go_back(place);
+    let resumed = Resumed {
+        waiting,
+        reply: given.reply.get(),
+    };
+    let halt = resume(alloc, world, &mut current, resumed, &mut runs.stack)?;
+    Ok(Progress::Going(Running { current, halt }))
+}

@@ -1,0 +1,53 @@
+//! Runs that wait for a node.
+ghost use Rattle.std.specs.Prelude.{◌≡◌, ◌<◌, false, ◌+◌, ℕ, length, IfOk, OnOk};
+ghost use Rattle.mx_runs.specs.Runs.{Model as Models};
+ghost use Rattle.mx_runs.specs.Inputs.{InputsEnd};
+ghost use Rattle.mx_memo.specs.Memos.{Memory};
+ghost use Rattle.mx_turns.specs.Flights.{AsksInOrder, IsPaused, IsPushed, IsSoundPaused, IsWithin, Waited, Work, first_of, frame_nodes, stretch_asking};
+
+use crate::progress::Setting;
+use crate::rings::{frames_from, nodes_of};
+use crate::runs::{Frame, Runs};
+use mx_list::shared::Shared;
+use mx_passing::current::Current;
+use mx_passing::passing::Asked;
+use mx_value::node::Node;
+use mx_value::refusal::EvalRefusal;
+use std::alloc::Global;
+
+/// The run on top waits for a node that it asks and that is not known: a ring where that is in flight, too deep where the
+/// chain would be longer than the limit.
+pub fn wait(
+    alloc: Global,
+    setting: &Setting<'_>,
+    current: Current,
+    asked: Asked,
+    runs: &mut Runs,
+) -> Result<Shared<Node>, EvalRefusal>
+    ensures waited { (model : Models) (q : Work) (m : Memory) (now : ℕ) → InputsEnd model → AsksInOrder model → IsWithin q setting.now.limit setting.now.below → IsSoundPaused m runs.old.frames.items (stretch_asking current asked) → IsPaused model q m runs.old.stack runs.old.frames.items (stretch_asking current asked) now → Waited model q m runs.new.stack runs.new.frames.items (first_of runs.old.frames.items current.node) now result }
+    ensures node { IfOk result (λ n. n ≡ asked.node) }
+    ensures begun { IfOk result (λ n. asked.is_begun ≡ false) }
+    ensures frames { IfOk result (λ n. length runs.new.frames.items + setting.now.below < setting.now.limit) }
+    ensures pushed { OnOk result (IsPushed current runs.old.frames.items runs.new.frames.items) }
+    ensures stack { runs.new.stack ≡ runs.old.stack }
+{
+    let Asked {
+        node,
+        waiting,
+        is_begun,
+    } = asked;
+    let place = runs.stack.place();
+    let frame = Frame {
+        current,
+        waiting,
+        place,
+    };
+    runs.frames.push(frame)?;
+    if is_begun {
+        return Err(EvalRefusal::Ring(nodes_of(alloc, frames_from(&runs.frames, node.get()))?));
+    }
+    if setting.limit.saturating_sub(setting.below) <= runs.frames.len() {
+        return Err(EvalRefusal::TooDeep(node.get().copy(alloc)?));
+    }
+    Ok(node)
+}
