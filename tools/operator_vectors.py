@@ -348,7 +348,7 @@ def tables():
         (0,), (3,), (-2,), (2, 5), (5, 2), (-2, 2), (0, 10, 3), (10, 0, -3), (0, 9, 3), (9, 0, -3), (1, 2, 5), (5, 5, 1), (0, -1, 2),
         (0, 5, 0), (0, 0, 0), (10**12,), (0, 10**6), (0, -(10**6), -1), (LEAST, MOST), (MOST, LEAST, LEAST), (LEAST, MOST, MOST), (MOST - 1, MOST),
         (LEAST, LEAST + 2), (True,), (True, 3), (d("3.0"),), ("a", 2), (1, 2, None), (0, 10, d("2.0")))]
-    joined = crossed(py, ("Add",), ("ab", (1, 2), (), "", 1), ("c", (3,), None, ()))
+    joined = crossed(py, ("Add",), ("ab", (1, 2), (), "", 1), ("c", "", (3,), None, ()))
     return {
         "whole": [("WHOLE", "Whole numbers.", whole_rows)],
         "decimal": [("MIXED", "Decimal numbers.", mixed), ("POWERS", "Powers.", powers), ("SIGNS", "One number.", signs),

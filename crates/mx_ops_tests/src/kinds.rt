@@ -498,24 +498,29 @@ pub const RANGES: [Row; 29] = [
 ];
 
 /// What is put together.
-pub const JOINED: [Row; 20] = [
+pub const JOINED: [Row; 25] = [
     (Op::Add, "(\"ab\", \"c\")", "\"abc\"", PY),
+    (Op::Add, "(\"ab\", \"\")", "\"ab\"", PY),
     (Op::Add, "(\"ab\", (3,))", "fault TypeMismatch", PY),
     (Op::Add, "(\"ab\", None)", "fault TypeMismatch", PY),
     (Op::Add, "(\"ab\", ())", "fault TypeMismatch", PY),
     (Op::Add, "((1, 2), \"c\")", "fault TypeMismatch", PY),
+    (Op::Add, "((1, 2), \"\")", "fault TypeMismatch", PY),
     (Op::Add, "((1, 2), (3,))", "(1, 2, 3)", PY),
     (Op::Add, "((1, 2), None)", "fault TypeMismatch", PY),
     (Op::Add, "((1, 2), ())", "(1, 2)", PY),
     (Op::Add, "((), \"c\")", "fault TypeMismatch", PY),
+    (Op::Add, "((), \"\")", "fault TypeMismatch", PY),
     (Op::Add, "((), (3,))", "(3,)", PY),
     (Op::Add, "((), None)", "fault TypeMismatch", PY),
     (Op::Add, "((), ())", "()", PY),
     (Op::Add, "(\"\", \"c\")", "\"c\"", PY),
+    (Op::Add, "(\"\", \"\")", "\"\"", PY),
     (Op::Add, "(\"\", (3,))", "fault TypeMismatch", PY),
     (Op::Add, "(\"\", None)", "fault TypeMismatch", PY),
     (Op::Add, "(\"\", ())", "fault TypeMismatch", PY),
     (Op::Add, "(1, \"c\")", "fault TypeMismatch", PY),
+    (Op::Add, "(1, \"\")", "fault TypeMismatch", PY),
     (Op::Add, "(1, (3,))", "fault TypeMismatch", PY),
     (Op::Add, "(1, None)", "fault TypeMismatch", PY),
     (Op::Add, "(1, ())", "fault TypeMismatch", PY),
