@@ -1,0 +1,13 @@
+pub mod InOrder
+pub mod BoundForms
+pub mod Asked
+pub mod Closed
+pub mod Beginning
+pub mod Answered
+pub mod Over
+pub mod ByEvents
+pub mod WalksAsk
+pub mod OnWay
+pub mod Items
+pub mod Entering
+pub mod OverFor

@@ -1,0 +1,5 @@
+pub mod States
+pub mod Settings
+pub mod Seeking
+pub mod Closing
+pub mod Behind

@@ -1,0 +1,10 @@
+//! The evaluation of a node that is asked from outside, and its bound form.
+#![tactic(auto)]
+
+pub mod arriving;
+pub mod behind;
+pub mod bound;
+pub mod closing;
+pub mod evaluating;
+pub mod machine;
+pub mod seeking;

@@ -1,0 +1,16 @@
+mod Emptied
+mod Kept
+mod Firsts
+mod Gathered
+mod ByText
+mod Sought
+mod Read
+mod BindingHeld
+mod ReadBy
+mod Askers
+mod Succeeding
+mod Refusing
+mod EditTold
+mod BoundTold
+mod ReadHeld
+mod Ordering
