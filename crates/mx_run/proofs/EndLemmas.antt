@@ -7,7 +7,8 @@ use Rattle.mx_outside.specs.declared.sink.WriteFailure.{WriteFailure}
 use Rattle.mx_outside.proofs.Bytes.{append_known-append}
 use Rattle.mx_run.specs.Script.{taken, complete, pending_after, complete_commands, commands}
 use Rattle.mx_script.specs.Script.{split_lines, last_line, Command, Taken, HasNoLf}
-use Rattle.mx_run.specs.Answer.{State, first_state}
+use Rattle.mx_state.specs.State.{State}
+use Rattle.mx_world_engine.specs.Engine.{first_state}
 use Rattle.mx_run.specs.Transcript.{Runs, Begins, Wrote, IsOutput}
 use Rattle.mx_run.specs.Session.{TakesLine, pending_of}
 use Rattle.mx_run.specs.At.{IsAfter, At, Halts, GoesOn, Finishes}

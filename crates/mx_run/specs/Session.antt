@@ -3,7 +3,7 @@ use Rattle.std.specs.Prelude.{◌≡◌, ℕ, Option, Result, Ok, Err, List}
 use Rattle.std.specs.Option.{option_map}
 use Rattle.mx_outside.specs.declared.sink.WriteFailure.{WriteFailure}
 use Rattle.mx_script.specs.Script.{Command, Taken}
-use Rattle.mx_run.specs.Answer.{State}
+use Rattle.mx_state.specs.State.{State}
 use Rattle.mx_run.specs.Transcript.{Runs, Begins}
 use Rattle.mx_run.specs.declared.take.Pending.{Pending}
 

@@ -5,14 +5,11 @@
 mod answer;
 mod laws;
 mod line;
-mod refusal;
 mod script;
 mod session;
 mod status;
 mod stop;
 mod take;
-mod text;
-mod words;
 
 pub use laws::{commands_have_one_output, complete_commands_stay, lines_give_the_script};
 pub use status::run_script;

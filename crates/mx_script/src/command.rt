@@ -17,7 +17,6 @@ ghost use Rattle.mx_words.specs.Phrases.{phrase_text};
 ghost use Rattle.mx_script.specs.Commands as spec;
 ghost use Rattle.mx_script.specs.Commands.{AddressAnswers, ClearsBy, Clears, HeadAnswers, Defines, Parametrizes, Asks, Inputs, RefersBy, Refers, ReadsAs, Unless};
 
-use crate::later::{is_later_formula, is_later_node};
 use mx_edit::edit::Edit;
 use mx_edit::reference::RefValue;
 use mx_edit::scope::Scope;
@@ -60,13 +59,10 @@ fn head(alloc: Global, lead: usize, text: &[u8]) -> Result<Target, FormRefusal>
     names_in(alloc, lead, form_of(end < text.len()), &text[..end])
 }
 
-/// A formula of cells as a command, where it has no form that is not run yet.
+/// A formula of cells as a command.
 fn defined(alloc: Global, target: Target, formula: Formula) -> Result<Command, FormRefusal>
     ensures { result ≢ Err FormRefusal.NoMemory → result ≡ spec.defined target (Ok formula) }
 {
-    if is_later_formula(alloc, &formula)? {
-        return Err(FormRefusal::NotBuilt);
-    }
     let Target { path, name } = target;
     Ok(Command::Edit(Edit::SetCells {
         path: space_at(alloc, path)?,
@@ -218,16 +214,6 @@ fn asked_alone(
     }
 }
 
-/// An evaluation, which is read where the node's arguments are of the kinds that are run so far.
-fn evaluated(node: Node) -> Result<Command, FormRefusal>
-    ensures { result ≡ spec.evaluated node }
-{
-    if is_later_node(&node) {
-        return Err(FormRefusal::NotBuilt);
-    }
-    Ok(Command::Eval(node))
-}
-
 /// The command that takes the input of a node out, which is a node of cells.
 fn uninput(alloc: Global, start: usize, source: &[u8], node: Node) -> Result<Command, FormRefusal>
     ensures { result ≢ Err FormRefusal.NoMemory → result ≡ spec.uninput start source.now node }
@@ -249,7 +235,7 @@ fn asked_command(
     ensures { result ≢ Err FormRefusal.NoMemory → result ≡ spec.asked_command asked start source.now node }
 {
     match asked {
-        Asked::Value => evaluated(node),
+        Asked::Value => Ok(Command::Eval(node)),
         Asked::Precedents => Ok(Command::Precedents(node)),
         Asked::Successors => Ok(Command::Succs(node)),
         Asked::Held => Ok(Command::Held(Some(node))),

@@ -1,0 +1,6 @@
+pub mod OneEdit
+pub mod KeptAlike
+pub mod SameTexts
+pub mod Alike
+pub mod Faithful
+pub mod EditLemmas
