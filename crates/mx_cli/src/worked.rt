@@ -341,7 +341,7 @@ const FORMS: [(&[u8], &[u8]); 6] = [
     ),
     (
         b"cells g(x, k=\"a\") = x + k\neval g(\"b\")\neval g(1.0)\n",
-        b"ok\n= \"ba\" runs 1\nfault TypeMismatch at Main.g(1.0, \"a\") line 1\n",
+        b"ok\n= \"ba\" runs 1\nfault TypeMismatch at Main.g(1, \"a\") line 1\n",
     ),
     (
         b"def g(x):\n    s = 0\n    for i in x:\n        s += i\n    return s\neval g((1, 2, 3))\n",

@@ -166,7 +166,7 @@ succs_told nodes =
 
 -- of held entries of one node that are records one asked what the other asked
 module _ (s t : State) (l : AreAlike s t) (records : (e : Entry) → Has s.held e → IsRecordOf (model_of s.text) e) (others : (e : Entry) → Has t.held e → IsRecordOf (model_of t.text) e) where
-  asks_too : (n x : Node) → IsSuccessor s n x → IsSuccessor t n x
+  asks_too : (n x : Node) → IsSuccessor (model_of s.text) s.held n x → IsSuccessor (model_of t.text) t.held n x
   asks_too n x h =
       let e = entry_of t.held x ((l.held.nodes x).0 (subst (λ (m : Node). Has (nodes_of s.held) m) h.node_is (named s.held h.entry h.among))) in
       let theirs : IsRecordOf (model_of s.text) e.item = subst (λ (r : ModelRecord). IsRecordOf (model_of r) e.item) (sym l.text) (others e.item e.among) in
