@@ -1,7 +1,7 @@
 //! What an engine answers, as a text.
 ghost use Rattle.std.specs.Prelude.{◌≡◌, ◌<◌};
 
-use crate::reading::{Deed, deed};
+use crate::reading::{Deed, read_deed};
 use mx_edit::edit::Edit;
 use mx_print::append::{push, push_number};
 use mx_print::value::{push_node, push_value};
@@ -296,7 +296,7 @@ pub(crate) fn all_answer<L: Ledger>(
     let mut wrong = Vec::new(alloc);
     for (text, wanted) in rows {
         let mut out = Vec::new(alloc);
-        bench.carry_out(deed(alloc, text.as_bytes())?, &mut steps, &mut out)?;
+        bench.carry_out(read_deed(alloc, text.as_bytes())?, &mut steps, &mut out)?;
         if out.as_slice() != wanted.as_bytes() {
             push(&mut wrong, text.as_bytes())?;
             push(&mut wrong, b": ")?;

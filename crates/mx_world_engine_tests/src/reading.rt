@@ -140,7 +140,7 @@ fn edit(alloc: Global, text: &[u8]) -> Result<Edit, Fail> {
 }
 
 /// What a text says.
-pub(crate) fn deed(alloc: Global, text: &[u8]) -> Result<Deed, Fail> {
+pub(crate) fn read_deed(alloc: Global, text: &[u8]) -> Result<Deed, Fail> {
     let (word, behind) = text.split_at(word_length(text));
     let rest = behind.trim_ascii_start();
     Ok(match word {

@@ -304,6 +304,52 @@ const VALUES: [Row; 16] = [
     ("eval g()", "= 1 runs 4"),
 ];
 
+const ROLLED_BACK: [Row; 26] = [
+    ("space S", "ok"),
+    ("space S.T", "ok"),
+    ("cells k(n) = n", "ok"),
+    ("ref S.T.k = abs Main.k", "ok"),
+    ("params S(x)", "ok"),
+    ("params S.T(y) = {\"refs\": {\"b\": k(y)}}", "ok"),
+    ("cells S.T.c(n=3) = (x, b, n)", "ok"),
+    ("limit 2", "ok"),
+    ("eval S[1].T[2].c()", "too deep at Main.k(2)"),
+    ("held", "held 0"),
+    ("precedents S[1].T[2].c()", "too deep at Main.k(2)"),
+    ("eval S[1].T[2]", "= <space S[1].T[2]> runs 3"),
+    ("eval S[1].T[2].c()", "= (1, 2, 3) runs 1"),
+    ("clear all", "cleared 4"),
+    ("limit 3", "ok"),
+    ("eval S[1].T[2].c(1, 2)", "wrong count"),
+    ("eval S[1].T[2].d()", "no such node"),
+    ("eval S[1].T[2].U.c()", "no such node"),
+    ("held", "held 0"),
+    ("precedents S[1.0].T[2.0].c()", "reads 2\nS[1]\nS[1].T[2]"),
+    ("only Main.k(2); S[1]; S[1].T[2]; S[1].T[2].c(3)", "yes"),
+    ("bound S[1.0].T[2.0].c()", "S[1].T[2].c(3)"),
+    ("eval S[1].T[2].c(3.0)", "= (1, 2, 3) runs 0"),
+    ("clear node k(2)", "cleared 3"),
+    ("only S[1]", "yes"),
+    ("bound S[1].T[2].c()", "none"),
+];
+
+const RING_SECOND: [Row; 14] = [
+    ("space S", "ok"),
+    ("space S.T", "ok"),
+    ("ref S.T.me = to S.T", "ok"),
+    ("params S(x)", "ok"),
+    ("params S.T(y) = {\"refs\": {\"z\": me[y].c()}}", "ok"),
+    ("cells S.T.c() = 1", "ok"),
+    ("eval S[1].T[2].c()", "ring S[1].T[2] -> S[1].T[2]"),
+    ("only S[1]", "yes"),
+    ("eval S[1].T[2]", "ring S[1].T[2] -> S[1].T[2]"),
+    ("only S[1]", "yes"),
+    ("precedents S[3].T[2].c()", "ring S[3].T[2] -> S[3].T[2]"),
+    ("only S[1]; S[3]", "yes"),
+    ("params S.T(y)", "ok"),
+    ("eval S[1].T[2].c()", "= 1 runs 2"),
+];
+
 #[test]
 fn cells_of_an_item_wait_for_it(rt: HostRuntime) -> Result<(), Fail> {
     all_answer::<Brand>(&rt, rt.alloc(), Blank::new(1), CELLS.as_slice())
@@ -391,4 +437,14 @@ fn a_formula_that_asks_an_item_has_it_and_its_cells_as_next_nodes(
 #[test]
 fn spaces_and_cells_of_items_are_values(rt: HostRuntime) -> Result<(), Fail> {
     all_answer::<Brand>(&rt, rt.alloc(), Blank::new(1), VALUES.as_slice())
+}
+
+#[test]
+fn items_that_were_made_go_again_where_a_later_one_is_refused(rt: HostRuntime) -> Result<(), Fail> {
+    all_answer::<Brand>(&rt, rt.alloc(), Blank::new(1), ROLLED_BACK.as_slice())
+}
+
+#[test]
+fn a_ring_in_a_second_item_leaves_the_first_held(rt: HostRuntime) -> Result<(), Fail> {
+    all_answer::<Brand>(&rt, rt.alloc(), Blank::new(1), RING_SECOND.as_slice())
 }
