@@ -6,9 +6,11 @@
 Each workload is a script. It is run by `PATH run` (the built program, as tools/build leaves it, where none is named) and,
 where Python can run it, by tools/baseline.py with and without --traced. A line gives the best time of each, the formula
 runs a second, the greatest memory of the engine's own process, and the ratios: above 1.0 the engine is the faster. A
-ratio comes only where the values are the same. Machines are noisy: read the ratios, not the times. The last lines,
-`--only operators`, give the nanoseconds of an operator on its own, as mx_ops_bench measures them, and `--only memo` the
-times and the bytes of a million kept nodes, as mx_memo_bench makes them.
+ratio comes only where the values are the same. `parse` and `crowded` only read formulas, in many spaces and in one;
+`policies`, `beside` and `derived` have spaces, item spaces and decimal numbers, for which there is no baseline. Machines
+are noisy: read the ratios, not the times. The last lines, `--only operators`, give the nanoseconds of an operator on its
+own, as mx_ops_bench measures them, and `--only memo` the times and the bytes of a million kept nodes, as mx_memo_bench
+makes them.
 """
 import argparse
 import os
@@ -42,19 +44,62 @@ def kept(times):
     return "cells fib(n) = n if n < 2 else fib(n-1) + fib(n-2)\n" + "eval fib(80)\n" * times
 
 
-def parse(count):
-    """Formulas to read: each cells is defined and none is run."""
-    return "".join(
-        f"cells g{i}(n) = {i} if n < {i + 1} else g{i}(n - 1) * 3 + (n - {i}) * (g{i}(n - 2) + 7)\n"
-        for i in range(count)
+def parse(spaces, cells):
+    """Formulas to read: cells are defined in each of some spaces, and none is run."""
+    return "".join(f"space S{s}\n" for s in range(spaces)) + "".join(
+        f"cells S{s}.g{i}(n) = {i} if n < {i + 1} else g{i}(n - 1) * 3 + (n - {i}) * (g{i}(n - 2) + 7)\n"
+        for s in range(spaces)
+        for i in range(cells)
     )
+
+
+def policies(count, term):
+    """A term product in decimal numbers over item spaces, one for each policy, with their assumptions in another space."""
+    head = f"""space Basis
+ref Basis.interest = 0.02
+cells Basis.death_rate(age) = 0.0005 + 0.00002 * (age - 20) ** 2
+cells Basis.discount(t) = 1.0 if t == 0 else discount(t - 1) / (1 + interest)
+space Term
+ref Term.basis = to Basis
+params Term(entry_age, insured)
+cells Term.lives(t) = 1.0 if t == 0 else lives(t - 1) - deaths(t - 1)
+cells Term.deaths(t) = lives(t) * basis.death_rate(entry_age + t)
+cells Term.pv_lives() = sum(lives(t) * basis.discount(t) for t in range({term}))
+cells Term.pv_claims() = sum(insured * deaths(t) * basis.discount(t + 1) for t in range({term}))
+cells Term.premium() = round(pv_claims() / pv_lives(), 2)
+"""
+    return head + "".join(f"eval Term[{20 + i % 50}, {1000 * (1 + i)}].premium()\n" for i in range(count))
+
+
+def beside(projection, edits):
+    """Edits on which nothing of a long kept projection rests, which is then asked again."""
+    lines = [f"limit {projection + 10}", "space S", "params S(x)", "cells S.f(t) = x if t == 0 else f(t - 1)"]
+    lines.append(f"eval S[1].f({projection})")
+    lines += [f"cells z() = {i}" for i in range(edits)]
+    lines.append(f"eval S[1].f({projection})")
+    return "\n".join(lines) + "\n"
+
+
+def derived(spaces, depth, rounds):
+    """Spaces with one base; each round changes one of them, and all are asked: the others stay as they are."""
+    lines = ["space B", "cells B.g(t) = t", "cells B.f(t) = 1 if t < 1 else (f(t - 1) * 3 + g(t)) % 1009"]
+    for i in range(spaces):
+        lines += [f"space S{i}", f"bases S{i}: B"]
+    for r in range(rounds):
+        lines.append(f"cells S{r % spaces}.g(t) = t + {r}")
+        lines += [f"eval S{i}.f({depth})" for i in range(spaces)]
+    return "\n".join(lines) + "\n"
 
 
 # name, script, whether the baseline can run it
 WORKLOADS = [
     ("grid", lambda: grid(48, 150, 20), True),
     ("kept", lambda: kept(100_000), True),
-    ("parse", lambda: parse(9_000), False),
+    ("parse", lambda: parse(90, 100), False),
+    ("crowded", lambda: parse(1, 2_000), False),
+    ("policies", lambda: policies(1_000, 30), False),
+    ("beside", lambda: beside(90_000, 10_000), False),
+    ("derived", lambda: derived(200, 100, 20), False),
 ]
 
 

@@ -16,8 +16,8 @@ use Rattle.mx_runs.proofs.Lists.{has_map}
 use Rattle.mx_runs.proofs.Levels.{leads_append, ends_only}
 use Rattle.mx_runs.proofs.Runs.{comparable, asked_by_end, asks_append}
 use Rattle.mx_answers.specs.Held.{nodes_of}
-use Rattle.mx_formulas.specs.Binding.{binding}
-use Rattle.mx_formulas.specs.Walks.{entered, walked, walked_from}
+use Rattle.mx_meaning.specs.Binding.{binding}
+use Rattle.mx_meaning.specs.Walks.{entered, walked, walked_from}
 use Rattle.mx_suspended.specs.Recorded.{Recorded}
 use Rattle.mx_walks.specs.Ways.{Came, AsksAt, Refused, leading_run}
 use Rattle.mx_entries.specs.Entries.{entries_of}

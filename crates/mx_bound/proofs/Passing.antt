@@ -24,7 +24,7 @@ use Rattle.mx_runs.specs.Meaning.{Means}
 use Rattle.mx_runs.proofs.Levels.{leads_append}
 use Rattle.mx_answers.specs.Held.{IsRight}
 use Rattle.mx_answers.specs.Records.{IsRightMemo, recorded_keys, recorded_asks, reads_of}
-use Rattle.mx_formulas.specs.Walks.{walked}
+use Rattle.mx_meaning.specs.Walks.{walked}
 use Rattle.mx_suspended.specs.Recorded.{Recorded, nothing, Adds}
 use Rattle.mx_suspended.proofs.Growing.{each_adds, keys_grow, asks_grow, reads_grow}
 use Rattle.mx_reading.specs.Seen.{Seen, with_read}

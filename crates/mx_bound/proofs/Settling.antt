@@ -10,9 +10,9 @@ use Rattle.mx_edit.specs.declared.key.Key.TheVariants as key
 use Rattle.mx_edit.specs.declared.key.KeyResult.{KeyResult}
 use Rattle.mx_runs.specs.Runs.{Run, Ends, Tests, Tested, NoSuch}
 use Rattle.mx_runs.specs.Meaning.{Leads}
-use Rattle.mx_formulas.specs.Laws.{model_of}
-use Rattle.mx_formulas.specs.Binding.{cell_bound, item_bound, item_sought}
-use Rattle.mx_formulas.specs.Namespaces.{ends_with_name}
+use Rattle.mx_meaning.specs.Laws.{model_of}
+use Rattle.mx_meaning.specs.Binding.{cell_bound, item_bound, item_sought}
+use Rattle.mx_meaning.specs.Namespaces.{ends_with_name}
 use Rattle.mx_bound.specs.declared.settled.Settled.{Settled}
 use Rattle.mx_bound.specs.Walking.{Address}
 use Rattle.mx_bound.specs.Settles.{Goes, Settles, settled_run}

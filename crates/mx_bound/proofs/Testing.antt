@@ -15,8 +15,8 @@ use Rattle.mx_edit.specs.declared.key.KeyResult.TheVariants as found
 use Rattle.mx_runs.specs.Runs.{Model, Run, Ends, Tests, NoSuch, WrongCount, Event, Looked, Tested, Asked, Noted}
 use Rattle.mx_runs.specs.Meaning.{Leads}
 use Rattle.mx_answers.specs.Records.{recorded_keys, recorded_asks, reads_of}
-use Rattle.mx_formulas.specs.Namespaces.{Step, root, child, ends_with_name}
-use Rattle.mx_formulas.specs.Walks.{Onward, entered, item_entered, stepped, walked, walked_from}
+use Rattle.mx_meaning.specs.Namespaces.{Step, root, child, ends_with_name}
+use Rattle.mx_meaning.specs.Walks.{Onward, entered, item_entered, stepped, walked, walked_from}
 use Rattle.mx_walks.specs.Ways.{Leading, Came, AsksAt, Refused, item_way, step_way, way_of, begun_way, resumed_way, leading_run}
 use Rattle.mx_bound.specs.Walking.{AreAnswered, AsksNoInput}
 

@@ -10,8 +10,8 @@ use Rattle.mx_edit.specs.declared.key.Key.TheVariants as key
 use Rattle.mx_runs.specs.Runs.{Model, Run, Ends, Tests, NoSuch, WrongCount, Event}
 use Rattle.mx_runs.specs.Meaning.{Leads}
 use Rattle.mx_runs.specs.Chains.{asks_of}
-use Rattle.mx_formulas.specs.Binding.{cell_bound, item_sought}
-use Rattle.mx_formulas.specs.Walks.{bound_or_refused}
+use Rattle.mx_meaning.specs.Binding.{cell_bound, item_sought}
+use Rattle.mx_meaning.specs.Walks.{bound_or_refused}
 use Rattle.mx_bound.specs.Walking.{Address}
 use Rattle.mx_bound.specs.declared.settled.Settled.{Settled}
 use Rattle.mx_bound.specs.declared.settled.Settled.TheVariants as settled

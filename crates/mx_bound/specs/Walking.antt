@@ -14,7 +14,7 @@ use Rattle.mx_runs.specs.Runs.{Model, NoSuch, WrongCount, Event, Looked, Tested,
 use Rattle.mx_runs.specs.Inputs.{is_input}
 use Rattle.mx_runs.specs.Meaning.{Leads}
 use Rattle.mx_answers.specs.Records.{recorded_keys, recorded_asks, reads_of}
-use Rattle.mx_formulas.specs.Walks.{Onward, walked}
+use Rattle.mx_meaning.specs.Walks.{Onward, walked}
 use Rattle.mx_suspended.specs.Recorded.{Recorded, Adds}
 use Rattle.mx_walks.specs.Ways.{Leading, Came, AsksAt, Refused, leading_run, told}
 use Rattle.mx_entries.specs.Entries.{entries_of}

@@ -4,9 +4,9 @@ ghost use Rattle.std.specs.Map.{lookup};
 ghost use Rattle.mx_value.specs.Name.{same_name};
 ghost use Rattle.mx_model.specs.Change.{define, without, define_cells, set_allow};
 
+use mx_code::compiled::{Compiled, CompiledParams};
 use mx_edit::copies::{copy_formula, copy_params};
 use mx_edit::reference::RefValue;
-use mx_instructions::compiled::{Compiled, CompiledParams};
 use mx_list::list::List;
 use mx_list::shared::Shared;
 use mx_model::members::Members;

@@ -1,48 +1,43 @@
--- How a run ends whose source and sink never fail.
-use Rattle.std.proofs.Common.{◌≡◌, ℕ, Bool, List, [], ◌∷◌, ◌++◌, Option, None, Some, Result, Ok, Err, refl, sym, ap, ◌∙◌, subst, append-nil, arith}
-use Rattle.std.specs.Bool.{IsTrue, ◌==◌}
-use Rattle.std.specs.List.{list_any}
+-- How a run ends by which no count of faults rose.
+use Rattle.std.proofs.Common.{◌≡◌, ◌⊎◌, inl, inr, ℕ, List, ◌++◌, Option, None, Some, Result, Ok, Err, sym, ap, ◌∙◌, subst, append-nil, arith}
 use Rattle.std.specs.Io.KnownBytes.{IsAtEnd}
 use Rattle.mx_outside.specs.Outside.{Rose}
-use Rattle.mx_run.specs.Transcript.{Traded, IsWithin, IsCut, Transcript}
-use Rattle.mx_run.specs.At.{Ends}
-use Rattle.mx_run.specs.Statuses.{Outside, status_of, IsCaused, HasRun, RunsTo}
+use Rattle.mx_run.specs.Transcript.{Traded, IsWithin, Transcript}
+use Rattle.mx_run.specs.Statuses.{Outside, status_of, HasRun, RunsTo}
 use Rattle.mx_run.specs.declared.stop.Stop.{Stop}
 use Rattle.mx_run.specs.declared.stop.Stop.TheVariants.{ReadFault, WriteFault, NoMemory, OverLimit}
+use Rattle.mx_run.proofs.WithinLemmas.{no_cut}
+use Rattle.mx_cli.specs.Top.{HasAll, AnswersAll}
 
--- the status of a run that met no fault and passed no limit
-sure_status : (r : ℕ) (ending : Result (Unit {0}) Stop) → r ≡ status_of ending → (ending ≡ Err ReadFault → ⊥) → (ending ≡ Err WriteFault → ⊥) → (ending ≡ Err OverLimit → ⊥)
-    → IsTrue (list_any (λ s. s == r) (0 ∷ 5 ∷ []))
-sure_status r (Ok u) is read write limit = rw is refl
-sure_status r (Err ReadFault) is read write limit = absurd (read refl)
-sure_status r (Err WriteFault) is read write limit = absurd (write refl)
-sure_status r (Err NoMemory) is read write limit = rw is refl
-sure_status r (Err OverLimit) is read write limit = absurd (limit refl)
-
-pub sure_run : (status : ℕ) (old new : Outside) → RunsTo status old new → new.reads_failed ≡ 0 → new.writes_failed ≡ 0 → (Traded old.left new.left old.taken new.taken IsCut → ⊥)
-    → IsTrue (list_any (λ s. s == status) (0 ∷ 5 ∷ []))
-sure_run status old new runs no_read no_write uncut =
-    sure_status status runs.ending runs.told
-    (λ e. let rose : Rose old.reads_failed new.reads_failed = subst (λ (r : Result (Unit {0}) Stop). IsCaused r old new) e runs.run.cause in absurd (omega (arith, rose, no_read)))
-    (λ e. let rose : Rose old.writes_failed new.writes_failed = subst (λ (r : Result (Unit {0}) Stop). IsCaused r old new) e runs.run.cause in absurd (omega (arith, rose, no_write)))
-    (λ e. uncut (subst (λ (r : Result (Unit {0}) Stop). Traded old.left new.left old.taken new.taken (Ends new.ended r)) e runs.run.output))
-
--- a script in memory that was read to its end, and its transcript
-abbrev pub WholeOutput : List ℕ → Option (List ℕ) → Type 0
-WholeOutput script taken = (output : List ℕ) × (taken ≡ Some output) × Transcript script output
-
-whole_script : (script : List ℕ) (left new_left taken new_taken : Option (List ℕ)) → left ≡ Some script → taken ≡ Some [] → Traded left new_left taken new_taken (λ r w. IsWithin r × Transcript r w) → IsAtEnd new_left
-    → WholeOutput script new_taken
-whole_script script left None taken new_taken is empty t end = let none : Some script ≡ None = sym is ∙ t.left in absurd cc
-whole_script script left (Some rest) taken new_taken is empty t end =
+-- a script that is told and was read to its end has its transcript
+whole_script : (script : List ℕ) (left new_left taken new_taken : Option (List ℕ)) → left ≡ Some script → Traded left new_left taken new_taken (λ r w. IsWithin r × Transcript r w) → IsAtEnd new_left
+    → HasAll script taken new_taken
+whole_script script left None taken new_taken is t end = let none : Some script ≡ None = sym is ∙ t.left in absurd cc
+whole_script script left (Some rest) taken new_taken is t end =
     let whole : Some script ≡ Some (t.read ++ rest) = sym is ∙ t.left in
     let split : script ≡ t.read ++ rest = cc in
     let same : script ≡ t.read = split ∙ ap (λ (l : List ℕ). t.read ++ l) end ∙ append-nil t.read in
-    (t.written, rw empty at t.taken, subst (λ (s : List ℕ). Transcript s t.written) (sym same) t.holds.1)
+    record { output = t.written; taken = t.taken; transcript = subst (λ (s : List ℕ). Transcript s t.written) (sym same) t.holds.1 }
 
-pub whole_run : (script : List ℕ) (status : ℕ) (old new : Outside) (ending : Result (Unit {0}) Stop) → status ≡ status_of ending → HasRun ending old new → old.left ≡ Some script → old.taken ≡ Some [] → status ≡ 0 → WholeOutput script new.taken
-whole_run script status old new (Ok u) told run is empty zero = whole_script script old.left new.left old.taken new.taken is empty run.output run.cause.2
-whole_run script status old new (Err ReadFault) told run is empty zero = absurd (omega (arith, told, zero))
-whole_run script status old new (Err WriteFault) told run is empty zero = absurd (omega (arith, told, zero))
-whole_run script status old new (Err NoMemory) told run is empty zero = absurd (omega (arith, told, zero))
-whole_run script status old new (Err OverLimit) told run is empty zero = absurd (omega (arith, told, zero))
+complete_ending : (status : ℕ) (old new : Outside) (ending : Result (Unit {0}) Stop) → status ≡ status_of ending → HasRun ending old new
+    → (Rose old.reads_failed new.reads_failed → ⊥) → (Rose old.writes_failed new.writes_failed → ⊥) → (script : List ℕ) → old.left ≡ Some script → IsWithin script
+    → ((status ≡ 0) × HasAll script old.taken new.taken) ⊎ (status ≡ 5)
+complete_ending status old new (Ok u) told run no_read no_write script is within = inl (told, whole_script script old.left new.left old.taken new.taken is run.output run.cause.2)
+complete_ending status old new (Err ReadFault) told run no_read no_write script is within = absurd (no_read run.cause)
+complete_ending status old new (Err WriteFault) told run no_read no_write script is within = absurd (no_write run.cause)
+complete_ending status old new (Err NoMemory) told run no_read no_write script is within = inr told
+complete_ending status old new (Err OverLimit) told run no_read no_write script is within = absurd (no_cut script run.output.read run.output.written new.left within (sym is ∙ run.output.left) run.output.holds)
+
+pub complete_run : (status : ℕ) (old new : Outside) → RunsTo status old new → AnswersAll status old new
+complete_run status old new runs = complete_ending status old new runs.ending runs.told runs.run
+
+-- with status 0 a script that is told has its transcript
+whole_ending : (script : List ℕ) (status : ℕ) (old new : Outside) (ending : Result (Unit {0}) Stop) → status ≡ status_of ending → HasRun ending old new → old.left ≡ Some script → status ≡ 0 → HasAll script old.taken new.taken
+whole_ending script status old new (Ok u) told run is zero = whole_script script old.left new.left old.taken new.taken is run.output run.cause.2
+whole_ending script status old new (Err ReadFault) told run is zero = absurd (omega (arith, told, zero))
+whole_ending script status old new (Err WriteFault) told run is zero = absurd (omega (arith, told, zero))
+whole_ending script status old new (Err NoMemory) told run is zero = absurd (omega (arith, told, zero))
+whole_ending script status old new (Err OverLimit) told run is zero = absurd (omega (arith, told, zero))
+
+pub whole_run : (script : List ℕ) (status : ℕ) (old new : Outside) → RunsTo status old new → old.left ≡ Some script → status ≡ 0 → HasAll script old.taken new.taken
+whole_run script status old new runs = whole_ending script status old new runs.ending runs.told runs.run

@@ -1,7 +1,7 @@
 //! Standard input and output as the source and the sink of a run.
 //!
-//! They tell no content: what the terminal, a pipe or a file gives and takes is outside of every proof. Only the counts
-//! of their faults are told.
+//! They tell no content: what the terminal, a pipe or a file gives and takes is outside of every
+//! proof. Only the counts of their faults are told.
 ghost use Rattle.std.specs.Prelude.{◌≡◌, false, None};
 
 use mx_outside::{Failed, Sink, Source, WriteFailure};

@@ -4,6 +4,10 @@
 #[cfg(test)]
 mod guide;
 mod host;
+#[cfg(test)]
+mod limits;
+#[cfg(test)]
+mod models;
 mod sure;
 #[cfg(test)]
 mod tests;

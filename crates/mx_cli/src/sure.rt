@@ -1,19 +1,21 @@
-//! What the top call promises where nothing outside fails.
-ghost use Rattle.std.specs.Prelude.{◌≡◌, ◌∷◌, ◌==◌, [], IsTrue, List, ℕ};
-ghost use Rattle.std.specs.List.{list_any};
-ghost use Rattle.mx_run.specs.Transcript.{IsWithin, Transcript};
-ghost use Rattle.mx_cli.specs.Top.{IsRun};
+//! What the top call promises where nothing outside can fail.
+ghost use Rattle.std.specs.Prelude.{◌≡◌, ◌⊎◌};
+ghost use Rattle.mx_run.specs.Transcript.{IsWithin};
+ghost use Rattle.mx_cli.specs.Top.{IsRun, HasAll};
 
 use crate::mx_top;
 use mx_outside::{Sink, SureSink, SureSource};
 use std::alloc::Global;
 
-/// Answers a script in memory by the word `run`. Within the limits the status is 0 with the whole transcript, or 5 for want of memory.
+/// Answers a script in memory by the word `run`. Of a script within the limits the status is 0,
+/// with all of its answers, or 5 for want of memory.
 pub fn answer_script(alloc: Global, words: &Vec<String>, script: Vec<u8>, out: &mut SureSink) -> u8
     requires asked { IsRun words.now.items }
-    requires empty { ⟦<SureSink as Sink>⟧.taken out.old ≡ Some [] }
-    ensures whole { result ≡ 0 → (output : List ℕ) × (⟦<SureSink as Sink>⟧.taken out.new ≡ Some output) × Transcript script.items output }
-    ensures complete { IsWithin script.items → IsTrue (list_any (λ s. s == result) (0 ∷ 5 ∷ [])) }
+    ensures whole { let taken = ⟦<SureSink as Sink>⟧.taken in
+        result ≡ 0 → HasAll script.items (taken out.old) (taken out.new) }
+    ensures complete { let taken = ⟦<SureSink as Sink>⟧.taken in
+        IsWithin script.items →
+        ((result ≡ 0) × HasAll script.items (taken out.old) (taken out.new)) ⊎ (result ≡ 5) }
 {
     let mut source = SureSource::new(script);
     mx_top(alloc, words, &mut source, out)

@@ -63,14 +63,14 @@ fn a_chain_past_the_limit_is_too_deep_and_a_kept_value_breaks_it(
     answers(
         &rt,
         rt.alloc(),
-        b"cells f(n) = 0 if n == 0 else f(n - 1)\neval f(200)\neval f(199)\neval f(200)\n",
-        b"ok\ntoo deep at Main.f(0)\n= 0 runs 200\n= 0 runs 1\n",
+        b"limit 200\ncells f(n) = 0 if n == 0 else f(n - 1)\neval f(200)\neval f(199)\neval f(200)\n",
+        b"ok\nok\ntoo deep at Main.f(0)\n= 0 runs 200\n= 0 runs 1\n",
     )?;
     Ok(answers(
         &rt,
         rt.alloc(),
         b"cells f(n) = f(n - 1)\neval f(0)\n",
-        b"ok\ntoo deep at Main.f(-200)\n",
+        b"ok\ntoo deep at Main.f(-5000)\n",
     )?)
 }
 

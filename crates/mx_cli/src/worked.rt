@@ -6,7 +6,7 @@ use std::process::Abort;
 use std::test::Fail;
 
 /// Commands that are refused, with their places.
-const REFUSED: [(&[u8], &[u8]); 21] = [
+const REFUSED: [(&[u8], &[u8]); 14] = [
     (
         b"evall f(1)\neval f(1\ncells f(a) = a < 1 = 2\n",
         b"line 1: unknown word\nline 2: formula: unexpected at 3\nline 3: formula: unexpected at 12\n",
@@ -55,31 +55,6 @@ const REFUSED: [(&[u8], &[u8]); 21] = [
     (
         b"cells A.f(n) = n\ncells _f(n) = n\n",
         b"refused: NoSuchSpace\nrefused: BadName\n",
-    ),
-    (b"cells g(x) = x / 2\n", b"line 1: not built\n"),
-    (
-        b"cells g(x) = x ** 2\ncells g(x) = (x, 1)\ncells g(x) = 1.5\n",
-        b"line 1: not built\nline 2: not built\nline 3: not built\n",
-    ),
-    (
-        b"cells g(x) = abs(x)\ncells g(x) = x[0]\ncells g(x) = x.y\n",
-        b"line 1: not built\nline 2: not built\nline 3: not built\n",
-    ),
-    (
-        b"cells g(x) = y\ncells g(x) = x is None\ncells g(x) = x in x\n",
-        b"line 1: not built\nline 2: not built\nline 3: not built\n",
-    ),
-    (
-        b"cells g(x, k=\"a\") = x\neval g(\"a\")\neval g(1.0)\n",
-        b"line 1: not built\nline 2: not built\nline 3: not built\n",
-    ),
-    (
-        b"def g(x):\n    for i in x:\n        pass\n    return 1\n",
-        b"line 1: not built\n",
-    ),
-    (
-        b"cells f(x) = g(g(g(g(g(g(g(g(1 for a in x) for a in x) for a in x) for a in x) for a in x) for a in x) for a in x) for a in x)\n",
-        b"line 1: not built\n",
     ),
     (
         b"cells f(x) = g(g(g(g(g(g(g(g(g(1 for a in x) for a in x) for a in x) for a in x) for a in x) for a in x) for a in x) for a in x) for a in x)\n",
@@ -256,6 +231,128 @@ const CHAINED: [(&[u8], &[u8]); 5] = [
     ),
 ];
 
+/// Every word, in an order in which each has something to do.
+const EVERY_WORD: &[u8] = b"space Base
+ref Base.rate = 2
+global base_year = 2000
+cells Base.age(t) = t + rate
+def Base.due(t):
+    return age(t) + base_year
+space Term
+bases Term: Base
+order Term
+eval Term.due(1)
+precedents Term.due(1)
+precedents Term.age(1)
+succs Term.age(1)
+held
+held Term.due(1)
+held Base.due(1)
+clear cells Term.due
+eval Term.due(1)
+clear space Term
+clear node Term.due(1)
+clear all
+input Term.age(1) = 10
+eval Term.due(1)
+uninput Term.age(1)
+eval Term.due(1)
+params Term(k)
+eval Term[5].due(1)
+unparams Term
+allow Base.due
+disallow Base.due
+limit 0
+limit 2
+cells Base.f(n) = 0 if n == 0 else f(n - 1)
+eval Term.f(5)
+unref Base.rate
+eval Base.age(1)
+unglobal base_year
+uncells Base.f
+eval Base.f(0)
+order Other
+unspace Base
+bases Term
+unspace Base
+";
+
+const EVERY_ANSWER: &[u8] = b"ok
+ok
+ok
+ok
+ok
+ok
+ok
+order Term, Base
+= 2003 runs 2
+reads 2
+Term.age(1)
+global base_year
+reads 1
+ref Term.rate
+succs 1
+Term.due(1)
+held 2
+held
+not held
+cleared 1
+= 2003 runs 1
+cleared 2
+cleared 0
+cleared 0
+ok
+= 2010 runs 1
+ok
+= 2003 runs 2
+ok
+= 2003 runs 3
+ok
+ok
+ok
+refused: BadLimit
+ok
+ok
+too deep at Term.f(3)
+ok
+fault NoName at Base.age(1) line 1
+ok
+ok
+no such node
+refused: NoSuchSpace
+refused: InUse Term
+ok
+ok
+";
+
+/// Forms of the language beyond whole numbers and flags.
+const FORMS: [(&[u8], &[u8]); 6] = [
+    (
+        b"cells g(x) = x / 2\neval g(3)\ncells g(x) = x ** 2\neval g(3)\ncells g(x) = (x, 1.5)\neval g(3)\n",
+        b"ok\n= 1.5 runs 1\nok\n= 9 runs 1\nok\n= (3, 1.5) runs 1\n",
+    ),
+    (
+        b"cells g(x) = abs(x)\neval g(-2)\ncells g(x) = x[0]\neval g((7, 8))\ncells g(x) = x.y\neval g(1)\n",
+        b"ok\n= 2 runs 1\nok\n= 7 runs 1\nok\nfault TypeMismatch at Main.g(1) line 1\n",
+    ),
+    (
+        b"cells g(x) = x is None\neval g(None)\ncells g(x) = 2 in x\neval g((1, 2))\n",
+        b"ok\n= True runs 1\nok\n= True runs 1\n",
+    ),
+    (
+        b"cells g(x, k=\"a\") = x + k\neval g(\"b\")\neval g(1.0)\n",
+        b"ok\n= \"ba\" runs 1\nfault TypeMismatch at Main.g(1, \"a\") line 1\n",
+    ),
+    (
+        b"def g(x):\n    s = 0\n    for i in x:\n        s += i\n    return s\neval g((1, 2, 3))\n",
+        b"ok\n= 6 runs 1\n",
+    ),
+    (
+        b"cells f(x) = g(g(g(g(g(g(g(g(1 for a in x) for a in x) for a in x) for a in x) for a in x) for a in x) for a in x) for a in x)\n",
+        b"ok\n",
+    ),
+];
+
 pub(crate) fn answer_all(
     rt: &impl Abort,
     alloc: Global,
@@ -331,4 +428,14 @@ fn a_formula_with_all_its_lines_has_65536_bytes_at_most(rt: HostRuntime) -> Resu
     let alloc = rt.alloc();
     let output = b"line 1: formula: too long\n";
     Ok(answers(&rt, alloc, &with_comments(alloc, 40_000)?, output)?)
+}
+
+#[test]
+fn every_word_is_answered(rt: HostRuntime) -> Result<(), Fail> {
+    Ok(answers(&rt, rt.alloc(), EVERY_WORD, EVERY_ANSWER)?)
+}
+
+#[test]
+fn every_form_of_the_language_is_run(rt: HostRuntime) -> Result<(), Fail> {
+    answer_all(&rt, rt.alloc(), &FORMS)
 }

@@ -1,5 +1,7 @@
 pub mod Names
+pub mod Operators
 pub mod Expressions
 pub mod Statements
+pub mod Parts
 pub mod Pools
 pub mod Told

@@ -1,14 +1,14 @@
 //! The compiler.
-ghost use Rattle.std.specs.Prelude.{◌≡◌, ◌+◌, ◌++◌, ◌∷◌, [], List as Many, drop, get_or, length, map, reverse, take, true, IfOk, OnOk, OnErr, IsTrue, IfSome, ◌<◌};
+ghost use Rattle.std.specs.Prelude.{◌≡◌, max, ◌+◌, ◌++◌, ◌∷◌, [], List as Many, drop, get_or, length, map, reverse, take, true, IfOk, OnOk, OnErr, IsTrue, IfSome, ◌<◌};
 ghost use Rattle.mx_syntax.specs.Lists.{flat};
 ghost use Rattle.mx_syntax.specs.Locals.{add_all, bound_by, names_of};
 ghost use Rattle.mx_code.specs.Names.{numbered};
-ghost use Rattle.mx_code.specs.Statements.{code_of, scope_of};
+ghost use Rattle.mx_code.specs.Statements.{code_of, places_for, places_in, scope_of, size_of};
 ghost use Rattle.mx_code.specs.Pools.{is_in};
-ghost use Rattle.mx_code.specs.Told.{told, told_op};
+ghost use Rattle.mx_code.specs.Told.{told, told_action};
 
 use crate::action::{Action, Instr, Local};
-use crate::code::{Code, Op};
+use crate::code::{Code, Instruction};
 use crate::statements::{put_body, put_nothing};
 use mx_list::items::Items;
 use mx_syntax::height::first_line;
@@ -21,13 +21,14 @@ use std::alloc::{AllocError, Global};
 /// The code of a formula with these parameters and this body, or of a parameter list, whose body is
 /// empty where it has none.
 pub fn compile(alloc: Global, params: &[Param], body: &[Stmt]) -> Result<Code, AllocError>
-    ensures { IfOk result (λ c. (told c ≡ code_of params.now body.now) × (c.size ≡ length (scope_of params.now body.now))) }
+    ensures { IfOk result (λ c. (told c ≡ code_of params.now body.now) × (c.size ≡ size_of params.now body.now)) }
 {
     let scope = scope(alloc, params, body)?;
     let mut code = Vec::new(alloc);
     put_nothing(&mut code, 1)?;
     put_body(alloc, &mut code, scope.as_slice(), first_line(body), body)?;
-    packed(alloc, code.as_slice(), scope.len())
+    let size = places(code.as_slice(), scope.len())?;
+    packed(alloc, code.as_slice(), size)
 }
 
 /// The locals of a formula.
@@ -57,22 +58,48 @@ fn push_local(locals: &mut Vec<Local>, name: &Label) -> Result<(), AllocError>
     Ok(())
 }
 
+/// How many places instructions need, that were put from the last to the first, or as many as are in
+/// scope.
+fn places(code: &[Instr], scope: usize) -> Result<usize, AllocError>
+    ensures { IfOk result (λ count. count ≡ max scope (places_in (reverse code.now))) }
+{
+    let mut count = scope;
+    for i in (0..code.len()).rev() {
+        let needed = places_for(&code[i].action)?;
+        count = count.max(needed);
+    }
+    Ok(count)
+}
+
+/// How many places an instruction needs.
+fn places_for(action: &Action) -> Result<usize, AllocError>
+    ensures { IfOk result (λ count. count ≡ places_for action.now) }
+{
+    let Action::NextItem(place, _) = action else {
+        return Ok(0);
+    };
+    match place.checked_add(1) {
+        Some(count) => Ok(count),
+        None => Err(AllocError),
+    }
+}
+
 /// Instructions that were put from the last to the first, packed.
 fn packed(alloc: Global, code: &[Instr], size: usize) -> Result<Code, AllocError>
     ensures { IfOk result (λ c. (told c ≡ reverse code.now) × (c.size ≡ size)) }
 {
-    let mut ops = Items::with_capacity(alloc, code.len())?;
+    let mut instructions = Items::with_capacity(alloc, code.len())?;
     let mut lines = Items::with_capacity(alloc, code.len())?;
     let mut constants = Items::new(alloc);
     let mut names = Items::new(alloc);
     for i in (0..code.len()).rev() {
         let instr = &code[i];
-        let op = pack(alloc, &mut constants, &mut names, &instr.action)?;
-        ops.push(op)?;
+        let instruction = pack(alloc, &mut constants, &mut names, &instr.action)?;
+        instructions.push(instruction)?;
         lines.push(instr.line)?;
     }
     Ok(Code {
-        ops,
+        instructions,
         lines,
         constants,
         names,
@@ -86,33 +113,46 @@ fn pack(
     constants: &mut Items<Value>,
     names: &mut Items<Label>,
     action: &Action,
-) -> Result<Op, AllocError>
-    ensures told { IfOk result (λ o. told_op constants.new names.new o ≡ action.now) }
+) -> Result<Instruction, AllocError>
+    ensures told { IfOk result (λ o. told_action constants.new names.new o ≡ action.now) }
     ensures in_pools { IfOk result (λ o. IsTrue (is_in (length constants.new) (length names.new) o)) }
     ensures constants { take (length constants.old) constants.new ≡ constants.old }
     ensures names { take (length names.old) names.new ≡ names.old }
 {
     match action {
-        Action::Const(value) => Ok(Op::Const(constant(alloc, constants, value)?)),
-        Action::Local(place) => Ok(Op::Local(*place)),
-        Action::Name(name) => Ok(Op::Name(pooled(names, name)?)),
-        Action::Check(name) => Ok(Op::Check(pooled(names, name)?)),
-        Action::CallName(name, count) => Ok(Op::CallName(pooled(names, name)?, *count)),
-        Action::Call(count) => Ok(Op::Call(*count)),
-        Action::Sum(op) => Ok(Op::Sum(*op)),
-        Action::Product(op) => Ok(Op::Product(*op)),
-        Action::Sign(sign) => Ok(Op::Sign(*sign)),
-        Action::Not(count) => Ok(Op::Not(*count)),
-        Action::Compare(op) => Ok(Op::Compare(*op)),
-        Action::Chain(op, count) => Ok(Op::Chain(*op, *count)),
-        Action::Jump(count) => Ok(Op::Jump(*count)),
-        Action::JumpUnless(count) => Ok(Op::JumpUnless(*count)),
-        Action::AndJump(count) => Ok(Op::AndJump(*count)),
-        Action::OrJump(count) => Ok(Op::OrJump(*count)),
-        Action::Pop => Ok(Op::Pop),
-        Action::Store(place) => Ok(Op::Store(*place)),
-        Action::Return => Ok(Op::Return),
-        Action::Fail(kind) => Ok(Op::Fail(*kind)),
+        Action::Const(value) => Ok(Instruction::Const(constant(alloc, constants, value)?)),
+        Action::Local(x) => Ok(Instruction::Local(*x)),
+        Action::Name(name) => Ok(Instruction::Name(pooled(names, name)?)),
+        Action::Callee(name) => Ok(Instruction::Callee(pooled(names, name)?)),
+        Action::Tuple(x) => Ok(Instruction::Tuple(*x)),
+        Action::Unary(x) => Ok(Instruction::Unary(*x)),
+        Action::Binary(x) => Ok(Instruction::Binary(*x)),
+        Action::Not(x) => Ok(Instruction::Not(*x)),
+        Action::Compare(x) => Ok(Instruction::Compare(*x)),
+        Action::Chain(x, count) => Ok(Instruction::Chain(*x, *count)),
+        Action::IsNone(x) => Ok(Instruction::IsNone(*x)),
+        Action::ChainNone(x, count) => Ok(Instruction::ChainNone(*x, *count)),
+        Action::Jump(x) => Ok(Instruction::Jump(*x)),
+        Action::JumpUnless(x) => Ok(Instruction::JumpUnless(*x)),
+        Action::Decide(x, count) => Ok(Instruction::Decide(*x, *count)),
+        Action::Pop => Ok(Instruction::Pop),
+        Action::Attr(name) => Ok(Instruction::Attr(pooled(names, name)?)),
+        Action::Index(x) => Ok(Instruction::Index(*x)),
+        Action::Call(x) => Ok(Instruction::Call(*x)),
+        Action::Gather => Ok(Instruction::Gather),
+        Action::Iterate => Ok(Instruction::Iterate),
+        Action::NextItem(x, count) => Ok(Instruction::NextItem(*x, *count)),
+        Action::BackUnless(x) => Ok(Instruction::BackUnless(*x)),
+        Action::Collect(x) => Ok(Instruction::Collect(*x)),
+        Action::Made => Ok(Instruction::Made),
+        Action::Back(x) => Ok(Instruction::Back(*x)),
+        Action::Store(x) => Ok(Instruction::Store(*x)),
+        Action::Display => Ok(Instruction::Display),
+        Action::Refer(name) => Ok(Instruction::Refer(pooled(names, name)?)),
+        Action::Base => Ok(Instruction::Base),
+        Action::ReturnDisplay => Ok(Instruction::ReturnDisplay),
+        Action::Return => Ok(Instruction::Return),
+        Action::Fail(x) => Ok(Instruction::Fail(*x)),
     }
 }
 

@@ -1,6 +1,6 @@
 //! Formulas and parameter lists with their code beside them.
 ghost use Rattle.std.specs.Prelude.{◌≡◌, length, IfOk};
-ghost use Rattle.mx_code.specs.Statements.{body_of, code_of, scope_of};
+ghost use Rattle.mx_code.specs.Statements.{body_of, code_of, size_of};
 ghost use Rattle.mx_code.specs.Told.{told};
 
 use crate::code::Code;
@@ -23,7 +23,7 @@ impl Model for Compiled {
     ghost use Rattle.mx_value.specs.contracts.value.Value as value;
     ghost use Rattle.mx_syntax.specs.contracts.stmt.Stmt as stmt;
     ghost use Rattle.mx_syntax.specs.declared.stmt.Formula.{Formula};
-    ghost use Rattle.mx_code.specs.Statements.{code_of, scope_of};
+    ghost use Rattle.mx_code.specs.Statements.{code_of, size_of};
     ghost use Rattle.mx_code.specs.Told.{told};
 
     ghost Value = { Formula };
@@ -32,7 +32,7 @@ impl Model for Compiled {
 
     ghost view = { λ c. c.formula };
 
-    ghost invariant = { λ c. (told c.code ≡ code_of c.formula.params c.formula.body) × (c.code.size ≡ length (scope_of c.formula.params c.formula.body)) };
+    ghost invariant = { λ c. (told c.code ≡ code_of c.formula.params c.formula.body) × (c.code.size ≡ size_of c.formula.params c.formula.body) };
 }
 
 impl Compiled {
@@ -57,14 +57,14 @@ impl Compiled {
     /// The code of the formula.
     pub fn code(&self) -> &Code
         ensures told { told result.now ≡ code_of self.now.params self.now.body }
-        ensures size { result.now.size ≡ length (scope_of self.now.params self.now.body) }
+        ensures size { result.now.size ≡ size_of self.now.params self.now.body }
     {
         self.code.get()
     }
 
     /// The code of the formula, shared.
     pub fn share_code(&self) -> Result<Shared<Code>, AllocError>
-        ensures { IfOk result (λ c. (told c ≡ code_of self.now.params self.now.body) × (c.size ≡ length (scope_of self.now.params self.now.body))) }
+        ensures { IfOk result (λ c. (told c ≡ code_of self.now.params self.now.body) × (c.size ≡ size_of self.now.params self.now.body)) }
     {
         self.code.copy()
     }
@@ -97,7 +97,7 @@ impl Model for CompiledParams {
     ghost use Rattle.mx_value.specs.contracts.value.Value as value;
     ghost use Rattle.mx_syntax.specs.contracts.stmt.Stmt as stmt;
     ghost use Rattle.mx_syntax.specs.declared.stmt.Params.{Params};
-    ghost use Rattle.mx_code.specs.Statements.{body_of, code_of, scope_of};
+    ghost use Rattle.mx_code.specs.Statements.{body_of, code_of, size_of};
     ghost use Rattle.mx_code.specs.Told.{told};
 
     ghost Value = { Params };
@@ -106,7 +106,7 @@ impl Model for CompiledParams {
 
     ghost view = { λ c. c.params };
 
-    ghost invariant = { λ c. (told c.code ≡ code_of c.params.params (body_of c.params.body)) × (c.code.size ≡ length (scope_of c.params.params (body_of c.params.body))) };
+    ghost invariant = { λ c. (told c.code ≡ code_of c.params.params (body_of c.params.body)) × (c.code.size ≡ size_of c.params.params (body_of c.params.body)) };
 }
 
 /// The statements of a parameter list.
@@ -141,9 +141,16 @@ impl CompiledParams {
     /// The code of the formula of the items.
     pub fn code(&self) -> &Code
         ensures told { told result.now ≡ code_of self.now.params (body_of self.now.body) }
-        ensures size { result.now.size ≡ length (scope_of self.now.params (body_of self.now.body)) }
+        ensures size { result.now.size ≡ size_of self.now.params (body_of self.now.body) }
     {
         self.code.get()
+    }
+
+    /// The code of the formula of the items, shared.
+    pub fn share_code(&self) -> Result<Shared<Code>, AllocError>
+        ensures { IfOk result (λ c. (told c ≡ code_of self.now.params (body_of self.now.body)) × (c.size ≡ size_of self.now.params (body_of self.now.body))) }
+    {
+        self.code.copy()
     }
 
     /// The same parameters and code, shared.

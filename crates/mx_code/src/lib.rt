@@ -1,9 +1,11 @@
-//! Formulas as flat lists of instructions: what the code of a formula is, and the compiler that makes exactly it.
+//! Formulas as flat lists of instructions, for every form of expression and statement: what the code of a formula is, and
+//! the compiler that makes exactly it.
 #![tactic(auto)]
 
 pub mod action;
 pub mod code;
 pub mod compile;
 pub mod compiled;
+mod emit;
 mod expressions;
 mod statements;

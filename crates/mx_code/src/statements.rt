@@ -1,16 +1,21 @@
 //! From statements to instructions, from the last to the first.
-ghost use Rattle.std.specs.Prelude.{◌≡◌, ◌+◌, ◌-◌, ◌^◌, ◌++◌, ◌∷◌, ℕ, List as Many, map, min, length, reverse, IfOk, OnOk};
+ghost use Rattle.std.specs.Prelude.{◌≡◌, ◌+◌, ◌-◌, ◌^◌, ◌++◌, ◌∷◌, ℕ, List as Many, false, map, min, length, reverse, IfOk, OnOk, Option as Maybe};
+ghost use Rattle.mx_syntax.specs.declared.stmt.Stmt.{Stmt as Stmts};
 ghost use Rattle.mx_syntax.specs.Heights as spec;
 ghost use Rattle.mx_code.specs.declared.action.Instr.{Instr};
 ghost use Rattle.mx_code.specs.Names.{place_of};
-ghost use Rattle.mx_code.specs.Expressions.{at, not_built};
-ghost use Rattle.mx_code.specs.Statements.{store_action, change_action, nothing_code, return_code, assign_code, body_code, branches_code, stmt_code, coded, arm_coded};
+ghost use Rattle.mx_code.specs.Operators.{change_op};
+ghost use Rattle.mx_code.specs.Expressions.{at, Coded};
+ghost use Rattle.mx_code.specs.Statements.{store_action, nothing_code, refs_code, entries_code, return_code, display_code, assign_code, turns_code, body_code, other_code, branches_code, stmt_code, coded};
+ghost use Rattle.mx_code.specs.Parts.{arm_coded};
 
 use crate::action::{Action, Instr, Local};
-use crate::expressions::{place, put, put_expr, put_name, since};
-use mx_syntax::expr::{Expr, ProductOp, SumOp};
+use crate::emit::{place, put, put_block, put_name, since, way_back};
+use crate::expressions::put_part;
+use mx_ops::op::Op;
+use mx_syntax::expr::Expr;
 use mx_syntax::height::{arm_height, arms_height, body_height, height};
-use mx_syntax::stmt::{ArithOp, IfArm, Stmt};
+use mx_syntax::stmt::{ArithOp, IfArm, ItemEntry, Stmt};
 use mx_value::fault::FaultKind;
 use mx_value::label::Label;
 use mx_value::value::Value;
@@ -59,13 +64,6 @@ fn put_store(
     }
 }
 
-/// A form that is not built.
-fn put_failing(code: &mut Vec<Instr>, line: u32) -> Result<(), AllocError>
-    ensures { OnOk result (reverse code.new.items ≡ not_built line ++ reverse code.old.items) }
-{
-    put(code, line, Action::Fail(FaultKind::TypeMismatch))
-}
-
 /// A return of a value, or of None.
 fn put_return(
     alloc: Global,
@@ -80,9 +78,64 @@ fn put_return(
         None => put_nothing(code, line),
         Some(value) => {
             put(code, line, Action::Return)?;
-            put_expr(alloc, code, scope, line, value)
+            put_part(alloc, code, scope, line, value, false)
         }
     }
+}
+
+/// References of a display, from the left.
+fn put_refs(
+    alloc: Global,
+    code: &mut Vec<Instr>,
+    scope: &[Local],
+    line: u32,
+    refs: &[(Label, Expr)],
+) -> Result<(), AllocError>
+    ensures { OnOk result (reverse code.new.items ≡ refs_code refs.now scope.now line ++ reverse code.old.items) }
+{
+    for i in (0..refs.len()).rev() {
+        let named = &refs[i];
+        put(code, line, Action::Refer(named.0.copy()?))?;
+        put_part(alloc, code, scope, line, &named.1, false)?;
+    }
+    Ok(())
+}
+
+/// The entries of a display, from the left.
+fn put_entries(
+    alloc: Global,
+    code: &mut Vec<Instr>,
+    scope: &[Local],
+    line: u32,
+    entries: &[ItemEntry],
+) -> Result<(), AllocError>
+    ensures { OnOk result (reverse code.new.items ≡ entries_code entries.now scope.now line ++ reverse code.old.items) }
+{
+    for i in (0..entries.len()).rev() {
+        match &entries[i] {
+            ItemEntry::Refs(refs) => put_refs(alloc, code, scope, line, refs.as_slice())?,
+            ItemEntry::Base(base) => {
+                put(code, line, Action::Base)?;
+                put_part(alloc, code, scope, line, base, false)?;
+            }
+        }
+    }
+    Ok(())
+}
+
+/// A return of a display.
+fn put_display(
+    alloc: Global,
+    code: &mut Vec<Instr>,
+    scope: &[Local],
+    line: u32,
+    entries: &[ItemEntry],
+) -> Result<(), AllocError>
+    ensures { OnOk result (reverse code.new.items ≡ display_code entries.now scope.now line ++ reverse code.old.items) }
+{
+    put(code, line, Action::ReturnDisplay)?;
+    put_entries(alloc, code, scope, line, entries)?;
+    put(code, line, Action::Display)
 }
 
 /// A value for a local.
@@ -97,18 +150,39 @@ fn put_assign(
     ensures { OnOk result (reverse code.new.items ≡ assign_code name.now value.now scope.now line ++ reverse code.old.items) }
 {
     put_store(code, scope, line, name)?;
-    put_expr(alloc, code, scope, line, value)
+    put_part(alloc, code, scope, line, value, false)
 }
 
-/// What a statement that changes a local does to it.
-fn put_change(code: &mut Vec<Instr>, line: u32, op: ArithOp) -> Result<(), AllocError>
-    ensures { OnOk result (reverse code.new.items ≡ at line (change_action op) ∷ reverse code.old.items) }
+/// What a statement does to the local that it changes.
+fn changing(op: ArithOp) -> Op
+    ensures { result ≡ change_op op }
 {
     match op {
-        ArithOp::Add => put(code, line, Action::Sum(SumOp::Plus)),
-        ArithOp::Sub => put(code, line, Action::Sum(SumOp::Minus)),
-        ArithOp::Mul => put(code, line, Action::Product(ProductOp::Times)),
+        ArithOp::Add => Op::Add,
+        ArithOp::Sub => Op::Sub,
+        ArithOp::Mul => Op::Mul,
     }
+}
+
+/// The turns of a loop: for each item these instructions, which were put into a vector of their own.
+fn put_turns(
+    code: &mut Vec<Instr>,
+    scope: &[Local],
+    line: u32,
+    name: &Label,
+    body: Vec<Instr>,
+) -> Result<(), AllocError>
+    ensures { OnOk result (reverse code.new.items ≡ turns_code (place_of scope.now name.now) line (reverse body.items) ++ reverse code.old.items) }
+{
+    let Some(place) = place(scope, name) else {
+        return put(code, line, Action::Fail(FaultKind::TypeMismatch));
+    };
+    let end = code.len();
+    let back = way_back(&body)?;
+    put(code, line, Action::Back(back))?;
+    put_block(code, body)?;
+    let passed = since(code, end);
+    put(code, line, Action::NextItem(place, passed))
 }
 
 /// The statements of a body, the first at the line.
@@ -145,13 +219,13 @@ fn put_stmt(
     match stmt {
         Stmt::Pass => Ok(()),
         Stmt::Return(value) => put_return(alloc, code, scope, line, value),
-        Stmt::ReturnItem(_) => put_failing(code, line),
+        Stmt::ReturnItem(entries) => put_display(alloc, code, scope, line, entries.as_slice()),
         Stmt::Assign(name, value) => put_assign(alloc, code, scope, line, name, value),
         Stmt::Change(name, op, value) => {
             put_store(code, scope, line, name)?;
-            put_change(code, line, *op)?;
-            put_expr(alloc, code, scope, line, value)?;
-            put_name(code, scope, line, name)
+            put(code, line, Action::Binary(changing(*op)))?;
+            put_part(alloc, code, scope, line, value, false)?;
+            put_name(code, scope, line, name, false)
         }
         Stmt::If { arms, other } => {
             let end = code.len();
@@ -164,7 +238,14 @@ fn put_stmt(
                 }
             }
         }
-        Stmt::For { .. } => put_failing(code, line),
+        Stmt::For { name, over, body } => {
+            let mut turns = Vec::new(alloc);
+            let inner = line_below(line, 1)?;
+            put_body(alloc, &mut turns, scope, inner, body.as_slice())?;
+            put_turns(code, scope, line, name, turns)?;
+            put(code, line, Action::Iterate)?;
+            put_part(alloc, code, scope, line, over, false)
+        }
     }
 }
 
@@ -178,7 +259,7 @@ fn put_branches(
     arms: &[IfArm],
     end: usize,
 ) -> Result<(), AllocError>
-    ensures { (other below : Many Instr) → reverse code.old.items ≡ other ++ below → length below ≡ end →
+    ensures { (other : Maybe (Many (Stmts × Coded))) (below : Many Instr) → reverse code.old.items ≡ other_code other scope.now (line + spec.arms_height arms.now) ++ below → length below ≡ end →
         OnOk result (reverse code.new.items ≡ branches_code (map arm_coded arms.now) other scope.now line ++ below) }
 {
     let mut head = line_below(line, arms_height(arms))?;
@@ -197,7 +278,7 @@ fn put_branches(
         )?;
         let given = since(code, below);
         put(code, head, Action::JumpUnless(given))?;
-        put_expr(alloc, code, scope, head, &arm.test)?;
+        put_part(alloc, code, scope, head, &arm.test, false)?;
     }
     Ok(())
 }

@@ -1,111 +1,184 @@
 -- Each form of statement, by its parts.
-use Rattle.std.proofs.Common.{◌≡◌, ℕ, ◌+◌, List, [], ◌∷◌, ◌++◌, length, Option, Some, None, Bool, true, false, refl, ap, ◌∙◌, arith, length-append}
-use Rattle.std.specs.Prelude.{slice_get, if◌then◌else◌}
+use Rattle.std.proofs.Common.{◌≡◌, ℕ, ◌+◌, ◌-◌, List, [], ◌∷◌, ◌++◌, length, map, Option, Some, None, refl, sym, ap, ◌∙◌, subst, arith, length-append, false}
+use Rattle.std.specs.Prelude.{slice_get, slice_set}
 use Rattle.mx_value.specs.declared.label.Label.{Label}
 use Rattle.mx_value.specs.declared.value.Value.{Value}
 use Rattle.mx_value.specs.declared.value.Value.TheVariants.{Nothing}
-use Rattle.mx_value.specs.declared.fault.FaultKind.TheVariants.{TypeMismatch, NoneReturned}
 use Rattle.mx_syntax.specs.declared.expr.Expr.{Expr}
 use Rattle.mx_syntax.specs.declared.stmt.ArithOp.{ArithOp}
-use Rattle.mx_syntax.specs.declared.stmt.ArithOp.TheVariants as arith_ops
-use Rattle.mx_meaning.specs.Runs.{Run, Ends, Gives, Faults, Env, Reading, fault, computed, gives}
-use Rattle.mx_meaning.specs.Operators.{truth, changed}
-use Rattle.mx_meaning.specs.Expressions.{reading, named, tested}
-use Rattle.mx_meaning.specs.Statements.{Doing, ended, set_local, at_line}
+use Rattle.mx_syntax.specs.declared.stmt.ArithOp.TheVariants as arithmetic
+use Rattle.mx_syntax.specs.declared.stmt.ItemEntry.{ItemEntry}
+use Rattle.mx_syntax.specs.declared.stmt.ItemEntry.TheVariants as entry
+use Rattle.mx_ops.specs.Kinds.{items_of}
+use Rattle.mx_ops.specs.Truth.{truth}
+use Rattle.mx_runs.specs.Runs.{Run}
+use Rattle.mx_meaning.specs.Namespaces.{Overlay}
+use Rattle.mx_meaning.specs.Environments.{Env, Locals, Reading, computed, tested, set_in, with_local, at_line}
+use Rattle.mx_meaning.specs.Lookup.{named, valued}
+use Rattle.mx_meaning.specs.Operations.{changing, of_two}
+use Rattle.mx_meaning.specs.Expressions.{reading, values_beside, items_or_fault}
+use Rattle.mx_meaning.specs.Statements.{Returned, Plain, Display, Doing, Done, named_reading, displayed_from, done_from, looped_from}
 use Rattle.mx_code.specs.declared.action.Instr.{Instr}
 use Rattle.mx_code.specs.declared.action.Local.{Local}
 use Rattle.mx_code.specs.declared.action.Action.TheVariants as act
 use Rattle.mx_code.specs.Names.{place_of}
-use Rattle.mx_code.specs.Expressions.{at, name_code, expr_code, choice_code, not_built}
-use Rattle.mx_code.specs.Statements.{store_action, change_action, nothing_code, return_code, assign_code, change_code}
-use Rattle.mx_code_law.specs.Machine.{Home, state, next_of, End, Fault, return_next, computed_next, Leads, Does, Ended}
-use Rattle.mx_code_law.specs.Fits.{HasAt, IsScope, Stands, Fits}
-use Rattle.mx_code_law.specs.Done.{DoesFit}
+use Rattle.mx_code.specs.Operators.{change_op}
+use Rattle.mx_code.specs.Expressions.{at, name_code, choice_code, rounds_code, expr_code}
+use Rattle.mx_code.specs.Statements.{store_action, nothing_code, refs_code, entries_code, return_code, display_code, assign_code, change_code, turns_code}
+use Rattle.mx_code_law.specs.States.{Slot, Holds, Items, Shown, state, On, Home}
+use Rattle.mx_code_law.specs.Machine.{Does}
+use Rattle.mx_code_law.specs.Fits.{HasAt, IsScope, Stands, here, Fits, Returns, DoesFit}
 use Rattle.mx_code_law.proofs.Places.{has_front, has_back}
 use Rattle.mx_code_law.proofs.Locals.{stands_set}
-use Rattle.mx_code_law.proofs.Steps.{acts, went, failed, computes, tests, moved}
-use Rattle.mx_code_law.proofs.Calls.{name_fits}
+use Rattle.mx_code_law.proofs.Steps.{acts, went, computes, tests, moved}
+use Rattle.mx_code_law.proofs.Generators.{iterates}
+use Rattle.mx_code_law.proofs.Names.{name_fits}
 use Rattle.mx_code_law.proofs.Trees.{expr_fits}
 
--- the same locals at another line
-pub stands_at : (w : Home) (size : ℕ) (scope : List Local) (env : Env) (ls : List (Option Value)) (line : ℕ) → Stands w size scope env ls → Stands w size scope (at_line line env) ls
-stands_at w size scope env ls line st = record { is = st.is; long = st.long; own = st.own; space = st.space; source = st.source }
+same_change : (o : ArithOp) → changing o ≡ change_op o
+same_change arithmetic.Add = refl
+same_change arithmetic.Sub = refl
+same_change arithmetic.Mul = refl
 
-module _ (code : List Instr) (w : Home) (size : ℕ) where
-  returned : (v : Value) → Leads code w (return_next w v) (ended w.allow w.node v)
-  returned Nothing = nothing w.allow
-    where
-      nothing : (b : Bool) → Leads code w (if b then End (Gives (record { value = Nothing; namespace = None })) else Fault w NoneReturned 1) (if b then gives Nothing else Ends (Faults NoneReturned w.node 1))
-      nothing true = Ended _
-      nothing false = Ended _
-  returned v = Ended _
+module _ (code : List Instr) (h : Home) (size : ℕ) where
+  -- ---- returns
 
-  return_does : (line pc : ℕ) (stack : List Value) (ls : List (Option Value)) (v : Value) → slice_get code pc ≡ Some (at line act.Return) → Does code w (state pc (v ∷ stack) ls) (ended w.allow w.node v)
-  return_does line pc stack ls v h = acts code w (state pc (v ∷ stack) ls) (at line act.Return) _ _ h refl (returned v)
+  pub return_does : (line pc : ℕ) (stack : List Slot) (ls : List (Option Value)) (v : Value) (back : Returned → Run) → Returns code h back → slice_get code pc ≡ Some (at line act.Return) → Does code h (state pc (Holds v ∷ stack) ls) (back (Plain v))
+  return_does line pc stack ls v back r has = acts code h (state pc (Holds v ∷ stack) ls) (at line act.Return) _ _ has refl (r (Plain v))
 
-  pub nothing_does : (line pc : ℕ) (stack : List Value) (ls : List (Option Value)) → HasAt code pc (nothing_code line) → Does code w (state pc stack ls) (ended w.allow w.node Nothing)
-  nothing_does line pc stack ls has = went code w (state pc stack ls) (state (pc + 1) (Nothing ∷ stack) ls) (at line (act.Const Nothing)) _ has.0 refl (return_does line (pc + 1) stack ls Nothing has.1.0)
+  pub nothing_does : (line pc : ℕ) (stack : List Slot) (ls : List (Option Value)) (back : Returned → Run) → Returns code h back → HasAt code size pc (nothing_code line) → Does code h (state pc stack ls) (back (Plain Nothing))
+  nothing_does line pc stack ls back r has = went code h (state pc stack ls) (state (pc + 1) (Holds Nothing ∷ stack) ls) (at line (act.Const Nothing)) _ has.0 refl (return_does line (pc + 1) stack ls Nothing back r has.2.0)
 
-  pub return_fits : (e : Option Expr) (scope : List Local) (line : ℕ) → IsScope size scope → DoesFit code w size scope (return_code e scope line) (λ env after back. elim e as (λ e. Run) [ None ↦ back Nothing | Some x ↦ reading x (at_line line env) back ])
-  return_fits None scope line sc pc stack ls env after has st k = nothing_does line pc stack ls has
-  return_fits (Some e) scope line sc pc stack ls env after has st k =
+  pub nothing_fits : (scope : List Local) (line : ℕ) → DoesFit code h size scope (nothing_code line) (λ env after back. back (Plain Nothing))
+  nothing_fits scope line pc stack ls l locals after back has st r k = nothing_does line pc stack ls back r has
+
+  pub returns_fit : (e : Expr) (scope : List Local) (line : ℕ) → IsScope scope → DoesFit code h size scope (return_code (Some e) scope line) (λ env after back. reading e (at_line line env) (λ v. back (Plain v)))
+  returns_fit e scope line sc pc stack ls l locals after back has st r k =
       let c = expr_code e scope line in
-      (expr_fits code w size e).0 scope line sc pc stack ls (at_line line env) _ (has_front code pc c _ has) (stands_at w size scope env ls line st) refl (λ v ms sm. return_does line (pc + length c) stack ms v (has_back code pc c _ has).0)
+      expr_fits code h size e scope line sc pc stack ls locals _ (has_front code size pc c _ has) st (λ v ms sm. return_does line (pc + length c) stack ms v back r (has_back code size pc c _ has).0)
+
+  -- ---- displays
+
+  refs_fit : (more : List (Label × Expr)) (scope : List Local) (line : ℕ) → IsScope scope → (refs : Overlay) (base : Option Value) (pc : ℕ) (stack : List Slot) (ls : List (Option Value)) (locals : Locals) (go : Overlay → Run) → HasAt code size pc (refs_code more scope line) → Stands size scope locals ls
+      → ((all : Overlay) (ms : List (Option Value)) → Stands size scope locals ms → Does code h (state (pc + length (refs_code more scope line)) (Shown all base ∷ stack) ms) (go all))
+      → Does code h (state pc (Shown refs base ∷ stack) ls) (values_beside (map named_reading more) refs (here h line locals) go)
+  refs_fit [] scope line sc refs base pc stack ls locals go has st k = moved code h _ _ (Shown refs base ∷ stack) ls (go refs) (omega arith) (k refs ls st)
+  refs_fit (x ∷ more) scope line sc refs base pc stack ls locals go has st k =
+      let c = expr_code x.1 scope line in
+      let n = pc + length c in
+      let hb = has_back code size pc c _ has in
+      let end : n + 1 + length (refs_code more scope line) ≡ pc + length (refs_code (x ∷ more) scope line) = omega (arith, length-append c (at line (act.Refer x.0) ∷ refs_code more scope line)) in
+      expr_fits code h size x.1 scope line sc pc (Shown refs base ∷ stack) ls locals _ (has_front code size pc c _ has) st (λ v ms sm.
+      went code h (state n (Holds v ∷ Shown refs base ∷ stack) ms) (state (n + 1) (Shown (refs ++ (x.0, v) ∷ []) base ∷ stack) ms) (at line (act.Refer x.0)) _ hb.0 refl
+      (refs_fit more scope line sc (refs ++ (x.0, v) ∷ []) base (n + 1) stack ms locals go hb.2 sm (λ all ns sn. moved code h _ _ (Shown all base ∷ stack) ns (go all) end (k all ns sn))))
+
+  entries_fit : (entries : List ItemEntry) (scope : List Local) (line : ℕ) → IsScope scope → (refs : Overlay) (base : Option Value) (pc : ℕ) (stack : List Slot) (ls : List (Option Value)) (locals : Locals) (back : Returned → Run) → HasAt code size pc (entries_code entries scope line) → Stands size scope locals ls
+      → ((all : Overlay) (b : Option Value) (ms : List (Option Value)) → Stands size scope locals ms → Does code h (state (pc + length (entries_code entries scope line)) (Shown all b ∷ stack) ms) (back (Display all b)))
+      → Does code h (state pc (Shown refs base ∷ stack) ls) (displayed_from entries refs base (here h line locals) back)
+  entries_fit [] scope line sc refs base pc stack ls locals back has st k = moved code h _ _ (Shown refs base ∷ stack) ls (back (Display refs base)) (omega arith) (k refs base ls st)
+  entries_fit (entry.Refs more ∷ entries) scope line sc refs base pc stack ls locals back has st k =
+      let c = refs_code more scope line in
+      let rest = entries_code entries scope line in
+      let end : pc + length c + length rest ≡ pc + length (entries_code (entry.Refs more ∷ entries) scope line) = omega (arith, length-append c rest) in
+      refs_fit more scope line sc refs base pc stack ls locals _ (has_front code size pc c _ has) st (λ all ms sm.
+      entries_fit entries scope line sc all base (pc + length c) stack ms locals back (has_back code size pc c _ has) sm (λ a b ns sn. moved code h _ _ (Shown a b ∷ stack) ns (back (Display a b)) end (k a b ns sn)))
+  entries_fit (entry.Base e ∷ entries) scope line sc refs base pc stack ls locals back has st k =
+      let c = expr_code e scope line in
+      let n = pc + length c in
+      let rest = entries_code entries scope line in
+      let hb = has_back code size pc c _ has in
+      let end : n + 1 + length rest ≡ pc + length (entries_code (entry.Base e ∷ entries) scope line) = omega (arith, length-append c (at line act.Base ∷ rest)) in
+      expr_fits code h size e scope line sc pc (Shown refs base ∷ stack) ls locals _ (has_front code size pc c _ has) st (λ v ms sm.
+      went code h (state n (Holds v ∷ Shown refs base ∷ stack) ms) (state (n + 1) (Shown refs (Some v) ∷ stack) ms) (at line act.Base) _ hb.0 refl
+      (entries_fit entries scope line sc refs (Some v) (n + 1) stack ms locals back hb.2 sm (λ a b ns sn. moved code h _ _ (Shown a b ∷ stack) ns (back (Display a b)) end (k a b ns sn))))
+
+  pub displays_fit : (entries : List ItemEntry) (scope : List Local) (line : ℕ) → IsScope scope → DoesFit code h size scope (display_code entries scope line) (λ env after back. displayed_from entries [] None (at_line line env) back)
+  displays_fit entries scope line sc pc stack ls l locals after back has st r k =
+      let c = entries_code entries scope line in
+      went code h (state pc stack ls) (state (pc + 1) (Shown [] None ∷ stack) ls) (at line act.Display) _ has.0 refl
+      (entries_fit entries scope line sc [] None (pc + 1) stack ls locals back (has_front code size (pc + 1) c _ has.2) st (λ all b ms sm.
+      acts code h (state (pc + 1 + length c) (Shown all b ∷ stack) ms) (at line act.ReturnDisplay) _ _ (has_back code size (pc + 1) c _ has.2).0 refl (r (Display all b))))
+
+  -- ---- locals
 
   -- a value is put into a local
-  store_does : (name : Label) (scope : List Local) (line pc : ℕ) (stack : List Value) (ls : List (Option Value)) (env : Env) (v : Value) (after : Env → Run) → IsScope size scope → ((place : ℕ) × (place_of scope name ≡ Some place)) → slice_get code pc ≡ Some (at line (store_action (place_of scope name))) → Stands w size scope env ls
-      → ((e : Env) (ms : List (Option Value)) → Stands w size scope e ms → Does code w (state (pc + 1) stack ms) (after e)) → Does code w (state pc (v ∷ stack) ls) (after (set_local name v env))
-  store_does name scope line pc stack ls env v after sc p h st k =
-      went code w (state pc (v ∷ stack) ls) _ (at line (act.Store p.0)) _ (h ∙ ap (λ o. Some (at line (store_action o))) p.1) refl (k _ _ (stands_set w size scope env ls name p.0 v sc st p.1))
+  store_does : (name : Label) (scope : List Local) (line pc : ℕ) (stack : List Slot) (ls : List (Option Value)) (locals : Locals) (v : Value) (run : Run) → IsScope scope → ((place : ℕ) × (place_of scope name ≡ Some place)) → slice_get code pc ≡ Some (at line (store_action (place_of scope name))) → Stands size scope locals ls
+      → ((ms : List (Option Value)) → Stands size scope (set_in locals name v) ms → Does code h (state (pc + 1) stack ms) run) → Does code h (state pc (Holds v ∷ stack) ls) run
+  store_does name scope line pc stack ls locals v run sc p has st k =
+      went code h (state pc (Holds v ∷ stack) ls) (state (pc + 1) stack (slice_set ls p.0 (Some v))) (at line (act.Store p.0)) _ (has ∙ ap (λ o. Some (at line (store_action o))) p.1) refl (k _ (stands_set size scope locals ls name p.0 v sc st p.1))
 
-  pub assign_fits : (name : Label) (e : Expr) (scope : List Local) (line : ℕ) → IsScope size scope → ((place : ℕ) × (place_of scope name ≡ Some place)) → DoesFit code w size scope (assign_code name e scope line) (λ env after back. reading e (at_line line env) (λ v. after (set_local name v (at_line line env))))
-  assign_fits name e scope line sc p pc stack ls env after has st k =
+  pub assign_fits : (name : Label) (e : Expr) (scope : List Local) (line : ℕ) → IsScope scope → ((place : ℕ) × (place_of scope name ≡ Some place)) → DoesFit code h size scope (assign_code name e scope line) (λ env after back. reading e (at_line line env) (λ v. after (with_local name v (at_line line env))))
+  assign_fits name e scope line sc p pc stack ls l locals after back has st r k =
       let c = expr_code e scope line in
       let end : pc + length c + 1 ≡ pc + length (assign_code name e scope line) = omega (arith, length-append c (at line (store_action (place_of scope name)) ∷ [])) in
-      (expr_fits code w size e).0 scope line sc pc stack ls (at_line line env) _ (has_front code pc c _ has) (stands_at w size scope env ls line st) refl (λ v ms sm.
-      store_does name scope line (pc + length c) stack ms (at_line line env) v after sc p (has_back code pc c _ has).0 sm (λ e ns sn. moved code w _ _ stack ns (after e) end (k e ns sn)))
+      expr_fits code h size e scope line sc pc stack ls locals _ (has_front code size pc c _ has) st (λ v ms sm.
+      store_does name scope line (pc + length c) stack ms locals v _ sc p (has_back code size pc c _ has).0 sm (λ ns sn. moved code h _ _ stack ns _ end (k line (set_in locals name v) ns sn)))
 
-  -- the operator's instruction
-  change_next : (op : ArithOp) (line pc : ℕ) (stack : List Value) (ls : List (Option Value)) (u v : Value) → next_of w (change_action op) line (state pc (v ∷ u ∷ stack) ls) ≡ computed_next w (changed op u v) line (λ x. state (pc + 1) (x ∷ stack) ls)
-  change_next arith_ops.Add line pc stack ls u v = refl
-  change_next arith_ops.Sub line pc stack ls u v = refl
-  change_next arith_ops.Mul line pc stack ls u v = refl
-
-  pub change_fits : (name : Label) (op : ArithOp) (e : Expr) (scope : List Local) (line : ℕ) → IsScope size scope → ((place : ℕ) × (place_of scope name ≡ Some place))
-      → DoesFit code w size scope (change_code name op e scope line) (λ env after back. named name (at_line line env) (λ old. reading e (at_line line env) (λ v. computed (changed op old v) (at_line line env) (λ x. after (set_local name x (at_line line env))))))
-  change_fits name op e scope line sc p pc stack ls env after has st k =
-      let n = name_code name scope line in
+  pub change_fits : (name : Label) (o : ArithOp) (e : Expr) (scope : List Local) (line : ℕ) → IsScope scope → ((place : ℕ) × (place_of scope name ≡ Some place))
+      → DoesFit code h size scope (change_code name o e scope line) (λ env after back. valued (named name) (at_line line env) (λ old. reading e (at_line line env) (λ v. computed (of_two (changing o) old v) (at_line line env) (λ x. after (with_local name x (at_line line env))))))
+  change_fits name o e scope line sc p pc stack ls l locals after back has st r k =
+      let n = name_code name false scope line in
       let c = expr_code e scope line in
-      let h = has_back code pc n _ has in
+      let hc = has_back code size pc n _ has in
       let q = pc + length n in
-      let hc = has_back code q c _ h in
-      let tail = at line (change_action op) ∷ (at line (store_action (place_of scope name)) ∷ []) in
-      let end : q + length c + 1 + 1 ≡ pc + length (change_code name op e scope line) = omega (arith, length-append n (c ++ tail), length-append c tail) in
-      name_fits code w size name scope line sc pc stack ls (at_line line env) _ (has_front code pc n _ has) (stands_at w size scope env ls line st) refl (λ u ms sm.
-      (expr_fits code w size e).0 scope line sc q (u ∷ stack) ms (at_line line env) _ (has_front code q c _ h) sm refl (λ v ns sn.
-      computes code w (changed op u v) (state (q + length c) (v ∷ u ∷ stack) ns) (at line (change_action op)) (at_line line env) (λ x. state (q + length c + 1) (x ∷ stack) ns) _ hc.0 sn.own refl (change_next op line (q + length c) stack ns u v) (λ x.
-      store_does name scope line (q + length c + 1) stack ns (at_line line env) x after sc p hc.1.0 sn (λ e os so. moved code w _ _ stack os (after e) end (k e os so)))))
+      let s = q + length c in
+      let ho = has_back code size q c _ hc in
+      let tail = at line (act.Binary (change_op o)) ∷ at line (store_action (place_of scope name)) ∷ [] in
+      let end : s + 1 + 1 ≡ pc + length (change_code name o e scope line) = omega (arith, length-append n (c ++ tail), length-append c tail) in
+      name_fits code h size name scope line sc pc stack ls locals _ (has_front code size pc n _ has) st (λ u ms sm.
+      expr_fits code h size e scope line sc q (Holds u ∷ stack) ms locals _ (has_front code size q c _ hc) sm (λ v ns sn.
+      subst (λ (op : _). Does code h (state s (Holds v ∷ Holds u ∷ stack) ns) (computed (of_two op u v) (here h line locals) (λ x. after (here h line (set_in locals name x))))) (sym (same_change o))
+      (acts code h (state s (Holds v ∷ Holds u ∷ stack) ns) (at line (act.Binary (change_op o))) _ _ ho.0 refl
+      (computes code h (of_two (change_op o) u v) line locals (λ x. On (state (s + 1) (Holds x ∷ stack) ns)) _ (λ x.
+      store_does name scope line (s + 1) stack ns locals x _ sc p ho.2.0 sn (λ os so. moved code h _ _ stack os _ end (k line (set_in locals name x) os so)))))))
 
-  pub failing_fits : (scope : List Local) (line : ℕ) → DoesFit code w size scope (not_built line) (λ env after back. fault TypeMismatch (at_line line env))
-  failing_fits scope line pc stack ls env after has st k = failed code w (state pc stack ls) (at line (act.Fail TypeMismatch)) TypeMismatch (at_line line env) has.0 st.own refl refl
+  -- ---- choices and loops
 
   -- a test, what is done where it holds, and what else
-  pub choice_does : (t : Reading) (given other : Doing) (ct cg co : List Instr) (scope : List Local) (line : ℕ) → Fits code w size scope line ct t → DoesFit code w size scope cg given → DoesFit code w size scope co other
-      → DoesFit code w size scope (choice_code line ct cg co) (λ env after back. t (at_line line env) (λ v. tested (truth v) (given (at_line line env) after back) (other (at_line line env) after back) (at_line line env)))
-  choice_does t given other ct cg co scope line ft fg fo pc stack ls env after has st k =
-      let h = has_back code pc ct _ has in
+  pub choice_does : (t : Reading) (given other : Doing) (ct cg co : List Instr) (scope : List Local) (line : ℕ) → Fits code h size scope line ct t → DoesFit code h size scope cg given → DoesFit code h size scope co other
+      → DoesFit code h size scope (choice_code line ct cg co) (λ env after back. t (at_line line env) (λ v. tested (truth v) (given env after back) (other env after back) (at_line line env)))
+  choice_does t given other ct cg co scope line ft fg fo pc stack ls l locals after back has st r k =
+      let ht = has_back code size pc ct _ has in
       let q = pc + length ct in
-      let hj = has_back code (q + 1) cg _ h.1 in
+      let hj = has_back code size (q + 1) cg _ ht.2 in
       let end : q + 1 + length cg + 1 + length co ≡ pc + length (choice_code line ct cg co) = omega (arith, length-append ct (at line (act.JumpUnless (length cg + 1)) ∷ (cg ++ (at line (act.Jump (length co)) ∷ co))), length-append cg (at line (act.Jump (length co)) ∷ co)) in
       let past : q + 1 + (length cg + 1) ≡ q + 1 + length cg + 1 = omega arith in
-      ft pc stack ls (at_line line env) _ (has_front code pc ct _ has) (stands_at w size scope env ls line st) refl (λ v ms sm.
-      tests code w (truth v) (state q (v ∷ stack) ms) (at line (act.JumpUnless (length cg + 1))) (at_line line env) (state (q + 1) stack ms) (state (q + 1 + (length cg + 1)) stack ms) _ _ h.0 sm.own refl refl
-      (fg (q + 1) stack ms (at_line line env) after (has_front code _ cg _ h.1) sm (λ e ns sn.
-      went code w (state (q + 1 + length cg) stack ns) (state (q + 1 + length cg + 1 + length co) stack ns) (at line (act.Jump (length co))) _ hj.0 refl (moved code w _ _ stack ns _ end (k e ns sn))))
-      (moved code w _ _ stack ms _ past (fo (q + 1 + length cg + 1) stack ms (at_line line env) after hj.1 sm (λ e ns sn. moved code w _ _ stack ns _ end (k e ns sn)))))
+      ft pc stack ls locals _ (has_front code size pc ct _ has) st (λ v ms sm.
+      acts code h (state q (Holds v ∷ stack) ms) (at line (act.JumpUnless (length cg + 1))) _ _ ht.0 refl
+      (tests code h (truth v) line locals (state (q + 1) stack ms) (state (q + 1 + (length cg + 1)) stack ms) _ _
+      (fg (q + 1) stack ms l locals after back (has_front code size _ cg _ ht.2) sm r (λ m more ns sn.
+      went code h (state (q + 1 + length cg) stack ns) (state (q + 1 + length cg + 1 + length co) stack ns) (at line (act.Jump (length co))) _ hj.0 refl (moved code h _ _ stack ns _ end (k m more ns sn))))
+      (moved code h _ _ stack ms _ past (fo (q + 1 + length cg + 1) stack ms l locals after back hj.2 sm r (λ m more ns sn. moved code h _ _ stack ns _ end (k m more ns sn))))))
 
-  pub pass_fits : (scope : List Local) (line : ℕ) → DoesFit code w size scope [] (λ env after back. after (at_line line env))
-  pass_fits scope line pc stack ls env after has st k = moved code w _ _ stack ls _ (omega arith) (k (at_line line env) ls (stands_at w size scope env ls line st))
+  pub none_fits : (scope : List Local) → DoesFit code h size scope [] (λ env after back. after env)
+  none_fits scope pc stack ls l locals after back has st r k = moved code h _ _ stack ls _ (omega arith) (k l locals ls st)
 
-  pub none_fits : (scope : List Local) → DoesFit code w size scope [] (λ env after back. after env)
-  none_fits scope pc stack ls env after has st k = moved code w _ _ stack ls _ (omega arith) (k env ls st)
+  -- what is done for each of these items, the name set before each
+  pub turns_fit : (name : Label) (place : ℕ) (scope : List Local) (line : ℕ) → IsScope scope → place_of scope name ≡ Some place → (body : List Done) (inner : ℕ) (c : List Instr) → DoesFit code h size scope c (done_from body inner) → (vs : List Value) (pc : ℕ) (stack : List Slot) (ls : List (Option Value)) (l : ℕ) (locals : Locals) (after : Env → Run) (back : Returned → Run) → HasAt code size pc (rounds_code line place c (act.Back (length c + 1))) → Stands size scope locals ls → Returns code h back
+      → ((m : ℕ) (more : Locals) (ms : List (Option Value)) → Stands size scope more ms → Does code h (state (pc + length (rounds_code line place c (act.Back (length c + 1)))) stack ms) (after (here h m more)))
+      → Does code h (state pc (Items vs ∷ stack) ls) (looped_from name body vs inner (here h l locals) after back)
+  turns_fit name place scope line sc is body inner c f [] pc stack ls l locals after back has st r k =
+      let end : pc + 1 + (length c + 1) ≡ pc + length (rounds_code line place c (act.Back (length c + 1))) = omega (arith, length-append c (at line (act.Back (length c + 1)) ∷ [])) in
+      went code h (state pc (Items [] ∷ stack) ls) (state (pc + 1 + (length c + 1)) stack ls) (at line (act.NextItem place (length c + 1))) _ has.0 refl (moved code h _ _ stack ls _ end (k l locals ls st))
+  turns_fit name place scope line sc is body inner c f (v ∷ vs) pc stack ls l locals after back has st r k =
+      let again : pc + 1 + length c - (length c + 1) ≡ pc = omega arith in
+      went code h (state pc (Items (v ∷ vs) ∷ stack) ls) (state (pc + 1) (Items vs ∷ stack) (slice_set ls place (Some v))) (at line (act.NextItem place (length c + 1))) _ has.0 refl
+      (f (pc + 1) (Items vs ∷ stack) _ l (set_in locals name v) _ back (has_front code size (pc + 1) c _ has.2) (stands_set size scope locals ls name place v sc st is) r (λ m more ns sn.
+      went code h (state (pc + 1 + length c) (Items vs ∷ stack) ns) (state (pc + 1 + length c - (length c + 1)) (Items vs ∷ stack) ns) (at line (act.Back (length c + 1))) _ (has_back code size (pc + 1) c _ has.2).0 refl
+      (moved code h _ _ (Items vs ∷ stack) ns _ again (turns_fit name place scope line sc is body inner c f vs pc stack ns m more after back has sn r k))))
+
+  pub loops_fit : (name : Label) (over : Expr) (place : ℕ) (scope : List Local) (line : ℕ) → IsScope scope → place_of scope name ≡ Some place → (body : List Done) (c : List Instr) → DoesFit code h size scope c (done_from body (line + 1))
+      → DoesFit code h size scope (expr_code over scope line ++ (at line act.Iterate ∷ turns_code (place_of scope name) line c)) (λ env after back. reading over (at_line line env) (λ v. items_or_fault (items_of v) (at_line line env) (λ items. looped_from name body items (line + 1) (at_line line env) after back)))
+  loops_fit name over place scope line sc is body c f pc stack ls l locals after back has st r k =
+      let co = expr_code over scope line in
+      let q = pc + length co in
+      let rounds = rounds_code line place c (act.Back (length c + 1)) in
+      let hi = has_back code size pc co _ has in
+      let turns = turns_code (place_of scope name) line c in
+      let same : turns ≡ rounds = ap (λ o. turns_code o line c) is in
+      let hr = subst (λ (t : List Instr). HasAt code size (q + 1) t) same hi.2 in
+      let long : length turns ≡ length rounds = ap (λ (t : List Instr). length t) same in
+      let end : q + 1 + length rounds ≡ pc + length (co ++ (at line act.Iterate ∷ turns)) = omega (arith, long, length-append co (at line act.Iterate ∷ turns)) in
+      expr_fits code h size over scope line sc pc stack ls locals _ (has_front code size pc co _ has) st (λ v ms sm.
+      iterates code h size v line q stack ms locals _ hi.0 (λ vs.
+      turns_fit name place scope line sc is body (line + 1) c f vs (q + 1) stack ms line locals after back hr sm r (λ m more ns sn. moved code h _ _ stack ns _ end (k m more ns sn))))

@@ -1,27 +1,38 @@
 -- The code of a formula does the formula's run.
-use Rattle.std.proofs.Common.{◌≡◌, ◌∙◌, ℕ, suc, ◌+◌, ◌<◌, ◌≤◌, Bool, true, false, ◌||◌, ◌&&◌, nat_lt, List, [], ◌∷◌, ◌++◌, length, map, drop, get_or, Option, Some, None, refl, sym, ap, arith, length-append, append_assoc}
+use Rattle.std.proofs.Common.{◌≡◌, ◌∙◌, ℕ, zero, suc, ◌+◌, ◌-◌, ◌<◌, ◌≤◌, Bool, true, false, ◌||◌, ◌&&◌, nat_lt, List, [], ◌∷◌, ◌++◌, length, map, drop, get_or, Option, Some, None, refl, sym, ap, subst, arith, length-append, append_assoc}
 use Rattle.std.specs.Prelude.{if◌then◌else◌, ◌==◌, is_none}
 use Rattle.std.specs.List.{list_any, cons_option}
 use Rattle.std.specs.Cmp.Lexicographic.{pointwise}
+use Rattle.std.proofs.Math.Nat.{le-max_left, le-max_right}
 use Rattle.std.proofs.Math.Seq.{get_or-append_seam}
 use Rattle.std.proofs.lemmas.List.{length-map, length-drop}
 use Rattle.mx_value.specs.declared.label.Label.{Label}
-use Rattle.mx_value.specs.declared.value.Value.{Value}
+use Rattle.mx_value.specs.declared.value.Value.{Value, out-Value}
 use Rattle.mx_value.specs.declared.value.Value.TheVariants.{Nothing}
+use Rattle.mx_value.specs.declared.node.Node.{Node}
+use Rattle.mx_value.specs.declared.namespace.Namespace.{Namespace}
+use Rattle.mx_value.specs.declared.fault.FaultKind.TheVariants.{NoneReturned}
 use Rattle.mx_value.specs.Name.{same_name}
 use Rattle.mx_value.specs.Normal.{normal_of}
+use Rattle.mx_syntax.specs.declared.stmt.Stmt.{Stmt}
 use Rattle.mx_syntax.specs.declared.stmt.Param.{Param}
-use Rattle.mx_syntax.specs.declared.stmt.Formula.{Formula}
 use Rattle.mx_syntax.specs.Binding.{bound, defaults, lack_default, is_wrong_count}
 use Rattle.mx_syntax.specs.Heights.{first_line}
 use Rattle.mx_syntax.specs.Lists.{flat}
 use Rattle.mx_syntax.specs.Locals.{bound_by, add, add_all, names_of}
-use Rattle.mx_meaning.specs.Statements.{given_locals, first_env, formula_done, ended}
+use Rattle.mx_runs.specs.Runs.{Run, Ends, Gives, Faults}
+use Rattle.mx_meaning.specs.Namespaces.{Overlay}
+use Rattle.mx_meaning.specs.Environments.{Locals}
+use Rattle.mx_meaning.specs.Statements.{Returned, Plain, Display, body_done}
+use Rattle.mx_meaning.specs.Nodes.{arguments_of, set_locals, unset_locals, first_env, value_given, cells_returned, path_in, source_or_fault, based, item_given, item_returned, item_done}
+use Rattle.mx_code.specs.declared.action.Instr.{Instr}
 use Rattle.mx_code.specs.Names.{place_of, numbered}
-use Rattle.mx_code.specs.Statements.{coded, body_code, nothing_code, scope_of, code_of}
-use Rattle.mx_code_law.specs.Machine.{Home, state, Does}
-use Rattle.mx_code_law.specs.Fits.{IsFree, IsScope, standing, Stands}
-use Rattle.mx_code_law.specs.Done.{HavePlaces, unset, begun}
+use Rattle.mx_code.specs.Statements.{coded, body_code, nothing_code, scope_of, code_of, body_of, places_in, size_of}
+use Rattle.mx_code_law.specs.States.{Home, OfCells, OfItem, state, End}
+use Rattle.mx_code_law.specs.Returning.{sourced_outcome, based_outcome, item_outcome}
+use Rattle.mx_code_law.specs.Machine.{Leads, Does, Ended}
+use Rattle.mx_code_law.specs.Fits.{IsFree, HasPlaces, IsScope, standing, Stands, HavePlaces, Returns}
+use Rattle.mx_code_law.specs.Laws.{unset, set, begun}
 use Rattle.mx_code_law.proofs.Places.{has_front, has_back, has_whole}
 use Rattle.mx_code_law.proofs.Bodies.{nothing_does}
 use Rattle.mx_code_law.proofs.Statements.{body_fits}
@@ -31,9 +42,9 @@ free_before : (place n : ℕ) (names : List Label) → place < n → IsFree plac
 free_before place n [] h = tt
 free_before place n (x ∷ names) h = (λ e. omega (arith, h, e), free_before place (n + 1) names (omega (arith, h)))
 
-is_scope : (size n : ℕ) (names : List Label) → n + length names ≤ size → IsScope size (numbered n names)
-is_scope size n [] h = tt
-is_scope size n (x ∷ names) h = (omega (arith, h), free_before n (n + 1) names (omega arith), is_scope size (n + 1) names (omega (arith, h)))
+has_places : (size n : ℕ) (names : List Label) → n + length names ≤ size → HasPlaces size (numbered n names)
+has_places size n [] h = tt
+has_places size n (x ∷ names) h = (omega (arith, h), free_before n (n + 1) names (omega arith), has_places size (n + 1) names (omega (arith, h)))
 
 -- names with what stands at their places
 abbrev paired : List Label → List (Option Value) → List (Label × Option Value)
@@ -41,7 +52,7 @@ paired [] ls = []
 paired (x ∷ names) [] = []
 paired (x ∷ names) (l ∷ ls) = (x, l) ∷ paired names ls
 
-stands_numbered : (front rest : List (Option Value)) (n : ℕ) (names : List Label) → n ≡ length front → length rest ≡ length names → map (standing (front ++ rest)) (numbered n names) ≡ paired names rest
+stands_numbered : (front rest : List (Option Value)) (n : ℕ) (names : List Label) → n ≡ length front → length names ≤ length rest → map (standing (front ++ rest)) (numbered n names) ≡ paired names rest
 stands_numbered front rest n [] e long = refl
 stands_numbered front [] n (x ∷ names) e long = absurd (omega (arith, long))
 stands_numbered front (l ∷ rest) n (x ∷ names) e long =
@@ -56,17 +67,19 @@ paired_both [] ys (l ∷ ls) ms e = absurd (omega (arith, e))
 paired_both (x ∷ xs) ys [] ms e = absurd (omega (arith, e))
 paired_both (x ∷ xs) ys (l ∷ ls) ms e = ap (λ r. (x, l) ∷ r) (paired_both xs ys ls ms (omega (arith, e)))
 
-abbrev given : Value → Option Value
-given v = Some v
-
-paired_given : (params : List Param) (vs : List Value) → length vs ≡ length params → paired (names_of params) (map given vs) ≡ given_locals params vs
+paired_given : (params : List Param) (vs : List Value) → length vs ≡ length params → paired (names_of params) (map set vs) ≡ set_locals (arguments_of params vs)
 paired_given [] vs e = refl
 paired_given (p ∷ params) [] e = absurd (omega (arith, e))
 paired_given (p ∷ params) (v ∷ vs) e = ap (λ r. (p.name, Some v) ∷ r) (paired_given params vs (omega (arith, e)))
 
-paired_unset : (names : List Label) → paired names (map unset names) ≡ map (λ (name : Label). (name, None)) names
-paired_unset [] = refl
-paired_unset (x ∷ names) = ap (λ r. (x, None) ∷ r) (paired_unset names)
+paired_unset : (names : List Label) (n : ℕ) → length names ≤ n → paired names (unset n) ≡ map (λ (name : Label). (name, None)) names
+paired_unset [] n e = refl
+paired_unset (x ∷ names) zero e = absurd (omega (arith, e))
+paired_unset (x ∷ names) (suc n) e = ap (λ r. (x, None) ∷ r) (paired_unset names n (omega (arith, e)))
+
+unset_long : (n : ℕ) → length (unset n) ≡ n
+unset_long zero = refl
+unset_long (suc n) = ap suc (unset_long n)
 
 -- arguments that bind are as many as the parameters
 all_given : (params : List Param) → lack_default params ≡ false → length (defaults params) ≡ length params
@@ -153,46 +166,112 @@ have_places front [] xs = tt
 have_places front (x ∷ names) xs =
     (placed 0 (front ++ add_all (add xs x) names) x (listed_behind front _ x (listed_all names (add xs x) x (listed_added xs x))), have_places front names (add xs x))
 
-module _ (w : Home) (f : Formula) (args : List Value) (h : is_wrong_count f.params (length args) ≡ false) where
+numbered_long : (n : ℕ) (names : List Label) → length (numbered n names) ≡ length names
+numbered_long n [] = refl
+numbered_long n (x ∷ names) = omega (arith, numbered_long (n + 1) names)
+
+-- ---- returns
+
+module _ (code : List Instr) (n : Node) (ns : Namespace) where
+  pub cells_return : (allow : Bool) → Returns code (record { node = n; space = ns; work = OfCells allow }) (cells_returned allow n)
+  cells_return allow (Plain Nothing) = nothing allow
+    where
+      nothing : (b : Bool) → Leads code (record { node = n; space = ns; work = OfCells allow }) (End (if b then Gives (record { value = Nothing; namespace = None }) else Faults NoneReturned n 1)) (if b then value_given Nothing else Ends (Faults NoneReturned n 1))
+      nothing true = Ended _
+      nothing false = Ended _
+  cells_return allow (Plain v) = Ended _
+  cells_return allow (Display refs base) = Ended _
+
+  module _ (args : List Value) (given : Overlay) where
+    abbrev home : Home
+    home = record { node = n; space = ns; work = OfItem args given }
+
+    sourced : (source : Option (List Label)) (over : Overlay) → Leads code home (End (sourced_outcome source n (item_outcome ns args over))) (source_or_fault source n (item_given ns args over))
+    sourced (Some source) over = Ended _
+    sourced None over = Ended _
+
+    based_return : (base : Option Value) (over : Overlay) → Leads code home (End (based_outcome base ns n (item_outcome ns args over))) (based base ns n (item_given ns args over))
+    based_return None over = Ended _
+    based_return (Some v) over = sourced (path_in (out-Value v)) over
+
+    pub item_return : Returns code home (item_returned n ns args given)
+    item_return (Plain Nothing) = Ended _
+    item_return (Plain v) = Ended _
+    item_return (Display refs base) = based_return base _
+
+-- ---- formulas
+
+module _ (params : List Param) (body : List Stmt) (vs : List Value) (many : length vs ≡ length params) where
   abbrev own_names : List Label
-  own_names = add_all [] (flat (map bound_by f.body))
+  own_names = add_all [] (flat (map bound_by body))
 
   abbrev all_names : List Label
-  all_names = names_of f.params ++ own_names
+  all_names = names_of params ++ own_names
 
-  abbrev bound_args : List Value
-  bound_args = bound f.params args
+  abbrev size : ℕ
+  size = size_of params body
 
-  given_long : length (map given bound_args) ≡ length (names_of f.params)
-  given_long = length-map bound_args given ∙ bound_long f.params args h ∙ sym (length-map f.params (λ (p : Param). p.name))
+  abbrev rest : List (Option Value)
+  rest = unset (size - length vs)
 
-  begun_long : length (begun f args) ≡ length all_names
-  begun_long = omega (arith, length-append (map given bound_args) (map unset own_names), length-append (names_of f.params) own_names, given_long, length-map own_names unset)
+  names_long : length (names_of params) ≡ length vs
+  names_long = length-map params (λ (p : Param). p.name) ∙ sym many
 
-  begun_stands : Stands w (length all_names) (scope_of f.params f.body) (first_env w.node w.at w.source f args) (begun f args)
-  begun_stands = record {
-    is = sym (stands_numbered [] (begun f args) 0 all_names refl begun_long
-        ∙ paired_both (names_of f.params) own_names (map given bound_args) (map unset own_names) given_long
-        ∙ ap (λ (ms : List (Label × Option Value)). ms ++ paired own_names (map unset own_names)) (paired_given f.params bound_args (bound_long f.params args h))
-        ∙ ap (λ (ms : List (Label × Option Value)). given_locals f.params bound_args ++ ms) (paired_unset own_names));
-    long = begun_long;
-    own = refl;
-    space = refl;
-    source = refl;
-  }
+  set_long : length (map set vs) ≡ length vs
+  set_long = length-map vs set
 
-  numbered_long : (n : ℕ) (names : List Label) → length (numbered n names) ≡ length names
-  numbered_long n [] = refl
-  numbered_long n (x ∷ names) = omega (arith, numbered_long (n + 1) names)
+  all_long : length all_names ≡ length vs + length own_names
+  all_long = omega (arith, length-append (names_of params) own_names, names_long)
 
-  pub formula_does : (length (begun f args) ≡ length (scope_of f.params f.body)) × Does (code_of f.params f.body) w (state 0 [] (begun f args)) (formula_done f w.allow (first_env w.node w.at w.source f args))
-  formula_does =
-      let code = code_of f.params f.body in
-      let scope = scope_of f.params f.body in
-      let c = body_code (map coded f.body) scope (first_line f.body) in
-      let has = has_whole code in
-      let full : 0 + length all_names ≤ length all_names = omega arith in (
-        begun_long ∙ sym (numbered_long 0 all_names),
-        body_fits code w (length all_names) f.body scope (first_line f.body) (is_scope (length all_names) 0 all_names full) (have_places (names_of f.params) (flat (map bound_by f.body)) []) 0 [] (begun f args) (first_env w.node w.at w.source f args) (λ e. ended w.allow w.node Nothing) (has_front code 0 c (nothing_code 1) has) begun_stands
-            (λ e ms sm. nothing_does code w (length all_names) 1 (0 + length c) [] ms (has_back code 0 c (nothing_code 1) has)),
-      )
+  fits : length all_names ≤ size
+  fits = omega (arith, numbered_long 0 all_names, le-max_left (length (scope_of params body)) (places_in (code_of params body)))
+
+  pub begun_long : length (begun size vs) ≡ size
+  begun_long = omega (arith, length-append (map set vs) rest, set_long, unset_long (size - length vs), all_long, fits)
+
+  begun_stands : (n : Node) (ns : Namespace) → Stands size (scope_of params body) (set_locals (arguments_of params vs) ++ unset_locals body) (begun size vs)
+  begun_stands n ns =
+      let room : length all_names ≤ length (begun size vs) = omega (arith, begun_long, fits) in
+      let own : length own_names ≤ size - length vs = omega (arith, all_long, fits) in
+      let first : length (map set vs) ≡ length (names_of params) = set_long ∙ sym names_long in
+      record {
+        is = sym (stands_numbered [] (begun size vs) 0 all_names refl room
+            ∙ paired_both (names_of params) own_names (map set vs) rest first
+            ∙ ap (λ (ms : Locals). ms ++ paired own_names rest) (paired_given params vs many)
+            ∙ ap (λ (ms : Locals). set_locals (arguments_of params vs) ++ ms) (paired_unset own_names (size - length vs) own));
+        long = begun_long;
+        fit = omega (arith, numbered_long 0 all_names, fits);
+      }
+
+  pub formula_does : (h : Home) (back : Returned → Run) → Returns (code_of params body) h back → Does (code_of params body) h (state 0 [] (begun size vs)) (body_done body (first_env h.node h.space (arguments_of params vs) body) back)
+  formula_does h back r =
+      let code = code_of params body in
+      let scope = scope_of params body in
+      let c = body_code (map coded body) scope (first_line body) in
+      let has = has_whole size code (le-max_right (length scope) (places_in code)) in
+      let places : HasPlaces (length all_names) scope = has_places (length all_names) 0 all_names (omega arith) in
+      let sc : IsScope scope = subst (λ m. HasPlaces m scope) (sym (numbered_long 0 all_names)) places in
+      body_fits code h size body scope (first_line body) sc (have_places (names_of params) (flat (map bound_by body)) []) 0 [] (begun size vs) 1 _ _ back (has_front code size 0 c (nothing_code 1) has) (begun_stands h.node h.space) r
+      (λ l more ms sm. nothing_does code h size 1 (0 + length c) [] ms back r (has_back code size 0 c (nothing_code 1) has))
+
+pub cells_do : (n : Node) (ns : Namespace) (allow : Bool) (params : List Param) (body : List Stmt) (args : List Value) → is_wrong_count params (length args) ≡ false
+    → Does (code_of params body) (record { node = n; space = ns; work = OfCells allow }) (state 0 [] (begun (size_of params body) (bound params args)))
+    (body_done body (first_env n ns (arguments_of params (bound params args)) body) (cells_returned allow n))
+cells_do n ns allow params body args e =
+    formula_does params body (bound params args) (bound_long params args e) (record { node = n; space = ns; work = OfCells allow }) (cells_returned allow n) (cells_return (code_of params body) n ns allow)
+
+pub items_do : (n : Node) (ns : Namespace) (params : List Param) (body : Option (List Stmt)) (args : List Value) → is_wrong_count params (length args) ≡ false
+    → Does (code_of params (body_of body)) (record { node = n; space = ns; work = OfItem (bound params args) (arguments_of params (bound params args)) })
+    (state 0 [] (begun (size_of params (body_of body)) (bound params args)))
+    (item_done body n ns (bound params args) (arguments_of params (bound params args)))
+items_do n ns params None args e =
+    let vs = bound params args in
+    let given = arguments_of params vs in
+    formula_does params [] vs (bound_long params args e) (record { node = n; space = ns; work = OfItem vs given }) (item_returned n ns vs given) (item_return (code_of params []) n ns vs given)
+items_do n ns params (Some body) args e =
+    let vs = bound params args in
+    let given = arguments_of params vs in
+    formula_does params body vs (bound_long params args e) (record { node = n; space = ns; work = OfItem vs given }) (item_returned n ns vs given) (item_return (code_of params body) n ns vs given)
+
+pub sizes_are : (params : List Param) (body : List Stmt) (args : List Value) → is_wrong_count params (length args) ≡ false → length (begun (size_of params body) (bound params args)) ≡ size_of params body
+sizes_are params body args e = begun_long params body (bound params args) (bound_long params args e)

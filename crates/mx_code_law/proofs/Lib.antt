@@ -1,10 +1,13 @@
 pub mod Places
 pub mod Locals
 pub mod Steps
+pub mod Finding
+pub mod Calling
 pub mod Forms
-pub mod Calls
+pub mod Generators
+pub mod Names
+pub mod Behind
 pub mod Trees
 pub mod Bodies
 pub mod Statements
 pub mod Formulas
-pub mod Opened

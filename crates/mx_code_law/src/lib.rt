@@ -1,4 +1,4 @@
-//! What the code of a formula does: what comes of each instruction, and the law that the code does what the formula means.
+//! What instructions do, and the law that the instructions of a formula do what it means.
 #![tactic(auto)]
 
 pub mod laws;

@@ -1,2 +1,16 @@
-pub mod Texts
-pub mod Sound
+mod Emptied
+mod Kept
+mod Firsts
+mod Gathered
+mod ByText
+mod Sought
+mod Read
+mod BindingHeld
+mod ReadBy
+mod Askers
+mod Succeeding
+mod Refusing
+mod EditTold
+mod BoundTold
+mod ReadHeld
+mod Ordering

@@ -1,2 +1,9 @@
-pub mod Items
-pub mod Edits
+pub mod Engine
+pub mod Edited
+pub mod Refused
+pub mod ByText
+pub mod Scopes
+pub mod Successors
+pub mod Gathering
+pub mod Order
+pub mod Precedents

@@ -1,7 +1,15 @@
-//! The engine: a model text, its edits, and the values that are kept for it.
+//! The engine: a world, its edits, and what is held for it.
 #![tactic(auto)]
 
-pub mod edit;
+pub mod clearing;
+pub mod editing;
 pub mod engine;
-
-pub use mx_machine::steps;
+pub mod evaluating;
+mod gaps;
+mod gathering;
+mod holds;
+pub mod limit;
+pub mod order;
+mod precedents;
+pub mod refusal;
+pub mod successors;

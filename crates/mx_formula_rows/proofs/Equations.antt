@@ -41,12 +41,12 @@ use Rattle.mx_syntax.specs.Locals.{bound_by, stmt_step as bound_step, arm_step a
 use Rattle.mx_ops.specs.Answers.{made}
 use Rattle.mx_ops.specs.Kinds.{items_of}
 use Rattle.mx_runs.specs.Runs.{Run}
-use Rattle.mx_formulas.specs.Environments.{Env, computed, with_local}
-use Rattle.mx_formulas.specs.Lookup.{Callee, Called, named, valued}
-use Rattle.mx_formulas.specs.Operations.{adding, multiplying, comparing, changing, of_two, denied, signed}
-use Rattle.mx_formulas.specs.Expressions.{Call, Over, Index, Attr, By, values_from, joined_from, chosen_from, compared_from, deciding, powered_by, applied_from, part_read, reading, items_or_fault}
-use Rattle.mx_formulas.specs.Statements.{Doing, ArmDoing, Plain, doing, stmt_step, arm_step, displayed_from, done_by, looped_from}
-use Rattle.mx_formulas.proofs.Forms.{trailer_read, sum_read, product_read, arm_read, comparison_read, power_read}
+use Rattle.mx_meaning.specs.Environments.{Env, computed, with_local}
+use Rattle.mx_meaning.specs.Lookup.{Callee, Called, named, valued}
+use Rattle.mx_meaning.specs.Operations.{adding, multiplying, comparing, changing, of_two, denied, signed}
+use Rattle.mx_meaning.specs.Expressions.{Call, Over, Index, Attr, By, values_from, joined_from, chosen_from, compared_from, deciding, powered_by, applied_from, part_read, reading, items_or_fault}
+use Rattle.mx_meaning.specs.Statements.{Doing, ArmDoing, Plain, doing, stmt_step, arm_step, displayed_from, done_by, looped_from}
+use Rattle.mx_meaning.proofs.Forms.{trailer_read, sum_read, product_read, arm_read, comparison_read, power_read}
 
 -- ---- values and addresses
 

@@ -45,18 +45,18 @@ use Rattle.mx_runs.specs.Inputs.{is_static}
 use Rattle.mx_runs.specs.Chains.{DoesAsk}
 use Rattle.mx_runs.proofs.Meanings.{finished}
 use Rattle.mx_runs.proofs.Levels.{leads_append}
-use Rattle.mx_formulas.specs.Namespaces.{Overlay, value_in, ends_with_name, is_short, is_allowed, item_at}
-use Rattle.mx_formulas.specs.Walks.{walked}
-use Rattle.mx_formulas.specs.Environments.{Env, Reading, fault, computed, tested, local_of}
-use Rattle.mx_formulas.specs.References.{Target, cells_value, target_of, relative, target_found, target_read, member_found, member_read, member_of, parent_of}
-use Rattle.mx_formulas.specs.Lookup.{Callee, Called, Function, bound_name, overlaid_or, local_or, global_found, builtin_or_none, as_value, valued}
-use Rattle.mx_formulas.specs.Calls.{cells_asked, space_asked, space_sought, called, content_indexed, indexed}
-use Rattle.mx_formulas.specs.Operations.{comparing, of_two}
-use Rattle.mx_formulas.specs.Expressions.{Comparing, values_from, values_beside, joined_from, chosen_from, compared_from, applied_from, applied, part_read, reading}
-use Rattle.mx_formulas.specs.Statements.{Returned, Plain, named_reading, displayed_from}
-use Rattle.mx_formulas.specs.Nodes.{arguments_of, cells_returned, item_returned}
-use Rattle.mx_formulas.specs.Laws.{model_of}
-use Rattle.mx_formulas.proofs.Forms.{trailer_read, sum_read, arm_read, comparison_read}
+use Rattle.mx_meaning.specs.Namespaces.{Overlay, value_in, ends_with_name, is_short, is_allowed, item_at}
+use Rattle.mx_meaning.specs.Walks.{walked}
+use Rattle.mx_meaning.specs.Environments.{Env, Reading, fault, computed, tested, local_of}
+use Rattle.mx_meaning.specs.References.{Target, cells_value, target_of, relative, target_found, target_read, member_found, member_read, member_of, parent_of}
+use Rattle.mx_meaning.specs.Lookup.{Callee, Called, Function, bound_name, overlaid_or, local_or, global_found, builtin_or_none, as_value, valued}
+use Rattle.mx_meaning.specs.Calls.{cells_asked, space_asked, space_sought, called, content_indexed, indexed}
+use Rattle.mx_meaning.specs.Operations.{comparing, of_two}
+use Rattle.mx_meaning.specs.Expressions.{Comparing, values_from, values_beside, joined_from, chosen_from, compared_from, applied_from, applied, part_read, reading}
+use Rattle.mx_meaning.specs.Statements.{Returned, Plain, named_reading, displayed_from}
+use Rattle.mx_meaning.specs.Nodes.{arguments_of, cells_returned, item_returned}
+use Rattle.mx_meaning.specs.Laws.{model_of}
+use Rattle.mx_meaning.proofs.Forms.{trailer_read, sum_read, arm_read, comparison_read}
 use Rattle.mx_formula_rows.proofs.Equations.{out_space, part-name, part-cond, arm-part, part-compare, comparison-op, part-post, part-sum, trailer-call, trailer-index}
 use Rattle.mx_formula_rows.proofs.Rules.{from, Walks, Stands, Comes, AllCome, NameComes, CallComes, as_walk, asking, seeking, asking_item}
 use Rattle.mx_formula_rows.proofs.NodeRules.{line_env, one_line, static_lead, line_leads, display_line, display_done, item_leads}

@@ -20,13 +20,13 @@ use Rattle.mx_runs.specs.Lists.{Distinct}
 use Rattle.mx_runs.specs.Runs.{Run, Ends, Tests, Asks, NoSuch, Gives, Event, Tested, Asked}
 use Rattle.mx_runs.specs.Meaning.{Means, Leads}
 use Rattle.mx_runs.specs.Chains.{DoesAsk}
-use Rattle.mx_formulas.specs.Namespaces.{Step, root, child}
-use Rattle.mx_formulas.specs.Walks.{entered, item_entered, stepped, walked_from, walked}
-use Rattle.mx_formulas.specs.Binding.{binding, cell_bound}
-use Rattle.mx_formulas.specs.Laws.{model_of}
+use Rattle.mx_meaning.specs.Namespaces.{Step, root, child}
+use Rattle.mx_meaning.specs.Walks.{entered, item_entered, stepped, walked_from, walked}
+use Rattle.mx_meaning.specs.Binding.{binding, cell_bound}
+use Rattle.mx_meaning.specs.Laws.{model_of}
 use Rattle.mx_formula_rows.specs.Rows as row
 use Rattle.mx_formula_rows.specs.FurtherRows as further
-use Rattle.mx_formulas.proofs.Walking.{out_name, out_item}
+use Rattle.mx_meaning.proofs.Walking.{out_name, out_item}
 use Rattle.mx_formula_rows.proofs.Equations.{plain_int}
 use Rattle.mx_formula_rows.proofs.Rules.{from, top, below, lit, local, in_source, name_sought, plain_reference, target_reference, cells_here, product, times, joined_end, joined_more, post, attribute_of, call, none, more, trail_end, call_of_cells}
 use Rattle.mx_formula_rows.proofs.NodeRules.{RunsTo, means, static_run}

@@ -39,17 +39,17 @@ use Rattle.mx_runs.specs.Runs.{Run, Gives, Faults, Event, Looked}
 use Rattle.mx_runs.specs.Meaning.{Means, Leads}
 use Rattle.mx_runs.specs.Inputs.{is_static}
 use Rattle.mx_runs.proofs.Meanings.{finished}
-use Rattle.mx_formulas.specs.Namespaces.{Overlay}
+use Rattle.mx_meaning.specs.Namespaces.{Overlay}
 use Rattle.mx_runs.proofs.Levels.{leads_append}
-use Rattle.mx_formulas.specs.Environments.{Env, Locals, Reading, computed, local_of, at_line, with_local, within, fault}
-use Rattle.mx_formulas.specs.Lookup.{Callee, Called, local_or, as_value}
-use Rattle.mx_formulas.specs.Calls.{called}
-use Rattle.mx_formulas.specs.Operations.{changing, multiplying, of_two}
-use Rattle.mx_formulas.specs.Expressions.{Generator, joined_from, items_or_fault, generated_from, generated, decided_from, decided, called_over, applied, applied_from, reading}
-use Rattle.mx_formulas.specs.Statements.{Returned, Plain, Doing, done_from, done_by, looped_from, doing, body_done}
-use Rattle.mx_formulas.specs.Nodes.{arguments_of, set_locals, unset_locals, first_env, value_given, cells_returned}
-use Rattle.mx_formulas.specs.Laws.{model_of}
-use Rattle.mx_formulas.proofs.Forms.{trailer_read, product_read}
+use Rattle.mx_meaning.specs.Environments.{Env, Locals, Reading, computed, local_of, at_line, with_local, within, fault}
+use Rattle.mx_meaning.specs.Lookup.{Callee, Called, local_or, as_value}
+use Rattle.mx_meaning.specs.Calls.{called}
+use Rattle.mx_meaning.specs.Operations.{changing, multiplying, of_two}
+use Rattle.mx_meaning.specs.Expressions.{Generator, joined_from, items_or_fault, generated_from, generated, decided_from, decided, called_over, applied, applied_from, reading}
+use Rattle.mx_meaning.specs.Statements.{Returned, Plain, Doing, done_from, done_by, looped_from, doing, body_done}
+use Rattle.mx_meaning.specs.Nodes.{arguments_of, set_locals, unset_locals, first_env, value_given, cells_returned}
+use Rattle.mx_meaning.specs.Laws.{model_of}
+use Rattle.mx_meaning.proofs.Forms.{trailer_read, product_read}
 use Rattle.mx_formula_rows.proofs.Equations.{part-product, product-part, out_tuple, size_tuple, size_int, nesting_tuple, nesting_int, trailer-over, doing-return, doing-assign, doing-change, doing-for}
 use Rattle.mx_formula_rows.proofs.Rules.{from, Walks, Comes, CallComes, TrailComes}
 use Rattle.mx_formula_rows.proofs.NodeRules.{RunsTo, given_value, static_lead}

@@ -30,19 +30,19 @@ use Rattle.mx_ops.specs.Table.{gives}
 use Rattle.mx_runs.specs.Runs.{Run, Ends, Tests, Gives, Faults, NoSuch, WrongCount, Looked, Tested}
 use Rattle.mx_runs.specs.Meaning.{Means, Leads}
 use Rattle.mx_runs.proofs.Meanings.{finished}
-use Rattle.mx_formulas.specs.Namespaces.{Step, Overlay, root, child}
-use Rattle.mx_formulas.specs.Walks.{item_entered, stepped, walked_from, walked}
-use Rattle.mx_formulas.specs.Binding.{cell_bound}
-use Rattle.mx_formulas.specs.Environments.{Env, Locals, within}
-use Rattle.mx_formulas.specs.Lookup.{as_value}
-use Rattle.mx_formulas.specs.Operations.{multiplying, of_two}
-use Rattle.mx_formulas.specs.Statements.{Returned, Plain, Display, displayed_from}
-use Rattle.mx_formulas.specs.Nodes.{unset_locals, cells_returned, source_or_fault, path_in, item_given, item_returned}
-use Rattle.mx_formulas.specs.Laws.{model_of}
+use Rattle.mx_meaning.specs.Namespaces.{Step, Overlay, root, child}
+use Rattle.mx_meaning.specs.Walks.{item_entered, stepped, walked_from, walked}
+use Rattle.mx_meaning.specs.Binding.{cell_bound}
+use Rattle.mx_meaning.specs.Environments.{Env, Locals, within}
+use Rattle.mx_meaning.specs.Lookup.{as_value}
+use Rattle.mx_meaning.specs.Operations.{multiplying, of_two}
+use Rattle.mx_meaning.specs.Statements.{Returned, Plain, Display, displayed_from}
+use Rattle.mx_meaning.specs.Nodes.{unset_locals, cells_returned, source_or_fault, path_in, item_given, item_returned}
+use Rattle.mx_meaning.specs.Laws.{model_of}
 use Rattle.mx_formula_rows.specs.Rows as row
 use Rattle.mx_formula_rows.specs.FurtherRows as further
 use Rattle.mx_formula_rows.specs.LoopRows as loop
-use Rattle.mx_formulas.proofs.Walking.{out_name, out_item}
+use Rattle.mx_meaning.proofs.Walking.{out_name, out_item}
 use Rattle.mx_formula_rows.proofs.Equations.{out_int, out_tuple, bound-assign, bound-change, bound-for, bound-return, height-assign, height-change, height-for}
 use Rattle.mx_formula_rows.proofs.Rules.{from, Comes, top, lit, local, in_source, name_sought, cells_here, product, times, joined_end, joined_more, post, call, none, more, trail_end, call_of_cells}
 use Rattle.mx_formula_rows.proofs.NodeRules.{RunsTo, means, static_run, line_env, one_line, static_lead, line_leads, item_leads, display_done, DisplayComes, display_base, display_end}

@@ -27,14 +27,14 @@ use Rattle.mx_runs.specs.Meaning.{Means, Leads}
 use Rattle.mx_runs.specs.Inputs.{is_static}
 use Rattle.mx_runs.proofs.Levels.{leads_append}
 use Rattle.mx_runs.proofs.Meanings.{finished}
-use Rattle.mx_formulas.specs.Namespaces.{Overlay, overlaid_by, ends_with_name, is_allowed, item_at}
-use Rattle.mx_formulas.specs.Walks.{walked}
-use Rattle.mx_formulas.specs.Environments.{Env, Locals}
-use Rattle.mx_formulas.specs.Lookup.{as_value}
-use Rattle.mx_formulas.specs.Expressions.{reading, values_beside}
-use Rattle.mx_formulas.specs.Statements.{Returned, Plain, Display, Doing, named_reading, displayed_from, done_from, done_by, doing, body_done}
-use Rattle.mx_formulas.specs.Nodes.{arguments_of, set_locals, unset_locals, first_env, value_given, cells_returned, cells_found, cells_run, input_or, item_returned, item_done, item_made, item_found, item_run, body}
-use Rattle.mx_formulas.specs.Laws.{model_of}
+use Rattle.mx_meaning.specs.Namespaces.{Overlay, overlaid_by, ends_with_name, is_allowed, item_at}
+use Rattle.mx_meaning.specs.Walks.{walked}
+use Rattle.mx_meaning.specs.Environments.{Env, Locals}
+use Rattle.mx_meaning.specs.Lookup.{as_value}
+use Rattle.mx_meaning.specs.Expressions.{reading, values_beside}
+use Rattle.mx_meaning.specs.Statements.{Returned, Plain, Display, Doing, named_reading, displayed_from, done_from, done_by, doing, body_done}
+use Rattle.mx_meaning.specs.Nodes.{arguments_of, set_locals, unset_locals, first_env, value_given, cells_returned, cells_found, cells_run, input_or, item_returned, item_done, item_made, item_found, item_run, body}
+use Rattle.mx_meaning.specs.Laws.{model_of}
 use Rattle.mx_formula_rows.proofs.Equations.{doing-return, bound-return, first_line-return, doing-display, bound-display, first_line-display}
 use Rattle.mx_formula_rows.proofs.Rules.{Walks, Comes, from}
 

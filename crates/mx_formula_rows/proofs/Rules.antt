@@ -38,17 +38,17 @@ use Rattle.mx_ops.specs.declared.op.Op.{Op}
 use Rattle.mx_runs.specs.Runs.{Run, Ends, Looks, Tests, Asks, Notes, Gives, NoSuch, WrongCount, Event, Looked, Tested, Asked, Noted}
 use Rattle.mx_runs.specs.Meaning.{Means, Leads}
 use Rattle.mx_runs.proofs.Levels.{leads_append}
-use Rattle.mx_formulas.specs.Namespaces.{Step, root, child, value_in, ends_with_name, is_short, is_allowed, item_at}
-use Rattle.mx_formulas.specs.Walks.{entered, item_entered, stepped, walked_from, walked}
-use Rattle.mx_formulas.specs.Environments.{Env, Reading, fault, computed, local_of}
-use Rattle.mx_formulas.specs.References.{Target, cells_value, target_of, relative, target_found, target_read}
-use Rattle.mx_formulas.specs.Lookup.{Callee, Called, bound_name, overlaid_or, sought_in, sought, local_or, global_found, as_value, valued, attribute_in}
-use Rattle.mx_formulas.specs.Calls.{cells_asked, item_asked, space_asked, space_sought, entry_of, table_found, value_called, called, content_indexed, indexed}
-use Rattle.mx_formulas.specs.Operations.{adding, multiplying, of_two}
-use Rattle.mx_formulas.specs.Expressions.{Behind, Call, Index, Attr, values_from, joined_from, applied, applied_from, part_read, reading}
-use Rattle.mx_formulas.specs.Laws.{model_of}
-use Rattle.mx_formulas.proofs.Walking.{out_item, walked_push, further, name_steps}
-use Rattle.mx_formulas.proofs.Forms.{trailer_read, sum_read, product_read}
+use Rattle.mx_meaning.specs.Namespaces.{Step, root, child, value_in, ends_with_name, is_short, is_allowed, item_at}
+use Rattle.mx_meaning.specs.Walks.{entered, item_entered, stepped, walked_from, walked}
+use Rattle.mx_meaning.specs.Environments.{Env, Reading, fault, computed, local_of}
+use Rattle.mx_meaning.specs.References.{Target, cells_value, target_of, relative, target_found, target_read}
+use Rattle.mx_meaning.specs.Lookup.{Callee, Called, bound_name, overlaid_or, sought_in, sought, local_or, global_found, as_value, valued, attribute_in}
+use Rattle.mx_meaning.specs.Calls.{cells_asked, item_asked, space_asked, space_sought, entry_of, table_found, value_called, called, content_indexed, indexed}
+use Rattle.mx_meaning.specs.Operations.{adding, multiplying, of_two}
+use Rattle.mx_meaning.specs.Expressions.{Behind, Call, Index, Attr, values_from, joined_from, applied, applied_from, part_read, reading}
+use Rattle.mx_meaning.specs.Laws.{model_of}
+use Rattle.mx_meaning.proofs.Walking.{out_item, walked_push, further, name_steps}
+use Rattle.mx_meaning.proofs.Forms.{trailer_read, sum_read, product_read}
 use Rattle.mx_formula_rows.proofs.Equations.{out_space, out_cells, out_table, part-lit, part-name, part-sum, sum-part, part-product, product-part, part-post, trailer-call, trailer-index, trailer-attr}
 
 pub from : (look : Key → KeyResult) (run other rest : Run) (es : List Event) → run ≡ other → Leads (model_of look) other es rest → Leads (model_of look) run es rest

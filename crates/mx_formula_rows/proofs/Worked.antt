@@ -22,12 +22,12 @@ use Rattle.mx_ops.specs.Numbers.{whole_of}
 use Rattle.mx_runs.specs.Runs.{Run, Gives, Looked, Tested, Asked, Noted, Event}
 use Rattle.mx_runs.specs.Inputs.{is_name, is_static}
 use Rattle.mx_runs.specs.Meaning.{Means}
-use Rattle.mx_formulas.specs.Namespaces.{Step, Overlay, root, child, ends_with_name, is_allowed, with_name}
-use Rattle.mx_formulas.specs.Calls.{entry, entry_of}
-use Rattle.mx_formulas.specs.Nodes.{path_in, source_or_fault, item_given}
-use Rattle.mx_formulas.specs.Laws.{model_of}
+use Rattle.mx_meaning.specs.Namespaces.{Step, Overlay, root, child, ends_with_name, is_allowed, with_name}
+use Rattle.mx_meaning.specs.Calls.{entry, entry_of}
+use Rattle.mx_meaning.specs.Nodes.{path_in, source_or_fault, item_given}
+use Rattle.mx_meaning.specs.Laws.{model_of}
 use Rattle.mx_formula_rows.specs.Rows as row
-use Rattle.mx_formulas.proofs.Walking.{out_name, out_item}
+use Rattle.mx_meaning.proofs.Walking.{out_name, out_item}
 use Rattle.mx_formula_rows.proofs.Equations.{out_space, normal_int, size_space, size_name, size_item, size_int}
 use Rattle.mx_formula_rows.proofs.Rules.{Walks, top, below, inside, item_events, lit, local, in_overlay, in_source, name_sought, plain_reference, table_reference, target_reference, cells_here, sum, product, plus, times, joined_end, joined_more, post, attribute_of, call, index, none, more, trail_end, call_of_cells, index_of_table}
 use Rattle.mx_formula_rows.proofs.NodeRules.{RunsTo, means, static_run, within_run, bare_item, displayed_item, display_base, display_refs, display_end, more_refs, no_refs, space_given}

@@ -25,8 +25,8 @@ use Rattle.mx_edit.specs.declared.key.KeyResult.TheVariants as found
 use Rattle.mx_runs.specs.Runs.{Ends, Gives, Faults, Event, Looked, Asked, Noted}
 use Rattle.mx_runs.specs.Meaning.{Means, Leads}
 use Rattle.mx_runs.specs.Chains.{IsRing, MeansNothing}
-use Rattle.mx_formulas.specs.Nodes.{body}
-use Rattle.mx_formulas.specs.Laws.{model_of, BindsTo}
+use Rattle.mx_meaning.specs.Nodes.{body}
+use Rattle.mx_meaning.specs.Laws.{model_of, BindsTo}
 use Rattle.mx_formula_rows.specs.Rows.{Member, look_in, cells_of, cells_named, target_reference, space_a, space_s, space_main, named, cell, whole, call_through, s_item, hiding, x, c, f, k, v, w}
 
 abbrev pub a : Label

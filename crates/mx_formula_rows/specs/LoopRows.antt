@@ -22,9 +22,9 @@ use Rattle.mx_edit.specs.declared.key.KeyResult.{KeyResult}
 use Rattle.mx_edit.specs.declared.key.KeyResult.TheVariants as found
 use Rattle.mx_runs.specs.Runs.{Run, Ends, Gives, Faults, NoSuch, WrongCount, Event, Looked, Tested, Asked}
 use Rattle.mx_runs.specs.Meaning.{Means, Leads}
-use Rattle.mx_formulas.specs.Binding.{binding}
-use Rattle.mx_formulas.specs.Nodes.{body}
-use Rattle.mx_formulas.specs.Laws.{model_of}
+use Rattle.mx_meaning.specs.Binding.{binding}
+use Rattle.mx_meaning.specs.Nodes.{body}
+use Rattle.mx_meaning.specs.Laws.{model_of}
 use Rattle.mx_formula_rows.specs.Rows.{Member, look_in, cells_of, cells_named, space_a, space_s, space_main, named, item, cell, whole, hiding, inheriting, c, d, f, k, t, x}
 use Rattle.mx_formula_rows.specs.FurtherRows.{cells_over_n, call_of, main, g, n}
 

@@ -29,8 +29,8 @@ use Rattle.mx_edit.specs.declared.key.KeyResult.TheVariants as found
 use Rattle.mx_edit.specs.declared.reply.Reply.{Reply}
 use Rattle.mx_runs.specs.Runs.{Ends, Gives, Event, Looked, Tested, Asked, Noted}
 use Rattle.mx_runs.specs.Meaning.{Means, Leads}
-use Rattle.mx_formulas.specs.Nodes.{body}
-use Rattle.mx_formulas.specs.Laws.{model_of}
+use Rattle.mx_meaning.specs.Nodes.{body}
+use Rattle.mx_meaning.specs.Laws.{model_of}
 
 -- ---- small texts
 

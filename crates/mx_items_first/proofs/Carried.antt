@@ -18,11 +18,11 @@ use Rattle.mx_edit.specs.declared.key.KeyResult.TheVariants as found
 use Rattle.mx_edit.specs.declared.reply.Reply.{Reply}
 use Rattle.mx_runs.specs.Runs.{Run, Ends, Tests, Asks, Gives, NoSuch, WrongCount, Event, Tested, Asked}
 use Rattle.mx_runs.specs.Meaning.{Means}
-use Rattle.mx_formulas.specs.Namespaces.{Step, root, child, ends_with_name, item_at}
-use Rattle.mx_formulas.specs.Walks.{Onward, entered, item_entered, stepped, walked_from, walked}
-use Rattle.mx_formulas.specs.Laws.{model_of, IsSpaceAt}
-use Rattle.mx_formulas.proofs.Walking.{Came, Reached, root_reached, reached_on, came_on, name_steps, item_steps}
-use Rattle.mx_formulas.proofs.Items.{item_reply}
+use Rattle.mx_meaning.specs.Namespaces.{Step, root, child, ends_with_name, item_at}
+use Rattle.mx_meaning.specs.Walks.{Onward, entered, item_entered, stepped, walked_from, walked}
+use Rattle.mx_meaning.specs.Laws.{model_of, IsSpaceAt}
+use Rattle.mx_meaning.proofs.Walking.{Came, Reached, root_reached, reached_on, came_on, name_steps, item_steps}
+use Rattle.mx_meaning.proofs.Items.{item_reply}
 
 -- The steps of a walk keep Q of its namespaces and P of its runs, each by the nodes asked so far. Of the ask of an item P
 -- holds where it holds of what comes behind each answer, if there Q holds of the item's space.

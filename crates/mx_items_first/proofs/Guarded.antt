@@ -12,7 +12,7 @@ use Rattle.mx_runs.specs.Runs.{Run, Ends, Looks, Tests, Asks, Notes, Gives, Even
 use Rattle.mx_runs.specs.Meaning.{Means, Leads}
 use Rattle.mx_runs.specs.Lists.{Has}
 use Rattle.mx_runs.specs.Chains.{asks_of}
-use Rattle.mx_formulas.specs.Laws.{model_of}
+use Rattle.mx_meaning.specs.Laws.{model_of}
 use Rattle.mx_items_first.specs.Laws.{address_of}
 use Rattle.mx_items_first.proofs.Prefixes.{Passes, not_its_own}
 

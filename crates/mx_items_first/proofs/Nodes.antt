@@ -15,11 +15,11 @@ use Rattle.mx_edit.specs.declared.key.KeyResult.{KeyResult}
 use Rattle.mx_edit.specs.declared.key.KeyResult.TheVariants as found
 use Rattle.mx_runs.specs.Runs.{Run}
 use Rattle.mx_runs.specs.Inputs.{is_static}
-use Rattle.mx_formulas.specs.Namespaces.{Overlay, ends_with_name, is_allowed, item_at}
-use Rattle.mx_formulas.specs.Statements.{Returned, Plain, Display}
-use Rattle.mx_formulas.specs.Nodes.{cells_returned, cells_found, input_or, source_or_fault, based, item_given, item_returned, item_done, item_found, body}
-use Rattle.mx_formulas.proofs.Keeping.{Keeps}
-use Rattle.mx_formulas.proofs.Bodies.{body_kept}
+use Rattle.mx_meaning.specs.Namespaces.{Overlay, ends_with_name, is_allowed, item_at}
+use Rattle.mx_meaning.specs.Statements.{Returned, Plain, Display}
+use Rattle.mx_meaning.specs.Nodes.{cells_returned, cells_found, input_or, source_or_fault, based, item_given, item_returned, item_done, item_found, body}
+use Rattle.mx_meaning.proofs.Keeping.{Keeps}
+use Rattle.mx_meaning.proofs.Bodies.{body_kept}
 use Rattle.mx_items_first.specs.Laws.{ItemsFirst}
 use Rattle.mx_items_first.proofs.Guarded.{Guarded, asked_first}
 use Rattle.mx_items_first.proofs.Walks.{Outside, walked_guarded}

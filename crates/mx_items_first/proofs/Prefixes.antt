@@ -6,8 +6,8 @@ use Rattle.mx_value.specs.declared.value.Value.{Value}
 use Rattle.mx_value.specs.declared.value.Segment.{Segment, out-Segment}
 use Rattle.mx_value.specs.declared.value.Segment.TheOpen.{Segment-F}
 use Rattle.mx_value.specs.declared.value.Segment.TheVariants as segment
-use Rattle.mx_formulas.specs.Namespaces.{Step}
-use Rattle.mx_formulas.proofs.Walking.{out_name, out_item}
+use Rattle.mx_meaning.specs.Namespaces.{Step}
+use Rattle.mx_meaning.proofs.Walking.{out_name, out_item}
 use Rattle.mx_items_first.specs.Laws.{PassesThrough}
 
 same_head : {X : Type 0} (x y : X) (xs ys : List X) → x ∷ xs ≡ y ∷ ys → x ≡ y

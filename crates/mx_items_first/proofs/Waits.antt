@@ -19,10 +19,10 @@ use Rattle.mx_runs.specs.Meaning.{Means, Leads}
 use Rattle.mx_runs.specs.Lists.{Has}
 use Rattle.mx_runs.specs.Chains.{asks_of}
 use Rattle.mx_runs.proofs.Runs.{asked_by_end}
-use Rattle.mx_formulas.specs.Namespaces.{ends_with_name, item_at}
-use Rattle.mx_formulas.specs.Walks.{Onward, entered, walked_from, walked}
-use Rattle.mx_formulas.specs.Binding.{binding, cell_bound, item_bound}
-use Rattle.mx_formulas.specs.Laws.{model_of}
+use Rattle.mx_meaning.specs.Namespaces.{ends_with_name, item_at}
+use Rattle.mx_meaning.specs.Walks.{Onward, entered, walked_from, walked}
+use Rattle.mx_meaning.specs.Binding.{binding, cell_bound, item_bound}
+use Rattle.mx_meaning.specs.Laws.{model_of}
 use Rattle.mx_items_first.specs.Laws.{address_of, WaitsOnTheWay}
 use Rattle.mx_items_first.proofs.Prefixes.{Passes, stays_behind}
 use Rattle.mx_items_first.proofs.Carried.{Carries, walked_carried}

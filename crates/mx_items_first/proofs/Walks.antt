@@ -12,10 +12,10 @@ use Rattle.mx_runs.specs.Runs.{Asks, Gives}
 use Rattle.mx_runs.specs.Meaning.{Means}
 use Rattle.mx_runs.specs.Lists.{Has}
 use Rattle.mx_runs.proofs.Lists.{among_or_not}
-use Rattle.mx_formulas.specs.Namespaces.{item_at}
-use Rattle.mx_formulas.specs.Walks.{Onward, entered, walked}
-use Rattle.mx_formulas.specs.Laws.{model_of}
-use Rattle.mx_formulas.proofs.Walking.{Came}
+use Rattle.mx_meaning.specs.Namespaces.{item_at}
+use Rattle.mx_meaning.specs.Walks.{Onward, entered, walked}
+use Rattle.mx_meaning.specs.Laws.{model_of}
+use Rattle.mx_meaning.proofs.Walking.{Came}
 use Rattle.mx_items_first.proofs.Prefixes.{Passes, none_on_top, name_adds_none, item_adds_itself}
 use Rattle.mx_items_first.proofs.Guarded.{Guarded}
 use Rattle.mx_items_first.proofs.Carried.{Carries, walked_carried}

@@ -13,9 +13,9 @@ use Rattle.mx_runs.specs.Runs.{Run, Event, Asks}
 use Rattle.mx_runs.specs.Meaning.{Leads}
 use Rattle.mx_runs.specs.Lists.{Has}
 use Rattle.mx_runs.specs.Chains.{asks_of}
-use Rattle.mx_formulas.specs.Nodes.{body}
-use Rattle.mx_formulas.specs.Walks.{Onward, entered, walked_from, walked}
-use Rattle.mx_formulas.specs.Laws.{model_of, BindsTo}
+use Rattle.mx_meaning.specs.Nodes.{body}
+use Rattle.mx_meaning.specs.Walks.{Onward, entered, walked_from, walked}
+use Rattle.mx_meaning.specs.Laws.{model_of, BindsTo}
 
 -- the address whose walk begins the run of a node
 abbrev pub address_of : Node → List Segment

@@ -1,2 +1,5 @@
-pub mod Frames
-pub mod Begun
+pub mod States
+pub mod Settings
+pub mod Seeking
+pub mod Closing
+pub mod Behind

@@ -1,10 +1,10 @@
-//! Evaluation: formulas' code is run on one explicit stack, and what it gives is held.
+//! The evaluation of a node that is asked from outside, and its bound form.
 #![tactic(auto)]
 
-mod begin;
-pub mod binding;
-pub mod evaluator;
-mod held;
+pub mod arriving;
+pub mod behind;
+pub mod bound;
+pub mod closing;
+pub mod evaluating;
 pub mod machine;
-mod sought;
-pub mod steps;
+pub mod seeking;

@@ -1,120 +1,83 @@
--- Laws over the definitions: one meaning, one last ask, one ring, one answer, one step, and agreement of two texts.
-use Rattle.std.specs.Prelude.{◌≡◌, ℕ, List, Result, Ok, Err}
+-- Laws of the runs of formulas, over any way of looking keys up.
+use Rattle.std.specs.Prelude.{◌≡◌, true, false, List, [], ◌∷◌, ◌++◌, Some, None}
+use Rattle.mx_value.specs.declared.label.Label.{Label}
+use Rattle.mx_value.specs.declared.value.Value.TheVariants.{Space}
+use Rattle.mx_value.specs.declared.value.Segment.{Segment}
+use Rattle.mx_value.specs.declared.namespace.Namespace.{Namespace}
 use Rattle.mx_value.specs.declared.node.Node.{Node}
-use Rattle.mx_value.specs.declared.value.Value.{Value as Values}
-use Rattle.mx_value.specs.declared.fault.FaultKind.{FaultKind}
-use Rattle.mx_meaning.specs.declared.event.Reply.{Reply}
-use Rattle.mx_meaning.specs.declared.event.Event.{Event}
-use Rattle.mx_value.specs.declared.refusal.EvalRefusal.{EvalRefusal}
-use Rattle.mx_value.specs.declared.refusal.EvalRefusal.TheVariants as refusal
-use Rattle.mx_meaning.specs.Model.{Text}
-use Rattle.mx_meaning.specs.Runs.{Outcome, Run, Gives}
-use Rattle.mx_meaning.specs.Meaning.{body, Means, Leads, bound_node}
-use Rattle.mx_meaning.specs.Chains.{LastAsk, IsRing, MeansNothing, DoesAsk, HasValue}
-use Rattle.mx_meaning.specs.Held.{Entry, IsRight, HoldAlike}
-use Rattle.mx_meaning.specs.Support.{IsUnchanged}
-use Rattle.mx_meaning.specs.Answers.{Answer}
-use Rattle.mx_meaning.specs.State.{IsThere}
+use Rattle.mx_value.specs.declared.node.Node.TheVariants.{Cell, Item}
+use Rattle.mx_value.specs.declared.value.Value.{Value}
+use Rattle.mx_value.specs.declared.value.Segment.TheVariants as segment
+use Rattle.mx_edit.specs.declared.key.Key.{Key}
+use Rattle.mx_edit.specs.declared.key.KeyResult.{KeyResult}
+use Rattle.mx_edit.specs.declared.reply.Reply.{Reply}
+use Rattle.mx_runs.specs.Runs.{Model, Run, Event, Gives}
+use Rattle.mx_runs.specs.Meaning.{Means, Leads}
+use Rattle.mx_runs.specs.Chains.{DoesAsk}
+use Rattle.mx_runs.specs.Inputs.{InputsEnd}
+use Rattle.mx_runs.specs.Support.{TestsAreCovered}
+use Rattle.mx_meaning.specs.Binding.{binding}
+use Rattle.mx_meaning.specs.References.{names_added, relative, target_of}
+use Rattle.mx_meaning.specs.Nodes.{body}
 
--- a node means at most one thing
-abbrev pub OneMeaning : Type 0
-OneMeaning = (text : Text) (n : Node) (o p : Outcome) → Means text n o → Means text n p → o ≡ p
+-- formulas over a text, of which is known what its keys lead to
+abbrev pub model_of : (Key → KeyResult) → Model
+model_of look = record { look = look; body = body }
 
--- the node means the same in the other text, and its run comes by the same events to the same rests
-pub record Agrees (text other : Text) (n : Node) (r : Reply) : Type 0 where
-  pub means : Means other n (Gives r)
-  pub forth : (rest : Run) (es : List Event) → Leads text (body n) es rest → Leads other (body n) es rest
-  pub back : (rest : Run) (es : List Event) → Leads other (body n) es rest → Leads text (body n) es rest
+-- b is the bound form of n: by these events the binding of n comes to go on with b, whatever comes then
+pub record BindsTo (model : Model) (n b : Node) : Type 0 where
+  pub events : List Event
+  pub leads : (go : Node → Run) → Leads model (binding n go) events (go b)
 
-abbrev pub Agreement : Type 0
-Agreement = (text other : Text) (n : Node) (r : Reply) → Means text n (Gives r) → IsUnchanged text other n → Agrees text other n r
+-- a reply with the space at this address, and with it a namespace of the same address
+pub record IsSpaceAt (at : List Segment) (r : Reply) : Type 0 where
+  pub space : Namespace
+  pub is : r ≡ record { value = Space at; namespace = Some space }
+  pub address : space.at ≡ at
 
-abbrev pub OneLastAsk : Type 0
-OneLastAsk = (text : Text) (n m k : Node) → LastAsk text n m → LastAsk text n k → m ≡ k
+-- ---- laws
 
-abbrev pub OneRing : Type 0
-OneRing = (text : Text) (n : Node) (xs ys : List Node) → IsRing text n xs → IsRing text n ys → xs ≡ ys
+-- the run of an input looks its value up and ends with it
+abbrev pub InputsEndRuns : Type 0
+InputsEndRuns = (look : Key → KeyResult) → InputsEnd (model_of look)
 
--- a node with a ring means nothing
-abbrev pub RingIsLost : Type 0
-RingIsLost = (text : Text) (n : Node) (ring : List Node) → IsRing text n ring → MeansNothing text n
-
--- what is answered, where it is no refusal
-pub data Said : Type 0 where
-  Value : Values → Said
-  Faulty : FaultKind → Node → ℕ → Said
-  NoNode : Said
-  BadCount : Said
-  Circle : List Node → Said
-
-abbrev pub Says : Result Values EvalRefusal → Said → Type 0
-Says (Ok v) s = s ≡ Value v
-Says (Err (refusal.Fault k m line)) s = s ≡ Faulty k m line
-Says (Err refusal.NoSuch) s = s ≡ NoNode
-Says (Err refusal.WrongCount) s = s ≡ BadCount
-Says (Err (refusal.Ring ring)) s = s ≡ Circle ring
-Says (Err (refusal.TooDeep m)) s = ⊥
-Says (Err refusal.Full) s = ⊥
-Says (Err refusal.NoMemory) s = ⊥
-
--- two answers that are no refusals are the same
-abbrev pub OneAnswer : Type 0
-OneAnswer = (text : Text) (held : List Entry) (limit most : ℕ) (n : Node) (a b : Result Values EvalRefusal) (after other : List Entry) (ticks runs : ℕ) (s t : Said) → Answer text held limit most n a after ticks → Answer text held limit most n b other runs → Says a s → Says b t → s ≡ t
-
-abbrev pub IsRefused : Result Values EvalRefusal → Type 0
-IsRefused (Ok v) = ⊥
-IsRefused (Err (refusal.Fault k m line)) = ⊥
-IsRefused (Err refusal.NoSuch) = ⊥
-IsRefused (Err refusal.WrongCount) = ⊥
-IsRefused (Err (refusal.Ring ring)) = ⊥
-IsRefused (Err (refusal.TooDeep m)) = Unit {0}
-IsRefused (Err refusal.Full) = Unit {0}
-IsRefused (Err refusal.NoMemory) = ⊥
-
--- where one right answer says something, TooDeep and Full are not right
-abbrev pub NotRefused : Type 0
-NotRefused = (text : Text) (held : List Entry) (limit most : ℕ) (n : Node) (a b : Result Values EvalRefusal) (after other : List Entry) (ticks runs : ℕ) (s : Said) → Answer text held limit most n a after ticks → Answer text held limit most n b other runs → Says a s → IsRefused b → ⊥
-
--- it says something: it is no refusal, and did not want memory
-abbrev pub IsSaid : Result Values EvalRefusal → Type 0
-IsSaid (Ok v) = Unit {0}
-IsSaid (Err (refusal.Fault k m line)) = Unit {0}
-IsSaid (Err refusal.NoSuch) = Unit {0}
-IsSaid (Err refusal.WrongCount) = Unit {0}
-IsSaid (Err (refusal.Ring ring)) = Unit {0}
-IsSaid (Err (refusal.TooDeep m)) = ⊥
-IsSaid (Err refusal.Full) = ⊥
-IsSaid (Err refusal.NoMemory) = ⊥
-
--- the formula runs of an evaluation that answers so are told
-abbrev pub TellsTicks : Result Values EvalRefusal → Type 0
-TellsTicks (Ok v) = Unit {0}
-TellsTicks (Err (refusal.Fault k m line)) = Unit {0}
-TellsTicks (Err (refusal.Ring ring)) = Unit {0}
-TellsTicks (Err e) = ⊥
-
--- both answer the same, leave what is held alike, and began as many runs where these are told
-pub record EndAlike (a b : Result Values EvalRefusal) (after last : List Entry) (ticks runs : ℕ) : Type 0 where
-  pub same : a ≡ b
-  pub alike : HoldAlike after last
-  pub began : TellsTicks a → ticks ≡ runs
-
--- Two evaluations of a node from what is held alike end alike, where one says something and the other had memory.
-abbrev pub OneStep : Type 0
-OneStep = (text : Text) (held others : List Entry) (limit most : ℕ) (n : Node) (a b : Result Values EvalRefusal) (after last : List Entry) (ticks runs : ℕ) → HoldAlike held others → Answer text held limit most n a after ticks → Answer text others limit most n b last runs → IsSaid a → (b ≡ Err refusal.NoMemory → ⊥) → EndAlike a b after last ticks runs
-
--- what is right is held alike with itself: two evaluations from one right state are such
-abbrev pub RightIsAlike : Type 0
-RightIsAlike = (text : Text) (held : List Entry) → IsRight text held → HoldAlike held held
-
--- a run asks nodes in bound form
+-- each node that a run asks is its own bound form
 abbrev pub AskedIsBound : Type 0
-AskedIsBound = (text : Text) (n m : Node) → DoesAsk text n m → bound_node text m ≡ m
+AskedIsBound = (look : Key → KeyResult) (n m : Node) → DoesAsk (model_of look) n m → BindsTo (model_of look) m m
 
--- the bound form is bound
+-- a key that a run with a value tests is looked up by a node that it asks
+abbrev pub TestsAreOfAsked : Type 0
+TestsAreOfAsked = (look : Key → KeyResult) → TestsAreCovered (model_of look)
+
+-- a node has at most one bound form
+abbrev pub OneBoundForm : Type 0
+OneBoundForm = (look : Key → KeyResult) (n b c : Node) → BindsTo (model_of look) n b → BindsTo (model_of look) n c → b ≡ c
+
+-- a bound form is its own bound form
 abbrev pub BoundIsBound : Type 0
-BoundIsBound = (text : Text) (n : Node) → bound_node text (bound_node text n) ≡ bound_node text n
+BoundIsBound = (look : Key → KeyResult) (n b : Node) → BindsTo (model_of look) n b → BindsTo (model_of look) b b
 
--- a node that means a value is there
-abbrev pub ValueIsThere : Type 0
-ValueIsThere = (text : Text) (n : Node) → HasValue text n → IsThere text n
+-- an item node that is its own bound form gives the space at its address with the item
+abbrev pub ItemsGiveSpaces : Type 0
+ItemsGiveSpaces =
+    (look : Key → KeyResult) (at : List Segment) (args : List Value) (r : Reply) → BindsTo (model_of look) (Item at args) (Item at args)
+    → Means (model_of look) (Item at args) (Gives r) → IsSpaceAt (at ++ segment.Item args ∷ []) r
+
+-- cells give a value alone, with no namespace
+abbrev pub CellsGiveValues : Type 0
+CellsGiveValues = (look : Key → KeyResult) (at : List Segment) (name : Label) (args : List Value) (r : Reply) → Means (model_of look) (Cell at name args) (Gives r) → r.namespace ≡ None
+
+-- A target that is not fixed, of a reference that the space at a path defines, lies below that path: then it leads, from
+-- where the look-up was made, to what lies there in the same place.
+abbrev pub RelativeTargets : Type 0
+RelativeTargets =
+    (ns : Namespace) (first : Label) (owner rest : List Label)
+    → target_of ns (first ∷ owner ++ rest) (relative (first ∷ owner) false (first ∷ owner ++ rest)) ≡ record { at = names_added ns.at rest; path = ns.source ++ rest }
+
+-- a target that is fixed leads where it was written
+abbrev pub FixedTargets : Type 0
+FixedTargets = (ns : Namespace) (owner path : List Label) → target_of ns path (relative owner true path) ≡ record { at = names_added [] path; path = path }
+
+-- so does one of a reference of the model, which no space defines
+abbrev pub ModelTargets : Type 0
+ModelTargets = (ns : Namespace) (path : List Label) → target_of ns path (relative [] false path) ≡ record { at = names_added [] path; path = path }

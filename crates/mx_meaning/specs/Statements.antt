@@ -1,123 +1,112 @@
--- How the statements of a formula are done. Loops and item displays are not built yet, and each such case says so.
-use Rattle.std.specs.Prelude.{ℕ, ◌+◌, List, [], ◌∷◌, ◌++◌, Option, Some, None, Bool, if◌then◌else◌, map}
+-- How the statements of a formula are done, each at its line of the printed text.
+use Rattle.std.specs.Prelude.{ℕ, ◌+◌, List, [], ◌∷◌, Option, Some, None, map}
 use Rattle.mx_value.specs.declared.label.Label.{Label}
 use Rattle.mx_value.specs.declared.value.Value.{Value}
 use Rattle.mx_value.specs.declared.value.Value.TheVariants.{Nothing}
-use Rattle.mx_value.specs.declared.value.Segment.{Segment}
-use Rattle.mx_value.specs.declared.node.Node.{Node}
-use Rattle.mx_value.specs.declared.fault.FaultKind.TheVariants.{TypeMismatch, NoneReturned}
+use Rattle.mx_syntax.specs.declared.expr.Expr.{Expr}
 use Rattle.mx_syntax.specs.declared.stmt.Stmt.{Stmt, para-Stmt}
 use Rattle.mx_syntax.specs.declared.stmt.Stmt.TheOpen.{Stmt-F, IfArm-F}
-use Rattle.mx_syntax.specs.declared.stmt.IfArm.{IfArm, para-IfArm}
-use Rattle.mx_syntax.specs.declared.stmt.Param.{Param}
-use Rattle.mx_syntax.specs.declared.stmt.Formula.{Formula}
-use Rattle.mx_syntax.specs.Binding.{bound}
+use Rattle.mx_syntax.specs.declared.stmt.IfArm.{IfArm}
+use Rattle.mx_syntax.specs.declared.stmt.ItemEntry.{ItemEntry}
+use Rattle.mx_syntax.specs.declared.stmt.ItemEntry.TheVariants as entry
 use Rattle.mx_syntax.specs.Heights.{height, arm_height, first_line}
-use Rattle.mx_syntax.specs.Lists.{flat}
-use Rattle.mx_syntax.specs.Locals.{bound_by, add_all}
-use Rattle.mx_value.specs.Name.{same_name}
-use Rattle.mx_meaning.specs.Runs.{Run, Ends, Faults, Env, Reading, fault, computed, gives}
-use Rattle.mx_meaning.specs.Operators.{truth, changed}
-use Rattle.mx_meaning.specs.Expressions.{reading, named, tested}
+use Rattle.mx_ops.specs.Kinds.{items_of}
+use Rattle.mx_ops.specs.Truth.{truth}
+use Rattle.mx_runs.specs.Runs.{Run}
+use Rattle.mx_meaning.specs.Namespaces.{Overlay}
+use Rattle.mx_meaning.specs.Environments.{Env, Reading, computed, tested, with_local, at_line}
+use Rattle.mx_meaning.specs.Lookup.{named, valued}
+use Rattle.mx_meaning.specs.Operations.{changing, of_two}
+use Rattle.mx_meaning.specs.Expressions.{reading, values_beside, items_or_fault}
+
+-- what a formula returns: a value, or a display of references and a base
+pub data Returned : Type 0 where
+  Plain : Value → Returned
+  Display : Overlay → Option Value → Returned
 
 -- How a statement is done in an environment, before what comes after it, with what a return does.
 abbrev pub Doing : Type 0
-Doing = Env → (Env → Run) → (Value → Run) → Run
+Doing = Env → (Env → Run) → (Returned → Run) → Run
+
+-- ---- displays
+
+-- a reference of a display, by its name
+abbrev pub named_reading : Label × Expr → Label × Reading
+named_reading ref = (ref.0, reading ref.1)
+
+-- the entries of a display, computed from the left, behind these references and with this base
+abbrev pub displayed_from : List ItemEntry → Overlay → Option Value → Env → (Returned → Run) → Run
+displayed_from [] refs base env back = back (Display refs base)
+displayed_from (entry.Refs more ∷ entries) refs base env back =
+    values_beside (map named_reading more) refs env (λ all. displayed_from entries all base env back)
+displayed_from (entry.Base e ∷ entries) refs base env back =
+    reading e env (λ v. displayed_from entries refs (Some v) env back)
+
+-- ---- statements in a row
 
 -- a statement beside how it is done
 abbrev pub Done : Type 0
 Done = Stmt × Doing
 
--- the same at a line
-abbrev pub at_line : ℕ → Env → Env
-at_line line env = record env { line = line }
-
--- the first local of the name has this value
-abbrev pub set_in : List (Label × Option Value) → Label → Value → List (Label × Option Value)
-set_in [] name v = (name, Some v) ∷ []
-set_in (l ∷ ls) name v = if same_name l.0 name then (l.0, Some v) ∷ ls else l ∷ set_in ls name v
-
-abbrev pub set_local : Label → Value → Env → Env
-set_local name v env = record env { locals = set_in env.locals name v }
-
 -- statements one after the other, the first at this line
-abbrev pub body_from : List Done → ℕ → Doing
-body_from [] line env after back = after env
-body_from (s ∷ body) line env after back = s.1 (at_line line env) (λ e. body_from body (line + height s.0) e after back) back
+abbrev pub done_from : List Done → ℕ → Doing
+done_from [] line env after back = after env
+done_from (s ∷ body) line env after back =
+    s.1 (at_line line env) (λ e. done_from body (line + height s.0) e after back) back
 
 -- the statements of `else`, below its line
 abbrev pub other_from : Option (List Done) → ℕ → Doing
 other_from None line env after back = after env
-other_from (Some body) line env after back = body_from body (line + 1) env after back
+other_from (Some body) line env after back = done_from body (line + 1) env after back
 
--- how an arm of an `if` is done: its test, and its statements from a line on
+-- how an arm of an `if` is done: its test, and its statements
 abbrev pub ArmDoing : Type 0
-ArmDoing = Reading × (ℕ → Doing)
+ArmDoing = Reading × List Done
 
 -- The arms of an `if`, the first at this line, and what is done where no test holds. A test is at its arm's line.
-abbrev pub arms_from : List (IfArm × ArmDoing) → (ℕ → Doing) → ℕ → Doing
-arms_from [] other line env after back = other line env after back
+abbrev pub arms_from : List (IfArm × ArmDoing) → Option (List Done) → ℕ → Doing
+arms_from [] other line env after back = other_from other line env after back
 arms_from (a ∷ arms) other line env after back =
-    a.1.0 (at_line line env) (λ v. tested (truth v) (a.1.1 (line + 1) (at_line line env) after back) (arms_from arms other (line + arm_height a.0) (at_line line env) after back) (at_line line env))
+    a.1.0 (at_line line env) (λ v. tested (truth v)
+    (done_from a.1.1 (line + 1) env after back)
+    (arms_from arms other (line + arm_height a.0) env after back)
+    (at_line line env))
 
-abbrev pub stmt_step : Stmt-F (Stmt × Doing) (IfArm × ArmDoing) → Doing
+-- the body of a loop for each of these items, its name set before each
+abbrev pub looped_from : Label → List Done → List Value → ℕ → Doing
+looped_from name body [] line env after back = after env
+looped_from name body (v ∷ vs) line env after back =
+    done_from body line (with_local name v env) (λ e. looped_from name body vs line e after back) back
+
+-- ---- each form of statement, at the line of its environment
+
+-- each form of statement; `x op= e` reads x first
+abbrev pub stmt_step : Stmt-F Done (IfArm × ArmDoing) → Doing
 stmt_step Stmt-F.Pass env after back = after env
-stmt_step (Stmt-F.Return None) env after back = back Nothing
-stmt_step (Stmt-F.Return (Some e)) env after back = reading e env back
-stmt_step (Stmt-F.ReturnItem entries) env after back = fault TypeMismatch env
-stmt_step (Stmt-F.Assign name e) env after back = reading e env (λ v. after (set_local name v env))
-stmt_step (Stmt-F.Change name op e) env after back = named name env (λ old. reading e env (λ v. computed (changed op old v) env (λ w. after (set_local name w env))))
-stmt_step (Stmt-F.If arms other) env after back = arms_from arms (other_from other) env.line env after back
-stmt_step (Stmt-F.For name over body) env after back = fault TypeMismatch env
+stmt_step (Stmt-F.Return None) env after back = back (Plain Nothing)
+stmt_step (Stmt-F.Return (Some e)) env after back = reading e env (λ v. back (Plain v))
+stmt_step (Stmt-F.ReturnItem entries) env after back = displayed_from entries [] None env back
+stmt_step (Stmt-F.Assign name e) env after back = reading e env (λ v. after (with_local name v env))
+stmt_step (Stmt-F.Change name op e) env after back =
+    valued (named name) env (λ old. reading e env (λ v.
+    computed (of_two (changing op) old v) env (λ new. after (with_local name new env))))
+stmt_step (Stmt-F.If arms other) env after back = arms_from arms other env.line env after back
+stmt_step (Stmt-F.For name over body) env after back =
+    reading over env (λ v. items_or_fault (items_of v) env (λ items.
+    looped_from name body items (env.line + 1) env after back))
 
-abbrev pub arm_step : IfArm-F (Stmt × Doing) (IfArm × ArmDoing) → ArmDoing
-arm_step arm = (reading arm.test, body_from arm.body)
+-- an arm: its test, and its statements
+abbrev pub arm_step : IfArm-F Done (IfArm × ArmDoing) → ArmDoing
+arm_step arm = (reading arm.test, arm.body)
 
--- a statement, at the line of its environment
+-- how a statement is done
 abbrev pub doing : Stmt → Doing
 doing = para-Stmt Doing ArmDoing stmt_step arm_step
 
-abbrev pub arm_doing : IfArm → ArmDoing
-arm_doing = para-IfArm Doing ArmDoing stmt_step arm_step
-
+-- a statement, with how it is done
 abbrev pub done_by : Stmt → Done
 done_by s = (s, doing s)
 
-abbrev pub arm_done_by : IfArm → IfArm × ArmDoing
-arm_done_by a = (a, arm_doing a)
-
--- the statements of a body, the first at this line
-abbrev pub doing_from : List Stmt → ℕ → Doing
-doing_from body = body_from (map done_by body)
-
--- the statements of `else`, where they are there
-abbrev pub other_done : Option (List Stmt) → Option (List Done)
-other_done None = None
-other_done (Some body) = Some (map done_by body)
-
--- the arms of an `if`, the first at this line, and its `else`
-abbrev pub arms_doing : List IfArm → Option (List Stmt) → ℕ → Doing
-arms_doing arms other = arms_from (map arm_done_by arms) (other_from (other_done other))
-
--- the end of a formula's run: None is a fault of the first line where the cells don't allow it
-abbrev pub ended : Bool → Node → Value → Run
-ended allow n Nothing = if allow then gives Nothing else Ends (Faults NoneReturned n 1)
-ended allow n v = gives v
-
--- the parameters, with their arguments
-abbrev pub given_locals : List Param → List Value → List (Label × Option Value)
-given_locals [] args = []
-given_locals (p ∷ ps) [] = []
-given_locals (p ∷ ps) (v ∷ vs) = (p.name, Some v) ∷ given_locals ps vs
-
--- the names that the statements bind, which are not set yet
-abbrev pub unset_locals : List Stmt → List (Label × Option Value)
-unset_locals body = map (λ (name : Label). (name, None)) (add_all [] (flat (map bound_by body)))
-
--- where the formula of a node begins: at its head, with the arguments bound
-abbrev pub first_env : Node → List Segment → List Label → Formula → List Value → Env
-first_env n at source f args = record { node = n; at = at; source = source; line = 1; locals = given_locals f.params (bound f.params args) ++ unset_locals f.body }
-
--- a formula is done: a body that comes to its end gives None
-abbrev pub formula_done : Formula → Bool → Env → Run
-formula_done f allow env = doing_from f.body (first_line f.body) env (λ e. ended allow env.node Nothing) (ended allow env.node)
+-- The statements of a formula, from its first line on. A body that comes to its end returns None.
+abbrev pub body_done : List Stmt → Env → (Returned → Run) → Run
+body_done body env back = done_from (map done_by body) (first_line body) env (λ e. back (Plain Nothing)) back

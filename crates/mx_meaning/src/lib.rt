@@ -1,7 +1,5 @@
-//! What a node means: a run is a conversation with the model text and with other nodes, and no engine takes part in it.
+//! What every form of formula and every kind of node does, as a conversation with a model text and with other nodes. It
+//! knows no model text: whatever a run learns of the model it learns by looking keys up.
 #![tactic(auto)]
 
-pub mod event;
-pub mod kept;
-pub mod key;
 pub mod laws;

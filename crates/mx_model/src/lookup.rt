@@ -9,7 +9,7 @@ use crate::kind::Kind;
 use crate::text::ModelText;
 use mx_c3::lists::Order;
 use mx_c3::space::SpaceId;
-use mx_instructions::compiled::CompiledParams;
+use mx_code::compiled::CompiledParams;
 use mx_value::label::Label;
 
 /// What layers bind a name to.

@@ -6,8 +6,8 @@ ghost use Rattle.mx_value.specs.Name.{same_name};
 ghost use Rattle.mx_model.specs.Readers.{cells_of, name_at, or_false};
 
 use crate::members::Members;
+use mx_code::compiled::{Compiled, CompiledParams};
 use mx_edit::reference::RefValue;
-use mx_instructions::compiled::{Compiled, CompiledParams};
 use mx_list::list::List;
 use mx_list::shared::Shared;
 use mx_value::label::Label;

@@ -5,7 +5,7 @@ use Rattle.mx_edit.specs.declared.key.Key.{Key}
 use Rattle.mx_edit.specs.declared.key.KeyResult.{KeyResult}
 use Rattle.mx_ops.specs.declared.op.OpRefusal.{OpRefusal}
 use Rattle.mx_ops.specs.declared.op.OpRefusal.TheVariants as refusal
-use Rattle.mx_instructions_law.specs.States.{Home, Next, Look, Note}
+use Rattle.mx_code_law.specs.States.{Home, Next, Look, Note}
 use Rattle.mx_stack.specs.Came.{Continues}
 use Rattle.mx_reading.specs.Seen.{Seen, with_key, with_read}
 use Rattle.mx_reading.specs.Passed.{passed}

@@ -5,7 +5,7 @@ use Rattle.std.proofs.lemmas.List.{drop_all, drop_more, set_split, take_more}
 use Rattle.mx_value.specs.Name.{same_name}
 use Rattle.mx_value.specs.declared.label.Label.{Label}
 use Rattle.mx_value.specs.declared.value.Value.{Value}
-use Rattle.mx_formulas.specs.Namespaces.{Overlay, overlaid, overlaid_by}
+use Rattle.mx_meaning.specs.Namespaces.{Overlay, overlaid, overlaid_by}
 
 module _ (os : Overlay) (i : ℕ) (name : Label) (o : Label × Value) (within : i < length os) (is : o ≡ get_or os i o) where
   begun : drop i os ≡ o ∷ drop (i + 1) os

@@ -5,7 +5,7 @@ use Rattle.std.proofs.lemmas.List.{drop_all, drop_more}
 use Rattle.std.proofs.lemmas.Option.{get_or_from_slice_get, slice_get_within}
 use Rattle.mx_value.specs.Name.{same_name}
 use Rattle.mx_value.specs.declared.label.Label.{Label}
-use Rattle.mx_formulas.specs.References.{behind, member_of, parent_of}
+use Rattle.mx_meaning.specs.References.{behind, member_of, parent_of}
 
 pub parent_taken : {X : Type 0} (xs : List X) → take (length xs - 1) xs ≡ parent_of xs
 parent_taken [] = refl

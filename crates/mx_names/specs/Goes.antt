@@ -4,7 +4,7 @@ use Rattle.mx_edit.specs.declared.key.Key.{Key}
 use Rattle.mx_edit.specs.declared.key.KeyResult.{KeyResult}
 use Rattle.mx_ops.specs.declared.op.OpRefusal.{OpRefusal}
 use Rattle.mx_ops.specs.declared.op.OpRefusal.TheVariants as refusal
-use Rattle.mx_instructions_law.specs.States.{Home, Next, Fault}
+use Rattle.mx_code_law.specs.States.{Home, Next, Fault}
 use Rattle.mx_reading.specs.Seen.{Seen}
 use Rattle.mx_reading.specs.Passed.{passed}
 

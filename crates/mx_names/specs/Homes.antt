@@ -1,5 +1,5 @@
 -- Where a formula runs, as the machine of the law has it.
-use Rattle.mx_instructions_law.specs.States as law
+use Rattle.mx_code_law.specs.States as law
 use Rattle.mx_names.specs.declared.home.Home.{Home}
 use Rattle.mx_names.specs.declared.home.Work.{Work}
 use Rattle.mx_names.specs.declared.home.Work.TheVariants as work

@@ -1,5 +1,5 @@
 -- What a target stands for, as the meaning has it.
-use Rattle.mx_formulas.specs.References.{Target as Meant}
+use Rattle.mx_meaning.specs.References.{Target as Meant}
 use Rattle.mx_names.specs.declared.targets.Target.{Target}
 
 abbrev pub target_meant : Target → Meant

@@ -1,8 +1,8 @@
 //! Addresses and paths that are made of others.
 ghost use Rattle.std.specs.Prelude.{◌≡◌, ◌∷◌, [], ◌++◌, map, option_copied, IfOk};
 ghost use Rattle.mx_value.specs.declared.value.Segment.TheVariants as segment;
-ghost use Rattle.mx_formulas.specs.Namespaces as spaces;
-ghost use Rattle.mx_formulas.specs.References as spec;
+ghost use Rattle.mx_meaning.specs.Namespaces as spaces;
+ghost use Rattle.mx_meaning.specs.References as spec;
 
 use mx_list::items::Items;
 use mx_list::list::List;

@@ -1,7 +1,7 @@
 //! Names that items add to a namespace.
 ghost use Rattle.std.specs.Prelude.{◌≡◌, ◌<◌, ◌++◌, ◌∷◌, [], length, slice_set, IfNone, IfOk, IfSome, OnOk};
 ghost use Rattle.mx_value.specs.declared.value.Value.{Value as Values};
-ghost use Rattle.mx_formulas.specs.Namespaces as spec;
+ghost use Rattle.mx_meaning.specs.Namespaces as spec;
 
 use mx_list::items::Items;
 use mx_list::list::List;

@@ -2,8 +2,8 @@
 ghost use Rattle.std.specs.Prelude.{◌≡◌, ℕ};
 ghost use Rattle.mx_value.specs.declared.value.Value.{Value as Values};
 ghost use Rattle.mx_model.specs.Keys.{key_result};
-ghost use Rattle.mx_instructions_law.specs.States.{Home, Next};
-ghost use Rattle.mx_instructions_law.specs.Finding.{reference_next};
+ghost use Rattle.mx_code_law.specs.States.{Home, Next};
+ghost use Rattle.mx_code_law.specs.Finding.{reference_next};
 ghost use Rattle.mx_names.specs.Goes.{Goes};
 
 use crate::addresses::relative;

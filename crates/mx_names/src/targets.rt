@@ -2,9 +2,9 @@
 ghost use Rattle.std.specs.Prelude.{◌≡◌, ℕ, option_copied, IfOk};
 ghost use Rattle.mx_value.specs.declared.value.Value.{Value as Values};
 ghost use Rattle.mx_model.specs.Keys.{key_result};
-ghost use Rattle.mx_formulas.specs.References as spec;
-ghost use Rattle.mx_instructions_law.specs.States.{Home, Next};
-ghost use Rattle.mx_instructions_law.specs.Finding.{cells_next, member_next, space_next, target_next};
+ghost use Rattle.mx_meaning.specs.References as spec;
+ghost use Rattle.mx_code_law.specs.States.{Home, Next};
+ghost use Rattle.mx_code_law.specs.Finding.{cells_next, member_next, space_next, target_next};
 ghost use Rattle.mx_stack.specs.Came.{Continues};
 ghost use Rattle.mx_names.specs.Goes.{Goes};
 ghost use Rattle.mx_names.specs.Targets.{target_meant};

@@ -8,9 +8,9 @@ use Rattle.mx_syntax.specs.declared.stmt.Stmt.{Stmt}
 use Rattle.mx_syntax.specs.declared.bind.BindRefusal.{BindRefusal}
 use Rattle.mx_syntax.specs.declared.bind.BindRefusal.TheVariants.{WrongCount as BadCount}
 use Rattle.mx_syntax.specs.Binding.{bound, is_wrong_count}
-use Rattle.mx_instructions.specs.Statements.{size_of}
-use Rattle.mx_instructions_law.specs.States.{state}
-use Rattle.mx_instructions_law.specs.Laws.{begun}
+use Rattle.mx_code.specs.Statements.{size_of}
+use Rattle.mx_code_law.specs.States.{state}
+use Rattle.mx_code_law.specs.Laws.{begun}
 use Rattle.mx_stack.specs.Flight.{Flight, all_of}
 use Rattle.mx_node_runs.specs.Begins.{standing}
 

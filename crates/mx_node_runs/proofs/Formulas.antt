@@ -17,18 +17,18 @@ use Rattle.mx_edit.specs.declared.key.Key.TheVariants as key
 use Rattle.mx_edit.specs.declared.key.KeyResult.{KeyResult}
 use Rattle.mx_edit.specs.declared.key.KeyResult.TheVariants as found
 use Rattle.mx_runs.specs.Runs.{Model, Run, Ends, Looks, WrongCount, NoSuch}
-use Rattle.mx_formulas.specs.Laws.{model_of}
-use Rattle.mx_formulas.specs.Namespaces.{Overlay, ends_with_name, is_allowed, item_at}
-use Rattle.mx_formulas.specs.Nodes.{arguments_of, cells_found, cells_returned, first_env, item_done, item_found, item_made, item_run}
-use Rattle.mx_formulas.specs.Statements.{body_done}
-use Rattle.mx_formulas.specs.Walks.{bound_or_refused}
-use Rattle.mx_instructions.specs.declared.action.Instr.{Instr}
-use Rattle.mx_instructions.specs.declared.code.Code.{Code}
-use Rattle.mx_instructions.specs.Statements.{body_of, code_of}
-use Rattle.mx_instructions.specs.Told.{told}
-use Rattle.mx_instructions_law.specs.States as law
-use Rattle.mx_instructions_law.specs.Machine.{Does}
-use Rattle.mx_instructions_law.proofs.Formulas.{cells_do, items_do}
+use Rattle.mx_meaning.specs.Laws.{model_of}
+use Rattle.mx_meaning.specs.Namespaces.{Overlay, ends_with_name, is_allowed, item_at}
+use Rattle.mx_meaning.specs.Nodes.{arguments_of, cells_found, cells_returned, first_env, item_done, item_found, item_made, item_run}
+use Rattle.mx_meaning.specs.Statements.{body_done}
+use Rattle.mx_meaning.specs.Walks.{bound_or_refused}
+use Rattle.mx_code.specs.declared.action.Instr.{Instr}
+use Rattle.mx_code.specs.declared.code.Code.{Code}
+use Rattle.mx_code.specs.Statements.{body_of, code_of}
+use Rattle.mx_code.specs.Told.{told}
+use Rattle.mx_code_law.specs.States as law
+use Rattle.mx_code_law.specs.Machine.{Does}
+use Rattle.mx_code_law.proofs.Formulas.{cells_do, items_do}
 use Rattle.mx_reading.specs.Seen.{Seen, with_key}
 use Rattle.mx_stack.specs.Flight.{Flight}
 use Rattle.mx_names.specs.declared.ending.Ending.TheVariants as ending

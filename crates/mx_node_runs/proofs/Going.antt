@@ -10,7 +10,7 @@ use Rattle.mx_suspended.proofs.Standing.{past_then}
 use Rattle.mx_reading.specs.Seen.{Seen, added, with_key}
 use Rattle.mx_steps.proofs.Adding.{adds}
 use Rattle.mx_node_runs.specs.declared.halt.Halt.{Halt}
-use Rattle.mx_instructions_law.specs.States.{State}
+use Rattle.mx_code_law.specs.States.{State}
 use Rattle.mx_node_runs.specs.Halts.{GoesOn, HaltsAt}
 use Rattle.mx_steps.specs.Runs.{recorded}
 

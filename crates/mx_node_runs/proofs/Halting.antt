@@ -8,7 +8,7 @@ use Rattle.mx_edit.specs.declared.key.Key.{Key}
 use Rattle.mx_edit.specs.declared.key.KeyResult.{KeyResult}
 use Rattle.mx_edit.specs.declared.reply.Reply.{Reply}
 use Rattle.mx_runs.specs.Runs.{Model, Run, Ends, Asks, Looks}
-use Rattle.mx_instructions_law.specs.States.{Slot, State}
+use Rattle.mx_code_law.specs.States.{Slot, State}
 use Rattle.mx_reading.specs.Seen.{Seen, with_key}
 use Rattle.mx_stack.specs.Flight.{Flight, all_of}
 use Rattle.mx_names.specs.declared.ending.Ending.{Ending}

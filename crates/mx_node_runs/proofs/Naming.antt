@@ -4,8 +4,8 @@ use Rattle.std.proofs.lemmas.List.{append-nil, append_assoc, drop_all, drop_more
 use Rattle.std.proofs.lemmas.Option.{get_or_from_slice_get, slice_get_within}
 use Rattle.mx_value.specs.declared.value.Value.{Value}
 use Rattle.mx_syntax.specs.declared.stmt.Param.{Param}
-use Rattle.mx_formulas.specs.Namespaces.{Overlay}
-use Rattle.mx_formulas.specs.Nodes.{arguments_of}
+use Rattle.mx_meaning.specs.Namespaces.{Overlay}
+use Rattle.mx_meaning.specs.Nodes.{arguments_of}
 
 -- what is named so far, and what is still to come
 abbrev pub AreNamed : Overlay → List Param → List Value → ℕ → Type 0

@@ -2,10 +2,10 @@
 use Rattle.std.proofs.Common.{◌≡◌, refl, subst}
 use Rattle.mx_value.specs.declared.node.Node.{Node}
 use Rattle.mx_runs.specs.Runs.{Model, Run}
-use Rattle.mx_instructions.specs.declared.code.Code.{Code}
-use Rattle.mx_instructions.specs.Told.{told}
-use Rattle.mx_instructions_law.specs.States.{State}
-use Rattle.mx_instructions_law.specs.Machine.{Does}
+use Rattle.mx_code.specs.declared.code.Code.{Code}
+use Rattle.mx_code.specs.Told.{told}
+use Rattle.mx_code_law.specs.States.{State}
+use Rattle.mx_code_law.specs.Machine.{Does}
 use Rattle.mx_reading.specs.Seen.{Seen}
 use Rattle.mx_names.specs.declared.ending.Ending.{Ending}
 use Rattle.mx_names.specs.declared.home.Home.{Home}

@@ -8,11 +8,11 @@ use Rattle.mx_edit.specs.declared.key.Key.{Key}
 use Rattle.mx_edit.specs.declared.key.KeyResult.{KeyResult}
 use Rattle.mx_edit.specs.declared.reply.Reply.{Reply}
 use Rattle.mx_runs.specs.Runs.{Model, Run}
-use Rattle.mx_formulas.specs.Laws.{model_of}
-use Rattle.mx_formulas.specs.Nodes.{body}
-use Rattle.mx_formulas.specs.Walks.{entered, walked_from}
-use Rattle.mx_instructions.specs.Told.{told as told_code}
-use Rattle.mx_instructions_law.specs.Machine.{Does}
+use Rattle.mx_meaning.specs.Laws.{model_of}
+use Rattle.mx_meaning.specs.Nodes.{body}
+use Rattle.mx_meaning.specs.Walks.{entered, walked_from}
+use Rattle.mx_code.specs.Told.{told as told_code}
+use Rattle.mx_code_law.specs.Machine.{Does}
 use Rattle.mx_reading.specs.Seen.{Seen}
 use Rattle.mx_stack.specs.Flight.{Flight, on_top}
 use Rattle.mx_names.specs.declared.ending.Ending.TheVariants as ending

@@ -4,9 +4,9 @@ use Rattle.mx_value.specs.declared.value.Value.{Value}
 use Rattle.mx_syntax.specs.declared.stmt.Param.{Param}
 use Rattle.mx_syntax.specs.declared.stmt.Stmt.{Stmt}
 use Rattle.mx_syntax.specs.Binding.{bound, is_wrong_count}
-use Rattle.mx_instructions.specs.Statements.{size_of}
-use Rattle.mx_instructions_law.specs.States.{state}
-use Rattle.mx_instructions_law.specs.Laws.{begun}
+use Rattle.mx_code.specs.Statements.{size_of}
+use Rattle.mx_code_law.specs.States.{state}
+use Rattle.mx_code_law.specs.Laws.{begun}
 use Rattle.mx_stack.specs.Flight.{Flight, all_of}
 
 -- a run stands at the beginning of its code, above all that was on the stack

@@ -7,8 +7,8 @@ use Rattle.mx_value.specs.declared.node.Node.{Node}
 use Rattle.mx_value.specs.declared.node.Node.TheVariants.{Cell, Item}
 use Rattle.mx_edit.specs.declared.key.Key.TheVariants as key
 use Rattle.mx_runs.specs.Runs.{Run, Looks}
-use Rattle.mx_formulas.specs.Walks.{walked}
-use Rattle.mx_formulas.specs.Nodes.{cells_found, item_run, value_given}
+use Rattle.mx_meaning.specs.Walks.{walked}
+use Rattle.mx_meaning.specs.Nodes.{cells_found, item_run, value_given}
 
 -- the address that a node's run walks
 abbrev pub address_of : Node → List Segment

@@ -5,10 +5,10 @@ use Rattle.mx_edit.specs.Entry.{Entry}
 use Rattle.mx_edit.specs.declared.reply.Reply.{Reply}
 use Rattle.mx_runs.specs.Runs.{Model, Run, Ends, Asks}
 use Rattle.mx_suspended.specs.Recorded.{GoesPast}
-use Rattle.mx_formulas.specs.Walks.{entered, walked_from}
-use Rattle.mx_instructions.specs.Told.{told}
-use Rattle.mx_instructions_law.specs.States.{State, state}
-use Rattle.mx_instructions_law.specs.Machine.{Does}
+use Rattle.mx_meaning.specs.Walks.{entered, walked_from}
+use Rattle.mx_code.specs.Told.{told}
+use Rattle.mx_code_law.specs.States.{State, state}
+use Rattle.mx_code_law.specs.Machine.{Does}
 use Rattle.mx_reading.specs.Seen.{Seen}
 use Rattle.mx_stack.specs.Flight.{Flight}
 use Rattle.mx_names.specs.Endings.{ending_of}

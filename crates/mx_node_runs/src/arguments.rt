@@ -2,10 +2,10 @@
 ghost use Rattle.std.specs.Prelude.{◌≡◌, false, length, map, IfOk, IsTrue};
 ghost use Rattle.mx_value.specs.Normal.{normal_of};
 ghost use Rattle.mx_syntax.specs.Binding.{bound, is_wrong_count};
-ghost use Rattle.mx_formulas.specs.Nodes.{arguments_of};
+ghost use Rattle.mx_meaning.specs.Nodes.{arguments_of};
 ghost use Rattle.mx_node_runs.specs.Begins.{Begins};
 
-use mx_instructions::compiled::Compiled;
+use mx_code::compiled::Compiled;
 use mx_list::items::Items;
 use mx_stack::stack::Stack;
 use mx_syntax::bind::{BindRefusal, bind};

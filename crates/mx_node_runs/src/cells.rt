@@ -1,7 +1,7 @@
 //! The run of cells behind the walk of their address.
 ghost use Rattle.std.specs.Prelude.{◌≡◌, IfOk};
 ghost use Rattle.mx_edit.specs.declared.key.Key.TheVariants as key;
-ghost use Rattle.mx_formulas.specs.Nodes.{cells_found};
+ghost use Rattle.mx_meaning.specs.Nodes.{cells_found};
 ghost use Rattle.mx_runs.specs.Runs.{Looks};
 ghost use Rattle.mx_state.specs.Model.{model_of};
 ghost use Rattle.mx_node_runs.specs.Halts.{HaltsFrom};

@@ -1,14 +1,14 @@
 //! The code of a formula, up to where the run halts.
 ghost use Rattle.std.specs.Prelude.{◌≡◌, IfOk, OnOk};
-ghost use Rattle.mx_instructions.specs.Told.{told};
-ghost use Rattle.mx_instructions_law.specs.Machine.{Does};
+ghost use Rattle.mx_code.specs.Told.{told};
+ghost use Rattle.mx_code_law.specs.Machine.{Does};
 ghost use Rattle.mx_names.specs.Homes.{home_of};
 ghost use Rattle.mx_runs.specs.Runs.{Run};
 ghost use Rattle.mx_state.specs.Model.{model_of};
 ghost use Rattle.mx_node_runs.specs.Halts.{HaltsAt};
 
 use crate::halt::{Halt, InCode, Waiting};
-use mx_instructions::code::Code;
+use mx_code::code::Code;
 use mx_list::shared::Shared;
 use mx_names::home::Home;
 use mx_reading::seen::Seen;

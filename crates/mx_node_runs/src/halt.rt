@@ -1,5 +1,5 @@
 //! Where the run of a node halts, and how it goes on from there.
-use mx_instructions::code::Code;
+use mx_code::code::Code;
 use mx_list::shared::Shared;
 use mx_names::ending::Ending;
 use mx_names::home::Home;

@@ -1,7 +1,7 @@
 //! The value that was put in for a node, which its run looks up before all else.
 ghost use Rattle.std.specs.Prelude.{◌≡◌, IfOk};
 ghost use Rattle.mx_value.specs.declared.value.Segment.{out-Segment};
-ghost use Rattle.mx_formulas.specs.Nodes.{body};
+ghost use Rattle.mx_meaning.specs.Nodes.{body};
 ghost use Rattle.mx_runs.specs.Inputs as inputs;
 ghost use Rattle.mx_state.specs.Model.{model_of};
 ghost use Rattle.mx_node_runs.specs.Behind.{after_input};

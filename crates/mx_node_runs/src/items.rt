@@ -1,7 +1,7 @@
 //! The run of an item behind the walk of its address.
 ghost use Rattle.std.specs.Prelude.{◌≡◌, IfOk};
-ghost use Rattle.mx_formulas.specs.Nodes.{item_made, item_run};
-ghost use Rattle.mx_formulas.specs.Walks.{bound_or_refused};
+ghost use Rattle.mx_meaning.specs.Nodes.{item_made, item_run};
+ghost use Rattle.mx_meaning.specs.Walks.{bound_or_refused};
 ghost use Rattle.mx_state.specs.Model.{model_of};
 ghost use Rattle.mx_node_runs.specs.Halts.{HaltsFrom};
 
@@ -9,8 +9,8 @@ use crate::arguments::name_arguments;
 use crate::arrived::Arrived;
 use crate::code::proceed;
 use crate::halt::Halt;
+use mx_code::compiled::CompiledParams;
 use mx_edit::key::Key;
-use mx_instructions::compiled::CompiledParams;
 use mx_names::ending::Ending;
 use mx_names::home::{Home, Work};
 use mx_reading::seen::Seen;

@@ -1,7 +1,7 @@
 //! The run of a node, from its beginning or from an answer up to where it halts.
 ghost use Rattle.std.specs.Prelude.{◌≡◌, IfOk, OnOk};
 ghost use Rattle.mx_edit.specs.declared.reply.Reply.{Reply as Replies};
-ghost use Rattle.mx_formulas.specs.Nodes.{body};
+ghost use Rattle.mx_meaning.specs.Nodes.{body};
 ghost use Rattle.mx_runs.specs.Runs.{Run};
 ghost use Rattle.mx_state.specs.Model.{model_of};
 ghost use Rattle.mx_walks.specs.Ways.{leading_run, told};

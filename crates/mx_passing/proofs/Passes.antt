@@ -12,7 +12,7 @@ use Rattle.mx_memo.specs.Memos.{Memory}
 use Rattle.mx_runs.specs.Runs.{Model, Run, Asks}
 use Rattle.mx_suspended.specs.Recorded.{Recorded, Adds, GoesPast, Stays, PastLook, PastTest, PastNote, PastHeld, PastInput}
 use Rattle.mx_suspended.proofs.Standing.{past_then}
-use Rattle.mx_instructions_law.specs.States.{State}
+use Rattle.mx_code_law.specs.States.{State}
 use Rattle.mx_stack.specs.Flight.{Below, Flight}
 use Rattle.mx_node_runs.specs.declared.halt.Waiting.{Waiting}
 use Rattle.mx_node_runs.specs.declared.halt.Halt.TheVariants as halt

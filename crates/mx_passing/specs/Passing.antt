@@ -5,7 +5,7 @@ use Rattle.mx_memo.specs.Memos.{Memory}
 use Rattle.mx_runs.specs.Runs.{Model, Run, Asks, Ends}
 use Rattle.mx_suspended.specs.Recorded.{GoesPast}
 use Rattle.mx_value.specs.declared.node.Node.{Node}
-use Rattle.mx_instructions_law.specs.States.{State}
+use Rattle.mx_code_law.specs.States.{State}
 use Rattle.mx_names.specs.Endings.{ending_of}
 use Rattle.mx_node_runs.specs.Halts.{HaltsAs, Resumes}
 use Rattle.mx_entries.specs.Entries.{entries_of}

@@ -1,7 +1,7 @@
 -- How what comes of an instruction goes on past the keys that it looks up and what it notes.
 use Rattle.mx_edit.specs.declared.key.Key.{Key}
 use Rattle.mx_edit.specs.declared.key.KeyResult.{KeyResult}
-use Rattle.mx_instructions_law.specs.States.{Next, On, End, Look, Test, Ask, Note, Stuck}
+use Rattle.mx_code_law.specs.States.{Next, On, End, Look, Test, Ask, Note, Stuck}
 use Rattle.mx_reading.specs.Seen.{Seen, with_key, with_read}
 
 -- where it comes to a state, an end or an ask, and what the run has read then

@@ -7,7 +7,8 @@ use Rattle.mx_outside.specs.declared.sink.WriteFailure.TheVariants as write
 use Rattle.mx_outside.proofs.Bytes.{append_known-nil}
 use Rattle.mx_run.specs.Script.{taken, complete, pending_after, complete_commands}
 use Rattle.mx_script.specs.Script.{Lines, split_lines, Command, Taken, HasNoLf}
-use Rattle.mx_run.specs.Answer.{State, first_state}
+use Rattle.mx_state.specs.State.{State}
+use Rattle.mx_engine.specs.Engine.{first_state}
 use Rattle.mx_run.specs.Transcript.{Runs, Begins, Wrote, IsWithin, IsBrokenOff, IsCut}
 use Rattle.mx_run.specs.Session.{TakesLine, pending_of}
 use Rattle.mx_run.specs.At.{IsAfter, Halts}

@@ -1,5 +1,5 @@
 -- A piece that is fed line by line, and a script's end.
-use Rattle.std.proofs.Common.{◌≡◌, ◌≢◌, ℕ, zero, suc, ◌+◌, ◌<◌, List, [], ◌∷◌, ◌++◌, Option, None, Result, Ok, Err, MatchResult, length, take, drop, get_or, refl, sym, ap, ◌∙◌, subst, append_assoc, append-nil, arith, take-append-drop}
+use Rattle.std.proofs.Common.{◌≡◌, ◌≢◌, ℕ, zero, suc, ◌+◌, ◌<◌, List, [], ◌∷◌, ◌++◌, Option, None, Result, Ok, Err, length, take, drop, get_or, refl, sym, ap, ◌∙◌, subst, append_assoc, append-nil, arith, take-append-drop}
 use Rattle.std.proofs.lemmas.List.{take_more}
 use Rattle.std.specs.Option.{option_to_list}
 use Rattle.std.specs.Io.KnownBytes.{append_known}
@@ -7,9 +7,10 @@ use Rattle.mx_outside.specs.declared.sink.WriteFailure.{WriteFailure}
 use Rattle.mx_outside.proofs.Bytes.{append_known-append}
 use Rattle.mx_run.specs.Script.{taken, complete, pending_after, complete_commands, commands}
 use Rattle.mx_script.specs.Script.{split_lines, last_line, Command, Taken, HasNoLf}
-use Rattle.mx_run.specs.Answer.{State, first_state}
+use Rattle.mx_state.specs.State.{State}
+use Rattle.mx_engine.specs.Engine.{first_state}
 use Rattle.mx_run.specs.Transcript.{Runs, Begins, Wrote, IsOutput}
-use Rattle.mx_run.specs.Session.{TakesLine, pending_of}
+use Rattle.mx_run.specs.Session.{Answers, TakesLine, pending_of}
 use Rattle.mx_run.specs.At.{IsAfter, At, Halts, GoesOn, Finishes}
 use Rattle.mx_run.specs.declared.take.Pending.{Pending}
 use Rattle.mx_run.specs.declared.stop.Stop.{Stop}
@@ -78,11 +79,7 @@ module _ (s : Session) (piece done rest line more read written : List ℕ) (is :
               (subst (λ (w : List ℕ). At u (((read ++ done) ++ line) ++ 10 ∷ []) w) (append_assoc written first.written last.written) last.holds);
         }
 
--- the last commands are answered, or begun
-abbrev pub Ended : State → List Command → Result (Unit {0}) WriteFailure → State → List ℕ → Type 0
-Ended state cs result new block = MatchResult result (λ _. Runs state cs block new) (λ _. Begins state cs block)
-
-ended_more : (read : List ℕ) (cs ds : List Command) (state new : State) (w b : List ℕ) (result : Result (Unit {0}) WriteFailure) → commands read ≡ cs ++ ds → Runs first_state cs w state → Ended state ds result new b
+ended_more : (read : List ℕ) (cs ds : List Command) (state new : State) (w b : List ℕ) (result : Result (Unit {0}) WriteFailure) → commands read ≡ cs ++ ds → Runs first_state cs w state → Answers state ds result new b
     → Finishes result read (w ++ b)
 ended_more read cs ds state new w b (Ok u) is run ended = subst (λ (x : List Command). IsOutput x (w ++ b)) (sym is) (new, run_more first_state cs ds w b state new run ended)
 ended_more read cs ds state new w b (Err e) is run begun = subst (λ (x : List Command). Begins first_state x (w ++ b)) (sym is) (begins_more first_state cs ds w b state run begun)
@@ -123,22 +120,22 @@ module _ (line : List ℕ) (lines size : ℕ) (pending : Option Command) (state 
 
   module _ (kept : Option Pending) (same_pending : pending_of kept ≡ pending) where
     pub finish_empty : (result : Result (Unit {0}) WriteFailure) (new : State) (old after : Option (List ℕ)) → line ≡ []
-        → Wrote old after (Ended state (option_to_list (pending_of kept)) result new) → Wrote old after (λ block. Finishes result read (written ++ block))
+        → Wrote old after (Answers state (option_to_list (pending_of kept)) result new) → Wrote old after (λ block. Finishes result read (written ++ block))
     finish_empty result new old after empty wrote = record {
       written = wrote.written;
       taken = wrote.taken;
       holds = ended_more read (complete_commands read) (option_to_list pending) state new written wrote.written result (commands_empty empty) at.blocks
-          (subst (λ (p : Option Command). Ended state (option_to_list p) result new wrote.written) same_pending wrote.holds);
+          (subst (λ (p : Option Command). Answers state (option_to_list p) result new wrote.written) same_pending wrote.holds);
     }
 
     module _ (text : List ℕ) (same_text : text ≡ line) (some : length line ≢ 0) where
       pub finish_line : (p : Option Pending) (mid_state : State) (result : Result (Unit {0}) WriteFailure) (new : State) (old mid after : Option (List ℕ))
           → Wrote old mid (TakesLine state (taken (lines + 1) (pending_of kept) text) (Ok p) mid_state)
-          → Wrote mid after (Ended mid_state (option_to_list (pending_of p)) result new) → Wrote old after (λ block. Finishes result read (written ++ block))
+          → Wrote mid after (Answers mid_state (option_to_list (pending_of p)) result new) → Wrote old after (λ block. Finishes result read (written ++ block))
       finish_line p mid_state result new old mid after first second =
           let took = given line lines size pending state read written at kept same_pending text same_text (Ok p) mid_state first.written first.holds in
           let t = taken (lines + 1) pending line in
-          let last = subst (λ (q : Option Command). Ended mid_state (option_to_list q) result new second.written) took.0 second.holds in
+          let last = subst (λ (q : Option Command). Answers mid_state (option_to_list q) result new second.written) took.0 second.holds in
           let is = commands_line some ∙ sym (append_assoc (complete_commands read) t.done (option_to_list t.pending)) in
           record {
             written = first.written ++ second.written;

@@ -8,7 +8,7 @@ use Rattle.mx_outside.specs.declared.sink.WriteFailure.TheVariants as write
 use Rattle.mx_outside.specs.Outside.{Rose, tells_end}
 use Rattle.mx_outside.proofs.Bytes.{append_known-append, append_known-nil, prepend_known-append}
 use Rattle.mx_run.specs.Script.{complete_commands}
-use Rattle.mx_run.specs.Answer.{first_state}
+use Rattle.mx_engine.specs.Engine.{first_state}
 use Rattle.mx_run.specs.Transcript.{Wrote, Traded, IsWithin}
 use Rattle.mx_run.specs.At.{At, Halts, Finishes, Ends}
 use Rattle.mx_run.specs.Statuses.{Outside, IsCaused, HasNotFailed}

@@ -5,5 +5,4 @@ pub mod AtLemmas
 pub mod EndLemmas
 pub mod EndsLemmas
 pub mod WithinLemmas
-pub mod Known
 pub mod Alike

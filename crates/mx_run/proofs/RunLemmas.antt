@@ -7,7 +7,8 @@ use Rattle.mx_outside.specs.declared.sink.WriteFailure.{WriteFailure}
 use Rattle.mx_script.specs.Script.{Command, Taken}
 use Rattle.mx_run.specs.Session.{TakesLine}
 use Rattle.mx_run.specs.declared.take.Pending.{Pending}
-use Rattle.mx_run.specs.Answer.{State, Step}
+use Rattle.mx_state.specs.State.{State}
+use Rattle.mx_commands.specs.Step.{Step}
 use Rattle.mx_run.specs.Transcript.{Runs, Begins, Wrote}
 
 pub run_one : (state : State) (c : Command) (block : List ℕ) (new : State) → Step state c block new → Runs state (c ∷ []) block new

@@ -4,7 +4,7 @@ use Rattle.std.specs.Option.{option_to_list}
 use Rattle.mx_outside.specs.declared.sink.WriteFailure.{WriteFailure}
 use Rattle.mx_run.specs.Script.{started, taken}
 use Rattle.mx_script.specs.Script.{Command, Taken, goes_on, without_cr}
-use Rattle.mx_run.specs.Answer.{State}
+use Rattle.mx_state.specs.State.{State}
 use Rattle.mx_run.specs.Transcript.{Runs, Begins, Wrote}
 use Rattle.mx_run.specs.Session.{TakesLine, pending_of, command_of}
 use Rattle.mx_run.specs.declared.take.Pending.{Pending}

@@ -3,7 +3,8 @@ use Rattle.std.specs.Prelude.{◌≡◌, ◌⊎◌, ℕ, Bool, List, Option, Non
 use Rattle.mx_outside.specs.declared.sink.WriteFailure.{WriteFailure}
 use Rattle.mx_run.specs.Script.{pending_after, complete_commands, commands}
 use Rattle.mx_script.specs.Script.{Command, split_lines}
-use Rattle.mx_run.specs.Answer.{State, first_state}
+use Rattle.mx_state.specs.State.{State}
+use Rattle.mx_engine.specs.Engine.{first_state}
 use Rattle.mx_run.specs.Transcript.{Runs, Begins, IsWithin, IsBrokenOff, IsBrokenOffAtEnd, IsCut, IsOutput, Transcript}
 use Rattle.mx_run.specs.Session.{pending_of}
 use Rattle.mx_run.specs.declared.session.Session.{Session}

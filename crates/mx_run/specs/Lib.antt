@@ -1,7 +1,4 @@
 pub mod Script
-pub mod Text
-pub mod Refusals
-pub mod Answer
 pub mod Transcript
 pub mod Session
 pub mod At

@@ -3,7 +3,7 @@ use Rattle.std.specs.Prelude.{◌≡◌, ℕ, Option, Result, Ok, Err, List}
 use Rattle.std.specs.Option.{option_map}
 use Rattle.mx_outside.specs.declared.sink.WriteFailure.{WriteFailure}
 use Rattle.mx_script.specs.Script.{Command, Taken}
-use Rattle.mx_run.specs.Answer.{State}
+use Rattle.mx_state.specs.State.{State}
 use Rattle.mx_run.specs.Transcript.{Runs, Begins}
 use Rattle.mx_run.specs.declared.take.Pending.{Pending}
 
@@ -12,6 +12,11 @@ command_of p = record { number = p.number; text = p.text.items }
 
 abbrev pub pending_of : Option Pending → Option Command
 pending_of p = option_map command_of p
+
+-- commands are answered one after another, or broken off
+abbrev pub Answers : State → List Command → Result (Unit {0}) WriteFailure → State → List ℕ → Type 0
+Answers state cs (Ok u) new block = Runs state cs block new
+Answers state cs (Err e) new block = Begins state cs block
 
 -- a line's complete commands are answered, and the one that may go on is kept
 abbrev pub TakesLine : State → Taken → Result (Option Pending) WriteFailure → State → List ℕ → Type 0

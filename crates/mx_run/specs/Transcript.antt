@@ -5,7 +5,9 @@ use Rattle.std.specs.List.{AllByRecursion}
 use Rattle.std.specs.Io.KnownBytes.{prepend_known, append_known}
 use Rattle.mx_run.specs.Script.{complete_commands, commands}
 use Rattle.mx_script.specs.Script.{Command, split_lines}
-use Rattle.mx_run.specs.Answer.{State, first_state, Step}
+use Rattle.mx_state.specs.State.{State}
+use Rattle.mx_engine.specs.Engine.{first_state}
+use Rattle.mx_commands.specs.Step.{Step}
 
 -- the commands write this output, one block after another, and lead from one state to another
 abbrev pub Runs : State → List Command → List ℕ → State → Type 0

@@ -1,6 +1,7 @@
 //! Laws of the lines and commands of a script, and of what they write.
 ghost use Rattle.std.specs.Prelude.{◌++◌, ℕ, List};
-ghost use Rattle.mx_run.specs.Laws.{OneBlock, OneOutput, OneTranscript};
+ghost use Rattle.mx_commands.specs.Laws.{OneBlock};
+ghost use Rattle.mx_run.specs.Laws.{OneOutput, OneTranscript};
 ghost use Rattle.mx_run.specs.Script.{complete_commands, commands};
 ghost use Rattle.mx_script.specs.Script.{split_lines, AreLines, GrowsTo};
 
@@ -11,12 +12,14 @@ pub fn lines_give_the_script()
 
 /// Commands that are complete stay so, whatever follows, and are the first of the whole script's.
 pub fn complete_commands_stay()
-    ensures more { (read : List ℕ) (more : List ℕ) → GrowsTo (complete_commands read) (complete_commands (read ++ more)) }
+    ensures more { (read : List ℕ) (more : List ℕ) →
+        GrowsTo (complete_commands read) (complete_commands (read ++ more)) }
     ensures whole { (read : List ℕ) → GrowsTo (complete_commands read) (commands read) }
 {}
 
-/// From one right state each command has one block, each list of commands one output, and so has a script, as
-/// long as no evaluation is too deep or full and memory suffices: which nodes are run first makes no difference.
+/// From one state each command has one block, each list of commands one output, and so has a
+/// script, as long as no evaluation is too deep or full and memory suffices: which nodes are run
+/// first makes no difference.
 pub fn commands_have_one_output()
     ensures block { OneBlock }
     ensures output { OneOutput }

@@ -1,5 +1,5 @@
 //! A script as it is read: each command is answered as soon as it is complete.
-ghost use Rattle.std.specs.Prelude.{◌≡◌, ◌≤◌, ◌<◌, ◌++◌, ◌∷◌, [], ℕ, List, length, take, IsErrOf, IfOk, OnOk};
+ghost use Rattle.std.specs.Prelude.{◌≡◌, ◌≤◌, ◌++◌, ◌∷◌, [], ℕ, List, IsErrOf, IfOk, OnOk};
 ghost use Rattle.mx_outside.specs.Outside.{Rose};
 ghost use Rattle.mx_script.specs.Script.{HasNoLf};
 ghost use Rattle.mx_run.specs.Transcript.{Wrote};
@@ -8,8 +8,8 @@ use crate::answer::Interpreter;
 use crate::line::line_end;
 use crate::stop::{Stop, stop_of};
 use crate::take::{Pending, finish_commands, take_line};
-use mx_engine::steps::Steps;
 use mx_outside::{Sink, WriteFailure};
+use mx_turns::steps::Steps;
 use std::alloc::{AllocError, Global};
 use std::sync::ledger::Ledger;
 
@@ -19,7 +19,8 @@ pub const MAX_LINE: usize = 65_536;
 /// The greatest number of bytes in a script.
 pub const MAX_SCRIPT: usize = 16_777_216;
 
-/// What is kept of the bytes read so far: the open line, the command that may go on, and the engine.
+/// What is kept of the bytes read so far: the open line, the command that may go on, and the
+/// engine.
 #[derive(Drop)]
 pub struct Session {
     pub alloc: Global,
@@ -51,8 +52,8 @@ impl Session {
 
     /// Takes bytes of the open line.
     fn lengthen(&mut self, bytes: &[u8]) -> Result<(), Stop>
-        ensures output { (read : List ℕ) (written : List ℕ) → HasNoLf bytes.now → At self.old read written →
-            GoesOn self.new result (read ++ bytes.now) written }
+        ensures output { (read : List ℕ) (written : List ℕ) → HasNoLf bytes.now →
+            At self.old read written → GoesOn self.new result (read ++ bytes.now) written }
         ensures stop { IsErrOf result Stop.WriteFault → ⊥ }
     {
         let count = bytes.len();
@@ -76,10 +77,12 @@ impl Session {
         out: &mut K,
     ) -> Result<(), Stop>
         ensures output { (read : List ℕ) (written : List ℕ) → At self.old read written →
-            Wrote (K.taken out.old) (K.taken out.new) (λ block. GoesOn self.new result (read ++ 10 ∷ []) (written ++ block)) }
+            Wrote (K.taken out.old) (K.taken out.new)
+            (λ block. GoesOn self.new result (read ++ 10 ∷ []) (written ++ block)) }
         ensures kept { OnOk result (K.faults out.new ≡ K.faults out.old) }
         ensures later { K.faults out.old ≤ K.faults out.new }
-        ensures failed { IsErrOf result Stop.WriteFault → Rose (K.faults out.old) (K.faults out.new) }
+        ensures failed { IsErrOf result Stop.WriteFault →
+            Rose (K.faults out.old) (K.faults out.new) }
         ensures limit { IsErrOf result Stop.OverLimit → K.faults out.new ≡ K.faults out.old }
     {
         if self.size >= MAX_SCRIPT {
@@ -114,10 +117,12 @@ impl Session {
         out: &mut K,
     ) -> Result<(), Stop>
         ensures output { (read : List ℕ) (written : List ℕ) → At self.old read written →
-            Wrote (K.taken out.old) (K.taken out.new) (λ block. GoesOn self.new result (read ++ piece.now) (written ++ block)) }
+            Wrote (K.taken out.old) (K.taken out.new)
+            (λ block. GoesOn self.new result (read ++ piece.now) (written ++ block)) }
         ensures kept { OnOk result (K.faults out.new ≡ K.faults out.old) }
         ensures later { K.faults out.old ≤ K.faults out.new }
-        ensures failed { IsErrOf result Stop.WriteFault → Rose (K.faults out.old) (K.faults out.new) }
+        ensures failed { IsErrOf result Stop.WriteFault →
+            Rose (K.faults out.old) (K.faults out.new) }
         ensures limit { IsErrOf result Stop.OverLimit → K.faults out.new ≡ K.faults out.old }
     {
         let mut rest = piece;
@@ -140,10 +145,12 @@ impl Session {
         out: &mut K,
     ) -> Result<(), WriteFailure>
         ensures output { (read : List ℕ) (written : List ℕ) → At self.old read written →
-            Wrote (K.taken out.old) (K.taken out.new) (λ block. Finishes result read (written ++ block)) }
+            Wrote (K.taken out.old) (K.taken out.new)
+            (λ block. Finishes result read (written ++ block)) }
         ensures kept { OnOk result (K.faults out.new ≡ K.faults out.old) }
         ensures later { K.faults out.old ≤ K.faults out.new }
-        ensures failed { IsErrOf result WriteFailure.Failed → Rose (K.faults out.old) (K.faults out.new) }
+        ensures failed { IsErrOf result WriteFailure.Failed →
+            Rose (K.faults out.old) (K.faults out.new) }
     {
         let pending = self.pending.take();
         if self.line.is_empty() {

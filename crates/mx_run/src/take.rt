@@ -1,19 +1,18 @@
 //! One line after another, and the commands that they complete.
-ghost use Rattle.std.specs.Prelude.{◌≡◌, ◌≤◌, ◌++◌, ◌∷◌, ℕ, IsErrOf, IfOk, OnOk, MatchResult};
+ghost use Rattle.std.specs.Prelude.{◌≡◌, ◌≤◌, ◌++◌, ◌∷◌, ℕ, IsErrOf, IfOk, OnOk};
 ghost use Rattle.std.specs.Option.{option_to_list};
 ghost use Rattle.mx_outside.specs.Outside.{Rose};
 ghost use Rattle.mx_run.specs.Script.{started, taken};
 ghost use Rattle.mx_script.specs.Script.{without_cr};
-ghost use Rattle.mx_run.specs.Answer.{State};
-ghost use Rattle.mx_run.specs.Transcript.{Wrote, Runs, Begins};
-ghost use Rattle.mx_run.specs.Session.{TakesLine, pending_of, command_of};
+ghost use Rattle.mx_state.specs.State.{State};
+ghost use Rattle.mx_run.specs.Transcript.{Wrote};
+ghost use Rattle.mx_run.specs.Session.{Answers, TakesLine, pending_of, command_of};
 
 use crate::answer::Interpreter;
 use crate::line::{blank, continues, strip_cr};
-use crate::words::WORDS;
-use mx_engine::steps::Steps;
 use mx_outside::{Sink, WriteFailure};
-use mx_words::table::takes_lines;
+use mx_turns::steps::Steps;
+use mx_words::table::{WORDS, takes_lines};
 use mx_words::text::strip_spaces;
 use std::alloc::{AllocError, Global};
 use std::sync::ledger::Ledger;
@@ -28,7 +27,8 @@ pub struct Pending {
 }
 
 fn continued(command: Pending, line: &[u8]) -> Result<Pending, AllocError>
-    ensures { IfOk result (λ p. command_of p ≡ record { number = command.number; text = command.text.items ++ 10 ∷ line.now }) }
+    ensures { let text = command.text.items ++ 10 ∷ line.now in
+        IfOk result (λ p. command_of p ≡ record { number = command.number; text = text }) }
 {
     let Pending { number, mut text } = command;
     text.push(b'\n')?;
@@ -45,10 +45,13 @@ fn start_line<K: Sink, L: Ledger>(
     steps: &mut Steps<L>,
     out: &mut K,
 ) -> Result<Option<Pending>, WriteFailure>
-    ensures output { Wrote (K.taken out.old) (K.taken out.new) (TakesLine interpreter.old.engine (started number line.now) result interpreter.new.engine) }
+    ensures output { let next = started number line.now in
+        Wrote (K.taken out.old) (K.taken out.new)
+        (TakesLine interpreter.old.engine next result interpreter.new.engine) }
     ensures kept { OnOk result (K.faults out.new ≡ K.faults out.old) }
     ensures later { K.faults out.old ≤ K.faults out.new }
-    ensures failed { IsErrOf result WriteFailure.Failed → Rose (K.faults out.old) (K.faults out.new) }
+    ensures failed { IsErrOf result WriteFailure.Failed →
+        Rose (K.faults out.old) (K.faults out.new) }
 {
     let text = strip_spaces(line);
     if blank(text) {
@@ -66,8 +69,8 @@ fn start_line<K: Sink, L: Ledger>(
     }
 }
 
-/// Takes a whole line, with the command before it that may go on: answers the commands that it completes,
-/// and gives the one that may go on after it.
+/// Takes a whole line, with the command before it that may go on: answers the commands that it
+/// completes, and gives the one that may go on after it.
 pub fn take_line<K: Sink, L: Ledger>(
     alloc: Global,
     interpreter: &mut Interpreter,
@@ -77,10 +80,13 @@ pub fn take_line<K: Sink, L: Ledger>(
     steps: &mut Steps<L>,
     out: &mut K,
 ) -> Result<Option<Pending>, WriteFailure>
-    ensures output { Wrote (K.taken out.old) (K.taken out.new) (TakesLine interpreter.old.engine (taken number (pending_of pending) line.now) result interpreter.new.engine) }
+    ensures output { let next = taken number (pending_of pending) line.now in
+        Wrote (K.taken out.old) (K.taken out.new)
+        (TakesLine interpreter.old.engine next result interpreter.new.engine) }
     ensures kept { OnOk result (K.faults out.new ≡ K.faults out.old) }
     ensures later { K.faults out.old ≤ K.faults out.new }
-    ensures failed { IsErrOf result WriteFailure.Failed → Rose (K.faults out.old) (K.faults out.new) }
+    ensures failed { IsErrOf result WriteFailure.Failed →
+        Rose (K.faults out.old) (K.faults out.new) }
 {
     let line = strip_cr(line);
     let Some(command) = pending else {
@@ -105,12 +111,13 @@ pub fn finish_commands<K: Sink, L: Ledger>(
     steps: &mut Steps<L>,
     out: &mut K,
 ) -> Result<(), WriteFailure>
-    ensures output { Wrote (K.taken out.old) (K.taken out.new) (λ block. MatchResult result
-        (λ _. Runs interpreter.old.engine (option_to_list (pending_of pending)) block interpreter.new.engine)
-        (λ _. Begins interpreter.old.engine (option_to_list (pending_of pending)) block)) }
+    ensures output { let last = option_to_list (pending_of pending) in
+        Wrote (K.taken out.old) (K.taken out.new)
+        (Answers interpreter.old.engine last result interpreter.new.engine) }
     ensures kept { OnOk result (K.faults out.new ≡ K.faults out.old) }
     ensures later { K.faults out.old ≤ K.faults out.new }
-    ensures failed { IsErrOf result WriteFailure.Failed → Rose (K.faults out.old) (K.faults out.new) }
+    ensures failed { IsErrOf result WriteFailure.Failed →
+        Rose (K.faults out.old) (K.faults out.new) }
 {
     let Some(command) = pending else {
         return Ok(());

@@ -1,12 +1,12 @@
 -- The commands of a script are those that its lines say.
-use Rattle.std.proofs.Common.{◌≡◌, ℕ, ◌+◌, zero, suc, List, [], ◌∷◌, ◌++◌, Bool, true, false, cond, length, map, Option, None, Some, refl, sym, ap, ◌∙◌, subst, append_assoc, append-nil, arith}
+use Rattle.std.proofs.Common.{◌≡◌, ℕ, ◌+◌, List, [], ◌∷◌, ◌++◌, Bool, true, false, cond, length, map, Option, None, Some, refl, sym, ap, ◌∙◌, subst, append_assoc, append-nil, arith}
 use Rattle.std.specs.Prelude.{option_to_list}
 use Rattle.std.specs.List.{concat, AllByRecursion}
 use Rattle.mx_lex.proofs.Cases.{both}
 use Rattle.mx_words.specs.declared.table.CommandWord.{CommandWord}
 use Rattle.mx_words.specs.Texts.{behind_spaces}
 use Rattle.mx_words.specs.Words.{takes_lines}
-use Rattle.mx_script.specs.Script.{Command, Taken, without_cr, is_blank, goes_on, started, taken, complete, pending_after, commands, complete_commands, split_lines}
+use Rattle.mx_script.specs.Script.{Command, Taken, without_cr, is_blank, goes_on, started, complete, pending_after, commands, complete_commands, split_lines}
 use Rattle.mx_script.specs.ByLines.{lines_of, with_lines, GoesOn, BeginsAnew, AreCommands}
 
 module _ (words : List CommandWord) where

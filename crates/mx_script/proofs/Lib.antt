@@ -1,4 +1,3 @@
-pub mod Lists
 pub mod OneCommand
 pub mod Sequels
 pub mod Parted

@@ -1,5 +1,5 @@
 -- There is one answer for the text of a command.
-use Rattle.std.proofs.Common.{◌≡◌, ◌≢◌, ℕ, ◌+◌, List, Option, Some, None, Bool, true, false, codes, take, Result, Ok, Err, ap, sym, ◌∙◌}
+use Rattle.std.proofs.Common.{◌≡◌, ◌≢◌, ℕ, ◌+◌, List, Option, Some, None, Bool, true, false, codes, take, Result, Ok, Err, sym, ◌∙◌}
 use Rattle.mx_value.specs.declared.node.Node.{Node}
 use Rattle.mx_value.specs.declared.node.Node.TheVariants.{Cell, Item}
 use Rattle.mx_grammar.specs.declared.refusal.ParseRefusal.{ParseRefusal}

@@ -1,5 +1,5 @@
 -- What the text of a command says.
-use Rattle.std.specs.Prelude.{◌≡◌, ◌≢◌, ◌==◌, codes, ℕ, ◌+◌, ◌-◌, Bool, true, false, nat_lt, nat_eq, length, take, drop, if◌then◌else◌, List, [], ◌∷◌, ◌++◌, Option, Some, None, Result, Ok, Err}
+use Rattle.std.specs.Prelude.{◌≡◌, ◌≢◌, ◌==◌, codes, ℕ, ◌+◌, ◌-◌, Bool, true, false, nat_lt, nat_eq, length, take, drop, if◌then◌else◌, List, [], ◌∷◌, Option, Some, None, Result, Ok, Err}
 use Rattle.std.specs.Cmp.Lexicographic.{pointwise}
 use Rattle.mx_lex.specs.declared.Token.{Token}
 use Rattle.mx_lex.specs.Lexing.{tokens_of}
@@ -18,10 +18,9 @@ use Rattle.mx_grammar.specs.Limits.{AnswersWithin}
 use Rattle.mx_parse.specs.Formulas.{formula_text, params_text}
 use Rattle.mx_parse.specs.FormulaLimits.{formula_limits, params_limits}
 use Rattle.mx_edit.specs.declared.edit.Edit.TheVariants as edit
-use Rattle.mx_words.specs.declared.command.Command.{Command}
 use Rattle.mx_words.specs.declared.command.Command.TheVariants as command
 use Rattle.mx_words.specs.declared.command.FormRefusal.{FormRefusal}
-use Rattle.mx_words.specs.declared.command.FormRefusal.TheVariants.{UnknownWord, BadForm, Parse, NotBuilt}
+use Rattle.mx_words.specs.declared.command.FormRefusal.TheVariants.{UnknownWord, BadForm, Parse}
 use Rattle.mx_words.specs.declared.command.FormRefusal.TheVariants as refusal
 use Rattle.mx_words.specs.declared.table.CommandWord.{CommandWord}
 use Rattle.mx_words.specs.declared.table.Form.{Form}
@@ -43,7 +42,6 @@ use Rattle.mx_words.specs.Texts.{spaces, behind_spaces, first_word, behind_word,
 use Rattle.mx_words.specs.Phrases.{phrase_text, address_text, set_ref}
 use Rattle.mx_words.specs.Words.{rest_of, word_of}
 use Rattle.mx_words.specs.Parts.{Answer, Sequel, Onward, Decides, PartAnswers}
-use Rattle.mx_script.specs.Later.{is_later_formula, is_later_node}
 
 -- ---- heads
 
@@ -62,7 +60,7 @@ HeadAnswers lead text r = PartAnswers (head_text (form_of (opens text))) false l
 
 abbrev pub defined : Target → Result Formula ParseRefusal → Answer
 defined t (Err e) = Err (Parse e)
-defined t (Ok f) = if is_later_formula f then Err NotBuilt else Ok (command.Edit (edit.SetCells (space_of t.path) t.name f))
+defined t (Ok f) = Ok (command.Edit (edit.SetCells (space_of t.path) t.name f))
 
 -- a head, and then a formula
 abbrev pub Defines : ℕ → List ℕ → Answer → Type 0
@@ -90,10 +88,6 @@ place_of (t ∷ ts) = t.at
 abbrev pub newline_of : List ℕ → ℕ
 newline_of source = elim (tokens_of source) [ Ok tokens ↦ place_of (drop (length tokens - 2) tokens) | Err e ↦ 0 ]
 
--- an evaluation, where the node's arguments are of the kinds that are run so far
-abbrev pub evaluated : Node → Answer
-evaluated n = if is_later_node n then Err NotBuilt else Ok (command.Eval n)
-
 -- an input is one of cells
 abbrev pub uninput : ℕ → List ℕ → Node → Answer
 uninput start source (Cell space name args) = Ok (command.Edit (edit.DelInput space name args))
@@ -101,7 +95,7 @@ uninput start source (Item space args) = Err (BadForm (start + newline_of source
 
 -- what is done with a node, which begins at this place of the command
 abbrev pub asked_command : Asked → ℕ → List ℕ → Node → Answer
-asked_command asked.Value start source n = evaluated n
+asked_command asked.Value start source n = Ok (command.Eval n)
 asked_command asked.Precedents start source n = Ok (command.Precedents n)
 asked_command asked.Successors start source n = Ok (command.Succs n)
 asked_command asked.Held start source n = Ok (command.Held (Some n))

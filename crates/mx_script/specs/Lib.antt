@@ -1,4 +1,3 @@
-pub mod Later
 pub mod Commands
 pub mod Script
 pub mod ByLines

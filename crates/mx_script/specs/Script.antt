@@ -1,5 +1,5 @@
 -- The lines of a script, and its commands, whose words are given.
-use Rattle.std.specs.Prelude.{◌≡◌, ◌≢◌, ℕ, ◌+◌, ◌-◌, ◌==◌, ◌||◌, nat_eq, length, take, slice_index, map, Bool, true, List, [], ◌∷◌, ◌++◌, Option, None, Some, if◌then◌else◌, option_to_list, codes}
+use Rattle.std.specs.Prelude.{◌≡◌, ◌≢◌, ℕ, ◌+◌, ◌-◌, ◌==◌, ◌||◌, length, take, slice_index, map, Bool, true, List, [], ◌∷◌, ◌++◌, Option, None, Some, if◌then◌else◌, option_to_list}
 use Rattle.std.specs.List.{concat, AllByRecursion}
 use Rattle.mx_words.specs.declared.table.CommandWord.{CommandWord}
 use Rattle.mx_words.specs.Texts.{behind_spaces}

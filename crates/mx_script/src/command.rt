@@ -17,7 +17,6 @@ ghost use Rattle.mx_words.specs.Phrases.{phrase_text};
 ghost use Rattle.mx_script.specs.Commands as spec;
 ghost use Rattle.mx_script.specs.Commands.{AddressAnswers, ClearsBy, Clears, HeadAnswers, Defines, Parametrizes, Asks, Inputs, RefersBy, Refers, ReadsAs, Unless};
 
-use crate::later::{is_later_formula, is_later_node};
 use mx_edit::edit::Edit;
 use mx_edit::reference::RefValue;
 use mx_edit::scope::Scope;
@@ -60,13 +59,10 @@ fn head(alloc: Global, lead: usize, text: &[u8]) -> Result<Target, FormRefusal>
     names_in(alloc, lead, form_of(end < text.len()), &text[..end])
 }
 
-/// A formula of cells as a command, where it has no form that is not run yet.
+/// A formula of cells as a command.
 fn defined(alloc: Global, target: Target, formula: Formula) -> Result<Command, FormRefusal>
     ensures { result ≢ Err FormRefusal.NoMemory → result ≡ spec.defined target (Ok formula) }
 {
-    if is_later_formula(alloc, &formula)? {
-        return Err(FormRefusal::NotBuilt);
-    }
     let Target { path, name } = target;
     Ok(Command::Edit(Edit::SetCells {
         path: space_at(alloc, path)?,
@@ -77,7 +73,8 @@ fn defined(alloc: Global, target: Target, formula: Formula) -> Result<Command, F
 
 /// The refusal for a formula that is refused.
 fn no_formula(refusal: ParseRefusal) -> FormRefusal
-    ensures { result ≢ FormRefusal.NoMemory → (refusal ≢ ParseRefusal.NoMemory) × (result ≡ FormRefusal.Parse refusal) }
+    ensures { result ≢ FormRefusal.NoMemory
+        → (refusal ≢ ParseRefusal.NoMemory) × (result ≡ FormRefusal.Parse refusal) }
 {
     match refusal {
         ParseRefusal::NoMemory => FormRefusal::NoMemory,
@@ -163,7 +160,8 @@ fn is_empty_text(alloc: Global, source: &[u8]) -> Result<bool, AllocError>
 
 /// The refusal for an item's node where a node of cells has to stand.
 fn no_cells(alloc: Global, start: usize, source: &[u8]) -> FormRefusal
-    ensures { result ≢ FormRefusal.NoMemory → result ≡ FormRefusal.BadForm (start + spec.newline_of source.now) }
+    ensures { result ≢ FormRefusal.NoMemory
+        → result ≡ FormRefusal.BadForm (start + spec.newline_of source.now) }
 {
     let Ok(place) = newline(alloc, source) else {
         return FormRefusal::NoMemory;
@@ -205,7 +203,8 @@ fn asked_alone(
     source: &[u8],
     refusal: ParseRefusal,
 ) -> Result<Command, FormRefusal>
-    ensures { result ≢ Err FormRefusal.NoMemory → (refusal ≢ ParseRefusal.NoMemory) × (result ≡ spec.unasked asked source.now refusal) }
+    ensures { result ≢ Err FormRefusal.NoMemory
+        → (refusal ≢ ParseRefusal.NoMemory) × (result ≡ spec.unasked asked source.now refusal) }
 {
     match refusal {
         ParseRefusal::NoMemory => Err(FormRefusal::NoMemory),
@@ -216,16 +215,6 @@ fn asked_alone(
             Err(FormRefusal::Parse(refusal))
         }
     }
-}
-
-/// An evaluation, which is read where the node's arguments are of the kinds that are run so far.
-fn evaluated(node: Node) -> Result<Command, FormRefusal>
-    ensures { result ≡ spec.evaluated node }
-{
-    if is_later_node(&node) {
-        return Err(FormRefusal::NotBuilt);
-    }
-    Ok(Command::Eval(node))
 }
 
 /// The command that takes the input of a node out, which is a node of cells.
@@ -246,10 +235,11 @@ fn asked_command(
     source: &[u8],
     node: Node,
 ) -> Result<Command, FormRefusal>
-    ensures { result ≢ Err FormRefusal.NoMemory → result ≡ spec.asked_command asked start source.now node }
+    ensures { result ≢ Err FormRefusal.NoMemory
+        → result ≡ spec.asked_command asked start source.now node }
 {
     match asked {
-        Asked::Value => evaluated(node),
+        Asked::Value => Ok(Command::Eval(node)),
         Asked::Precedents => Ok(Command::Precedents(node)),
         Asked::Successors => Ok(Command::Succs(node)),
         Asked::Held => Ok(Command::Held(Some(node))),
@@ -271,7 +261,8 @@ fn behind_node(alloc: Global, source: &[u8]) -> Result<u32, AllocError>
 
 /// The refusal for what is no node of cells with `=` behind it.
 fn no_input(alloc: Global, start: usize, source: &[u8]) -> FormRefusal
-    ensures { result ≢ FormRefusal.NoMemory → result ≡ FormRefusal.BadForm (start + spec.behind_node source.now) }
+    ensures { result ≢ FormRefusal.NoMemory
+        → result ≡ FormRefusal.BadForm (start + spec.behind_node source.now) }
 {
     let Ok(place) = behind_node(alloc, source) else {
         return FormRefusal::NoMemory;
@@ -290,7 +281,8 @@ fn set_input(
     args: Items<Value>,
     literal: &[u8],
 ) -> Result<Command, FormRefusal>
-    ensures { result ≢ Err FormRefusal.NoMemory → Decides (Answers literal_text literal.now) (spec.input_of space name args) result }
+    ensures { result ≢ Err FormRefusal.NoMemory
+        → Decides (Answers literal_text literal.now) (spec.input_of space name args) result }
 {
     match parse_literal(alloc, literal) {
         Ok(value) => Ok(Command::Edit(Edit::SetInput {
@@ -466,7 +458,8 @@ fn cells_by(
     front: &[Segment],
     last: &Segment,
 ) -> Result<Command, FormRefusal>
-    ensures { result ≢ Err FormRefusal.NoMemory → result ≡ spec.cells_by (lead + spec.newline_of text.now) front.now (last.now ∷ []) }
+    ensures { result ≢ Err FormRefusal.NoMemory
+        → result ≡ spec.cells_by (lead + spec.newline_of text.now) front.now (last.now ∷ []) }
 {
     match last {
         Segment::Name(name) => match named_cells(alloc, front, name) {
@@ -484,7 +477,8 @@ fn cells_at(
     text: &[u8],
     address: &[Segment],
 ) -> Result<Command, FormRefusal>
-    ensures { result ≢ Err FormRefusal.NoMemory → result ≡ spec.cells_at (lead + spec.newline_of text.now) address.now }
+    ensures { result ≢ Err FormRefusal.NoMemory
+        → result ≡ spec.cells_at (lead + spec.newline_of text.now) address.now }
 {
     let last = address.len().saturating_sub(1);
     match address.get(last) {
@@ -596,7 +590,8 @@ pub fn read_command(
     // The answer is what the text says, or the first cause of a refusal.
     ensures found { result ≢ Err FormRefusal.NoMemory → ReadsAs words.now text.now result }
     // What the text says is the answer, and so is the first cause, unless memory runs out.
-    ensures only { (answer : Result Command FormRefusal) → ReadsAs words.now text.now answer → Unless answer result }
+    ensures only { (answer : Result Command FormRefusal)
+        → ReadsAs words.now text.now answer → Unless answer result }
 {
     read(alloc, words, text)
 }

@@ -8,6 +8,8 @@ ghost use Rattle.mx_script.specs.ByLines.{Words, Says, SaysNoOther, SaysSoFar};
 /// whole lines of these say, but for a last one that may go on.
 pub fn commands_by_lines()
     ensures are { (words : Words) (script : List ℕ) → Says words script (commands words script) }
-    ensures only { (words : Words) (script : List ℕ) → SaysNoOther words script (commands words script) }
-    ensures complete { (words : Words) (read : List ℕ) → SaysSoFar words read (complete_commands words read) }
+    ensures only { (words : Words) (script : List ℕ)
+        → SaysNoOther words script (commands words script) }
+    ensures complete { (words : Words) (read : List ℕ)
+        → SaysSoFar words read (complete_commands words read) }
 {}

@@ -2,7 +2,6 @@
 #![tactic(auto)]
 
 mod command;
-mod later;
 pub mod laws;
 
 pub use command::read_command;

@@ -12,37 +12,10 @@ use mx_syntax::stmt::{Formula, Params};
 use mx_value::label::Label;
 use mx_value::node::{Node, Path};
 use mx_value::value::{Segment, Value};
-use mx_words::table::{CommandWord, takes_lines};
+use mx_words::table::{CommandWord, WORDS, takes_lines};
 use std::alloc::{AllocError, Global};
 use std::process::Abort;
 use std::test::Fail;
-
-/// Every word that is read.
-const WORDS: [CommandWord; 23] = [
-    CommandWord::Space,
-    CommandWord::Unspace,
-    CommandWord::Bases,
-    CommandWord::Cells,
-    CommandWord::Def,
-    CommandWord::Uncells,
-    CommandWord::Allow,
-    CommandWord::Disallow,
-    CommandWord::Ref,
-    CommandWord::Unref,
-    CommandWord::Global,
-    CommandWord::Unglobal,
-    CommandWord::Params,
-    CommandWord::Unparams,
-    CommandWord::Input,
-    CommandWord::Uninput,
-    CommandWord::Eval,
-    CommandWord::Precedents,
-    CommandWord::Succs,
-    CommandWord::Held,
-    CommandWord::Clear,
-    CommandWord::Limit,
-    CommandWord::Order,
-];
 
 /// A definition is shown as its path, its name and its printed formula, and a question as its node.
 const COMMANDS: [(&str, &str); 23] = [
@@ -314,23 +287,6 @@ const TROUBLES: [(&str, &str); 24] = [
     ("cells f(x) = {}", "unexpected 6"),
 ];
 
-/// Forms that are not run yet.
-const LATER: [(&str, &str); 13] = [
-    ("cells f(x) = g(x)(1)", "not built"),
-    ("cells f(x) = x / 2", "not built"),
-    ("cells f(x) = x ** 2", "not built"),
-    ("cells f(x) = abs(x)", "not built"),
-    ("cells f(x) = x + y", "not built"),
-    ("cells f(x) = x.y", "not built"),
-    ("cells f(x) = x is None", "not built"),
-    ("cells f(x) = x in x", "not built"),
-    ("cells f(x, k='a') = x", "not built"),
-    ("def f(x):\n    for i in x:\n        return i", "not built"),
-    ("eval f(1.5)", "not built"),
-    ("eval f('a')", "not built"),
-    ("eval A[None]", "not built"),
-];
-
 fn write(out: &mut Vec<u8>, bytes: &[u8]) -> Result<(), AllocError> {
     out.extend_from_slice(bytes)
 }
@@ -446,7 +402,6 @@ fn form_refusal(alloc: Global, refusal: FormRefusal) -> Result<String, AllocErro
         FormRefusal::UnknownWord => String::from_str(alloc, "unknown word"),
         FormRefusal::BadForm(at) => format!(in alloc; "bad form {at}"),
         FormRefusal::Parse(refusal) => parse_refusal(alloc, refusal),
-        FormRefusal::NotBuilt => String::from_str(alloc, "not built"),
         FormRefusal::NoMemory => Err(AllocError),
     }
 }
@@ -748,11 +703,6 @@ fn a_word_and_a_head_are_refused_at_their_places(rt: HostRuntime) -> Result<(), 
 #[test]
 fn a_formula_is_refused_at_its_first_trouble(rt: HostRuntime) -> Result<(), Fail> {
     compare(&rt, rt.alloc(), TROUBLES.as_slice())
-}
-
-#[test]
-fn what_is_not_run_yet_is_refused_last(rt: HostRuntime) -> Result<(), Fail> {
-    compare(&rt, rt.alloc(), LATER.as_slice())
 }
 
 #[test]

@@ -1,7 +1,7 @@
 //! What is called.
 ghost use Rattle.std.specs.Prelude.{◌≡◌, IfOk, OnOk};
-ghost use Rattle.mx_instructions_law.specs.States.{slot_of};
-ghost use Rattle.mx_instructions_law.specs.Machine.{deciding_truth};
+ghost use Rattle.mx_code_law.specs.States.{slot_of};
+ghost use Rattle.mx_code_law.specs.Machine.{deciding_truth};
 ghost use Rattle.mx_stack.specs.Callees.{callee_of};
 ghost use Rattle.mx_stack.specs.Flight.{on_top, with_slot};
 

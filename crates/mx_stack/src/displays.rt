@@ -1,6 +1,6 @@
 //! Instructions of displays.
 ghost use Rattle.std.specs.Prelude.{◌≡◌, OnSome};
-ghost use Rattle.mx_instructions.specs.declared.action.Action.TheVariants as act;
+ghost use Rattle.mx_code.specs.declared.action.Action.TheVariants as act;
 ghost use Rattle.mx_stack.specs.Came.{Came, done};
 
 use crate::slot::Slot;

@@ -1,10 +1,10 @@
 //! Calls of the functions that a formula can always call, and the binding of arguments.
 ghost use Rattle.std.specs.Prelude.{◌≡◌, ℕ, List as Many, IfSome, OnSome};
 ghost use Rattle.mx_value.specs.declared.value.Value.{Value as Values};
-ghost use Rattle.mx_formulas.specs.Lookup.{Function};
-ghost use Rattle.mx_instructions_law.specs.States.{Home, Next};
-ghost use Rattle.mx_instructions_law.specs.Finding.{Again, Place};
-ghost use Rattle.mx_instructions_law.specs.Calling.{arguments_next, call_next};
+ghost use Rattle.mx_meaning.specs.Lookup.{Function};
+ghost use Rattle.mx_code_law.specs.States.{Home, Next};
+ghost use Rattle.mx_code_law.specs.Finding.{Again, Place};
+ghost use Rattle.mx_code_law.specs.Calling.{arguments_next, call_next};
 ghost use Rattle.mx_stack.specs.Walks.{answered};
 ghost use Rattle.mx_stack.specs.Came.{Continues, done, went_as};
 

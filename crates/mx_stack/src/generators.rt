@@ -1,8 +1,8 @@
 //! Instructions of generators.
 ghost use Rattle.std.specs.Prelude.{◌≡◌, Some, IfOk, IfSome, OnOk, OnSome};
-ghost use Rattle.mx_formulas.specs.Lookup.{Callee};
-ghost use Rattle.mx_instructions.specs.declared.action.Action.TheVariants as act;
-ghost use Rattle.mx_instructions_law.specs.States as law;
+ghost use Rattle.mx_meaning.specs.Lookup.{Callee};
+ghost use Rattle.mx_code.specs.declared.action.Action.TheVariants as act;
+ghost use Rattle.mx_code_law.specs.States as law;
 ghost use Rattle.mx_stack.specs.Callees.{callee_of};
 ghost use Rattle.mx_stack.specs.Flight.{at_back, on_top, with_generator, with_slot};
 ghost use Rattle.mx_stack.specs.Came.{Came, done};

@@ -10,7 +10,7 @@ use crate::operators::{binary, compare_last, compare_on, negate, unary};
 use crate::stack::Stack;
 use crate::values::{constant, drop_value, local, none_last, none_on, store, tuple};
 use crate::went::Went;
-use mx_instructions::action::Action;
+use mx_code::action::Action;
 use std::alloc::Global;
 
 /// What comes of an instruction that looks nothing up and does not end the run with a value.

@@ -1,9 +1,9 @@
 //! Instructions that end a run with what its formula returns.
 ghost use Rattle.std.specs.Prelude.{◌≡◌, ℕ, IfOk, OnOk};
-ghost use Rattle.mx_instructions.specs.declared.action.Action.TheVariants as act;
-ghost use Rattle.mx_instructions_law.specs.States.{End, Home};
-ghost use Rattle.mx_instructions_law.specs.Machine.{next_of};
-ghost use Rattle.mx_instructions_law.specs.Returning.{outcome_of};
+ghost use Rattle.mx_code.specs.declared.action.Action.TheVariants as act;
+ghost use Rattle.mx_code_law.specs.States.{End, Home};
+ghost use Rattle.mx_code_law.specs.Machine.{next_of};
+ghost use Rattle.mx_code_law.specs.Returning.{outcome_of};
 ghost use Rattle.mx_stack.specs.Returns.{returned_of};
 
 use crate::slot::Slot;

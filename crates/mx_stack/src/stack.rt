@@ -1,7 +1,7 @@
 //! The stack of all runs in flight.
 ghost use Rattle.std.specs.Prelude.{◌≡◌, ◌≤◌, ◌++◌, [], length, slice_set, slice_get, option_copied, Some, IfOk, OnOk, MatchOption};
-ghost use Rattle.mx_instructions_law.specs.States.{state};
-ghost use Rattle.mx_instructions_law.specs.Laws.{begun};
+ghost use Rattle.mx_code_law.specs.States.{state};
+ghost use Rattle.mx_code_law.specs.Laws.{begun};
 ghost use Rattle.mx_stack.specs.Slots.{told};
 ghost use Rattle.mx_stack.specs.Flight.{all_of, at_back, at_next, at_past, no_run, on_top, part_of, with_local, with_slot};
 

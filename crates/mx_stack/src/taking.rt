@@ -2,7 +2,7 @@
 //! not there.
 ghost use Rattle.std.specs.Prelude.{◌≡◌, ◌+◌, ◌∷◌, [], List as Many, IfOk, IfSome, OnOk};
 ghost use Rattle.mx_value.specs.declared.value.Value.{Value as Values};
-ghost use Rattle.mx_instructions_law.specs.States.{Slot as Slots, Next, on_many, state};
+ghost use Rattle.mx_code_law.specs.States.{Slot as Slots, Next, on_many, state};
 ghost use Rattle.mx_stack.specs.Slots.{told};
 ghost use Rattle.mx_stack.specs.Flight.{at_back, at_past, on_top, with_slot, with_value};
 ghost use Rattle.mx_stack.specs.Came.{done};

@@ -2,9 +2,9 @@
 ghost use Rattle.std.specs.Prelude.{◌≡◌, ◌+◌, ◌∷◌, ℕ, IfSome, OnSome};
 ghost use Rattle.std.specs.Bool.{beq};
 ghost use Rattle.mx_value.specs.declared.value.Value.{out-Value};
-ghost use Rattle.mx_formulas.specs.Expressions.{nothing_in};
-ghost use Rattle.mx_instructions.specs.declared.action.Action.TheVariants as act;
-ghost use Rattle.mx_instructions_law.specs.States.{Home, Holds, On, computed_next, state};
+ghost use Rattle.mx_meaning.specs.Expressions.{nothing_in};
+ghost use Rattle.mx_code.specs.declared.action.Action.TheVariants as act;
+ghost use Rattle.mx_code_law.specs.States.{Home, Holds, On, computed_next, state};
 ghost use Rattle.mx_stack.specs.Came.{Came, done, went_as};
 
 use crate::slot::Slot;

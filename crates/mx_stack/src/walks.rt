@@ -2,11 +2,11 @@
 ghost use Rattle.std.specs.Prelude.{◌≡◌, ℕ, List as Many, IfOk, OnOk};
 ghost use Rattle.mx_value.specs.declared.label.Label.{Label as Bytes};
 ghost use Rattle.mx_value.specs.declared.value.Value.{out-Value};
-ghost use Rattle.mx_instructions.specs.declared.action.Action.TheVariants as act;
-ghost use Rattle.mx_instructions_law.specs.States.{Home, Next, Slot as Slots, state};
-ghost use Rattle.mx_instructions_law.specs.Finding.{Place, attribute_next};
-ghost use Rattle.mx_instructions_law.specs.Calling.{call_next, index_next};
-ghost use Rattle.mx_instructions_law.specs.Machine.{next_of, on_walk};
+ghost use Rattle.mx_code.specs.declared.action.Action.TheVariants as act;
+ghost use Rattle.mx_code_law.specs.States.{Home, Next, Slot as Slots, state};
+ghost use Rattle.mx_code_law.specs.Finding.{Place, attribute_next};
+ghost use Rattle.mx_code_law.specs.Calling.{call_next, index_next};
+ghost use Rattle.mx_code_law.specs.Machine.{next_of, on_walk};
 ghost use Rattle.mx_stack.specs.Callees.{callee_of};
 ghost use Rattle.mx_stack.specs.Walks.{again, answered, below_way, place_of};
 ghost use Rattle.mx_stack.specs.Flight.{on_top};

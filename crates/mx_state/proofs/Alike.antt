@@ -21,10 +21,10 @@ use Rattle.mx_runs.specs.Runs.{Run, Ends, Tests, Asks, Gives, NoSuch, WrongCount
 use Rattle.mx_runs.specs.Inputs.{is_name, is_static}
 use Rattle.mx_runs.specs.Meaning.{Means, Leads}
 use Rattle.mx_runs.proofs.Levels.{same_value}
-use Rattle.mx_formulas.specs.Namespaces.{Step, root, child, ends_with_name, item_at}
-use Rattle.mx_formulas.specs.Walks.{Onward, entered, item_entered, stepped, walked_from, walked}
-use Rattle.mx_formulas.specs.Laws.{model_of}
-use Rattle.mx_formulas.proofs.Walking.{bound_on, out_name, out_item}
+use Rattle.mx_meaning.specs.Namespaces.{Step, root, child, ends_with_name, item_at}
+use Rattle.mx_meaning.specs.Walks.{Onward, entered, item_entered, stepped, walked_from, walked}
+use Rattle.mx_meaning.specs.Laws.{model_of}
+use Rattle.mx_meaning.proofs.Walking.{bound_on, out_name, out_item}
 
 -- where a walk stands: it came to a namespace, or waits for an item node with these segments left
 pub data Point : Type 0 where

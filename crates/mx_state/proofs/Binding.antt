@@ -18,10 +18,10 @@ use Rattle.mx_runs.specs.Runs.{Run, Ends, Tests, Asks, Faults, NoSuch, WrongCoun
 use Rattle.mx_runs.specs.Meaning.{Leads}
 use Rattle.mx_runs.proofs.Levels.{ends_only}
 use Rattle.mx_runs.proofs.Runs.{comparable, next_is}
-use Rattle.mx_formulas.specs.Namespaces.{Step, root, child, with_name, names_of, ends_with_name}
-use Rattle.mx_formulas.specs.Walks.{Onward, walked_from, walked}
-use Rattle.mx_formulas.specs.Binding.{binding, cell_bound, item_bound, item_sought}
-use Rattle.mx_formulas.specs.Laws.{BindsTo}
+use Rattle.mx_meaning.specs.Namespaces.{Step, root, child, with_name, names_of, ends_with_name}
+use Rattle.mx_meaning.specs.Walks.{Onward, walked_from, walked}
+use Rattle.mx_meaning.specs.Binding.{binding, cell_bound, item_bound, item_sought}
+use Rattle.mx_meaning.specs.Laws.{BindsTo}
 use Rattle.mx_model.specs.Records.{ModelRecord}
 use Rattle.mx_model.specs.Keys.{key_result}
 use Rattle.mx_state.specs.Model.{model_of}

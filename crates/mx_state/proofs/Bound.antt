@@ -21,11 +21,11 @@ use Rattle.mx_runs.specs.Meaning.{Means, Leads}
 use Rattle.mx_runs.proofs.Levels.{ends_only, leads_append}
 use Rattle.mx_runs.proofs.Runs.{comparable}
 use Rattle.mx_runs.proofs.Meanings.{whole_at}
-use Rattle.mx_formulas.specs.Namespaces.{ends_with_name}
-use Rattle.mx_formulas.specs.Walks.{walked}
-use Rattle.mx_formulas.specs.Binding.{binding, cell_bound, item_bound, item_sought}
-use Rattle.mx_formulas.specs.Nodes.{cells_found, cells_run, input_or, item_found, item_run, body}
-use Rattle.mx_formulas.specs.Laws.{model_of, BindsTo}
+use Rattle.mx_meaning.specs.Namespaces.{ends_with_name}
+use Rattle.mx_meaning.specs.Walks.{walked}
+use Rattle.mx_meaning.specs.Binding.{binding, cell_bound, item_bound, item_sought}
+use Rattle.mx_meaning.specs.Nodes.{cells_found, cells_run, input_or, item_found, item_run, body}
+use Rattle.mx_meaning.specs.Laws.{model_of, BindsTo}
 use Rattle.mx_state.specs.Proper.{IsPlace, address_of}
 use Rattle.mx_state.proofs.Alike.{IsAlike}
 use Rattle.mx_state.proofs.Walked.{passes, ended, not_refused}

@@ -16,9 +16,9 @@ use Rattle.mx_runs.specs.Chains.{DoesAsk, Reaches, Itself, Through}
 use Rattle.mx_runs.specs.Support.{HasSameKeys}
 use Rattle.mx_runs.proofs.Lists.{among_or_not}
 use Rattle.mx_runs.proofs.Agreement.{keys_unchanged, key_agreement}
-use Rattle.mx_formulas.specs.Laws.{BindsTo}
-use Rattle.mx_formulas.proofs.Binds.{one_bound_form as one_over, bound_is_bound as own_bound}
-use Rattle.mx_formulas.proofs.Sound.{asked_is_bound, tests_are_covered}
+use Rattle.mx_meaning.specs.Laws.{BindsTo}
+use Rattle.mx_meaning.proofs.Binds.{one_bound_form as one_over, bound_is_bound as own_bound}
+use Rattle.mx_meaning.proofs.Sound.{asked_is_bound, tests_are_covered}
 use Rattle.mx_answers.specs.Held.{nodes_of, Counts, IsRight}
 use Rattle.mx_answers.specs.Records.{IsRightMemo, HasReads}
 use Rattle.mx_answers.specs.Answers.{IsLimit, IsSettled, Evaluation, Answer, Completes}

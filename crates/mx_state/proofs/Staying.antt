@@ -13,8 +13,8 @@ use Rattle.mx_runs.specs.Support.{with_look, LooksUp, DoesTest, IsUnchanged}
 use Rattle.mx_runs.proofs.Lists.{has_right, has_push_cases}
 use Rattle.mx_runs.proofs.Events.{stood}
 use Rattle.mx_runs.proofs.Agreement.{agree_means}
-use Rattle.mx_formulas.specs.Binding.{binding}
-use Rattle.mx_formulas.specs.Laws.{model_of, BindsTo}
+use Rattle.mx_meaning.specs.Binding.{binding}
+use Rattle.mx_meaning.specs.Laws.{model_of, BindsTo}
 use Rattle.mx_state.proofs.Bound.{bound_as}
 
 module _ (model : Model) (other : Key → KeyResult) where

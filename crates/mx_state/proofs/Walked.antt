@@ -26,12 +26,12 @@ use Rattle.mx_runs.specs.Meaning.{Means, Leads}
 use Rattle.mx_runs.proofs.Levels.{ends_only}
 use Rattle.mx_runs.proofs.Runs.{comparable}
 use Rattle.mx_runs.proofs.Meanings.{whole_at}
-use Rattle.mx_formulas.specs.Namespaces.{Step, root, child, ends_with_name, is_allowed, item_at}
-use Rattle.mx_formulas.specs.Walks.{Onward, entered, item_entered, stepped, walked_from, walked}
-use Rattle.mx_formulas.specs.Nodes.{arguments_of, item_done, item_made, item_found, item_run, body}
-use Rattle.mx_formulas.specs.Laws.{model_of, IsSpaceAt}
-use Rattle.mx_formulas.proofs.Walking.{Reached, Came, root_reached, reached_on, came_on, name_steps, item_steps, bound_on, out_name, out_item}
-use Rattle.mx_formulas.proofs.Items.{item_reply}
+use Rattle.mx_meaning.specs.Namespaces.{Step, root, child, ends_with_name, is_allowed, item_at}
+use Rattle.mx_meaning.specs.Walks.{Onward, entered, item_entered, stepped, walked_from, walked}
+use Rattle.mx_meaning.specs.Nodes.{arguments_of, item_done, item_made, item_found, item_run, body}
+use Rattle.mx_meaning.specs.Laws.{model_of, IsSpaceAt}
+use Rattle.mx_meaning.proofs.Walking.{Reached, Came, root_reached, reached_on, came_on, name_steps, item_steps, bound_on, out_name, out_item}
+use Rattle.mx_meaning.proofs.Items.{item_reply}
 use Rattle.mx_state.specs.Proper.{items_follow, IsPlace}
 use Rattle.mx_state.proofs.Alike.{onward, stepping, IsAlike, IsAlong, along_begins, along_step, along_name, along_item, along_end}
 

@@ -10,8 +10,8 @@ use Rattle.mx_runs.specs.Lists.{Has}
 use Rattle.mx_runs.specs.Runs.{Model, Run, Event}
 use Rattle.mx_runs.specs.Meaning.{Leads}
 use Rattle.mx_runs.specs.Chains.{asks_of}
-use Rattle.mx_formulas.specs.Binding.{binding}
-use Rattle.mx_formulas.specs.Laws.{BindsTo}
+use Rattle.mx_meaning.specs.Binding.{binding}
+use Rattle.mx_meaning.specs.Laws.{BindsTo}
 use Rattle.mx_answers.specs.Held.{nodes_of}
 use Rattle.mx_answers.specs.Records.{IsRecordOf, HasReads, AskBefore}
 use Rattle.mx_answers.specs.Answers.{Answer}

@@ -20,9 +20,9 @@ use Rattle.mx_runs.specs.Meaning.{Means, Leads}
 use Rattle.mx_runs.specs.Chains.{Reaches, HasValue}
 use Rattle.mx_runs.specs.Support.{HasSameKeys, TestsAreCovered}
 use Rattle.mx_runs.specs.Laws.{Agrees}
-use Rattle.mx_formulas.specs.Namespaces.{names_of}
-use Rattle.mx_formulas.specs.Binding.{binding}
-use Rattle.mx_formulas.specs.Laws.{BindsTo}
+use Rattle.mx_meaning.specs.Namespaces.{names_of}
+use Rattle.mx_meaning.specs.Binding.{binding}
+use Rattle.mx_meaning.specs.Laws.{BindsTo}
 use Rattle.mx_answers.specs.Held.{nodes_of}
 use Rattle.mx_answers.specs.Records.{IsRightMemo}
 use Rattle.mx_answers.specs.Answers.{IsLimit, IsSettled, Answer}

@@ -1,6 +1,6 @@
 -- The meaning of a model text: what nodes mean where keys lead to what they lead to there.
 use Rattle.mx_runs.specs.Runs.{Model}
-use Rattle.mx_formulas.specs.Laws.{model_of as over}
+use Rattle.mx_meaning.specs.Laws.{model_of as over}
 use Rattle.mx_model.specs.Records.{ModelRecord}
 use Rattle.mx_model.specs.Keys.{key_result}
 

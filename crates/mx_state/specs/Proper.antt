@@ -14,8 +14,8 @@ use Rattle.mx_runs.specs.Lists.{Has}
 use Rattle.mx_runs.specs.Runs.{Model, Run, Event}
 use Rattle.mx_runs.specs.Inputs.{is_name}
 use Rattle.mx_runs.specs.Meaning.{Leads}
-use Rattle.mx_formulas.specs.Namespaces.{Step}
-use Rattle.mx_formulas.specs.Walks.{walked}
+use Rattle.mx_meaning.specs.Namespaces.{Step}
+use Rattle.mx_meaning.specs.Walks.{walked}
 
 -- ---- arguments
 

@@ -4,7 +4,7 @@ use Rattle.mx_value.specs.declared.node.Node.{Node}
 use Rattle.mx_edit.specs.Entry.{Entry}
 use Rattle.mx_runs.specs.Lists.{Has}
 use Rattle.mx_runs.specs.Runs.{Model}
-use Rattle.mx_formulas.specs.Laws.{BindsTo}
+use Rattle.mx_meaning.specs.Laws.{BindsTo}
 use Rattle.mx_answers.specs.Records.{IsRightMemo}
 use Rattle.mx_answers.specs.Answers.{IsLimit}
 use Rattle.mx_model.specs.Records.{ModelRecord}

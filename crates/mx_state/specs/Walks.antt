@@ -14,9 +14,9 @@ use Rattle.mx_edit.specs.declared.key.KeyResult.TheVariants as found
 use Rattle.mx_runs.specs.Runs.{Model, Run, Asks, Event}
 use Rattle.mx_runs.specs.Inputs.{is_static}
 use Rattle.mx_runs.specs.Meaning.{Leads}
-use Rattle.mx_formulas.specs.Namespaces.{ends_with_name}
-use Rattle.mx_formulas.specs.Walks.{Onward, entered, walked_from, walked}
-use Rattle.mx_formulas.specs.Binding.{binding}
+use Rattle.mx_meaning.specs.Namespaces.{ends_with_name}
+use Rattle.mx_meaning.specs.Walks.{Onward, entered, walked_from, walked}
+use Rattle.mx_meaning.specs.Binding.{binding}
 use Rattle.mx_state.specs.Proper.{address_of}
 
 -- ---- where a walk stands

@@ -14,7 +14,7 @@ use Rattle.mx_runs.specs.Runs.{Event, Looked, Noted}
 use Rattle.mx_runs.specs.Inputs.{is_input, is_value}
 use Rattle.mx_runs.specs.Chains.{Reaches, Itself, Through}
 use Rattle.mx_runs.proofs.Events.{asked_is_ask}
-use Rattle.mx_formulas.specs.Laws.{BindsTo}
+use Rattle.mx_meaning.specs.Laws.{BindsTo}
 use Rattle.mx_formula_rows.proofs.Rules.{top}
 use Rattle.mx_formula_rows.proofs.NodeRules.{means}
 use Rattle.mx_formula_rows.proofs.Worked.{one_name}

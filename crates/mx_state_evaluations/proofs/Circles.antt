@@ -13,8 +13,8 @@ use Rattle.mx_edit.specs.declared.key.KeyResult.TheVariants as found
 use Rattle.mx_runs.specs.Lists.{Distinct}
 use Rattle.mx_runs.specs.Runs.{Looks, Gives}
 use Rattle.mx_runs.specs.Chains.{asks_of, DoesAsk}
-use Rattle.mx_formulas.specs.Namespaces.{root, child}
-use Rattle.mx_formulas.specs.Nodes.{cells_found}
+use Rattle.mx_meaning.specs.Namespaces.{root, child}
+use Rattle.mx_meaning.specs.Nodes.{cells_found}
 use Rattle.mx_formula_rows.proofs.Equations.{plain_int}
 use Rattle.mx_formula_rows.proofs.Rules.{top, lit, local, in_source, name_sought, target_reference, cells_here, post, call, none, more, trail_end, call_of_cells}
 use Rattle.mx_formula_rows.proofs.NodeRules.{RunsTo, means, static_run}

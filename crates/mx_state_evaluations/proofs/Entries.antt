@@ -23,9 +23,9 @@ use Rattle.mx_syntax.specs.Binding.{bound, is_wrong_count}
 use Rattle.mx_edit.specs.declared.key.KeyResult.{KeyResult}
 use Rattle.mx_edit.specs.declared.key.KeyResult.TheVariants as found
 use Rattle.mx_runs.proofs.Levels.{leads_append}
-use Rattle.mx_formulas.specs.Walks.{walked}
-use Rattle.mx_formulas.specs.Binding.{cell_bound}
-use Rattle.mx_formulas.specs.Laws.{model_of, BindsTo}
+use Rattle.mx_meaning.specs.Walks.{walked}
+use Rattle.mx_meaning.specs.Binding.{cell_bound}
+use Rattle.mx_meaning.specs.Laws.{model_of, BindsTo}
 use Rattle.mx_formula_rows.proofs.Rules.{Walks}
 use Rattle.mx_answers.specs.Held.{most_held, nodes_of}
 use Rattle.mx_answers.specs.Records.{IsRecordOf, HasReads, IsRightMemo, AskBefore, recorded_keys, recorded_asks, reads_of}

@@ -16,7 +16,7 @@ use Rattle.mx_runs.proofs.Runs.{asked_by_end}
 use Rattle.mx_runs.proofs.Reach.{reach_within}
 use Rattle.mx_runs.proofs.Meanings.{finished, failure_no_value}
 use Rattle.mx_runs.proofs.Events.{asked_is_ask}
-use Rattle.mx_formulas.specs.Laws.{BindsTo}
+use Rattle.mx_meaning.specs.Laws.{BindsTo}
 use Rattle.mx_formula_rows.proofs.Rules.{top, below}
 use Rattle.mx_formula_rows.proofs.NodeRules.{means}
 use Rattle.mx_formula_rows.proofs.Worked.{one_name, one_bound}

@@ -15,11 +15,11 @@ use Rattle.mx_edit.proofs.Results.{key_result_decides}
 use Rattle.mx_runs.specs.Lists.{Has}
 use Rattle.mx_runs.specs.Inputs.{is_input, is_value}
 use Rattle.mx_runs.specs.Chains.{Reaches, Itself}
-use Rattle.mx_formulas.specs.Laws.{BindsTo}
+use Rattle.mx_meaning.specs.Laws.{BindsTo}
 use Rattle.mx_formula_rows.proofs.Rules.{top}
 use Rattle.mx_formula_rows.proofs.NodeRules.{means}
 use Rattle.mx_formula_rows.proofs.Worked.{one_name, two_names}
-use Rattle.mx_formulas.proofs.Sound.{tests_are_covered}
+use Rattle.mx_meaning.proofs.Sound.{tests_are_covered}
 use Rattle.mx_answers.specs.Held.{nodes_of}
 use Rattle.mx_answers.specs.Records.{IsRecordOf, IsRightMemo}
 use Rattle.mx_answers.specs.Retention.{HasChanged, IsTouched, Here, ByAsk, Sifts, NoneLeft, Keeps, Drops}

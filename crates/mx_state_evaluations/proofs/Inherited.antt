@@ -17,9 +17,9 @@ use Rattle.mx_runs.specs.Runs.{Model, Event, Looked, Noted}
 use Rattle.mx_runs.specs.Inputs.{is_input, is_value}
 use Rattle.mx_runs.specs.Chains.{Reaches, Itself, Through}
 use Rattle.mx_runs.proofs.Events.{asked_is_ask}
-use Rattle.mx_formulas.specs.Namespaces.{Step}
-use Rattle.mx_formulas.specs.Laws.{BindsTo}
-use Rattle.mx_formulas.proofs.Walking.{out_name}
+use Rattle.mx_meaning.specs.Namespaces.{Step}
+use Rattle.mx_meaning.specs.Laws.{BindsTo}
+use Rattle.mx_meaning.proofs.Walking.{out_name}
 use Rattle.mx_formula_rows.proofs.Rules.{top}
 use Rattle.mx_formula_rows.proofs.NodeRules.{means}
 use Rattle.mx_formula_rows.proofs.Worked.{one_name, two_names}

@@ -11,10 +11,10 @@ use Rattle.mx_runs.specs.Runs.{Run, Tests, Asks, Tested}
 use Rattle.mx_runs.specs.Meaning.{Leads}
 use Rattle.mx_runs.specs.Chains.{DoesAsk, Reaches, Itself, Through, MeansNothing}
 use Rattle.mx_runs.proofs.Reach.{reach_within}
-use Rattle.mx_formulas.specs.Namespaces.{root, child}
-use Rattle.mx_formulas.specs.Walks.{entered}
-use Rattle.mx_formulas.specs.Binding.{binding, cell_bound}
-use Rattle.mx_formulas.specs.Laws.{BindsTo}
+use Rattle.mx_meaning.specs.Namespaces.{root, child}
+use Rattle.mx_meaning.specs.Walks.{entered}
+use Rattle.mx_meaning.specs.Binding.{binding, cell_bound}
+use Rattle.mx_meaning.specs.Laws.{BindsTo}
 use Rattle.mx_formula_rows.proofs.Rules.{top}
 use Rattle.mx_formula_rows.proofs.Worked.{ends, one_bound}
 use Rattle.mx_model.specs.Keys.{key_result}

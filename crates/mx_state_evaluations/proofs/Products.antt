@@ -15,11 +15,11 @@ use Rattle.mx_runs.specs.Runs.{Looked}
 use Rattle.mx_runs.specs.Inputs.{is_input, is_value}
 use Rattle.mx_runs.specs.Chains.{Reaches, Itself, Through}
 use Rattle.mx_runs.proofs.Events.{asked_is_ask}
-use Rattle.mx_formulas.specs.Namespaces.{is_allowed}
-use Rattle.mx_formulas.specs.Laws.{BindsTo}
+use Rattle.mx_meaning.specs.Namespaces.{is_allowed}
+use Rattle.mx_meaning.specs.Laws.{BindsTo}
 use Rattle.mx_formula_rows.proofs.Equations.{normal_int, out_int}
 use Rattle.mx_formula_rows.proofs.NodeRules.{means}
-use Rattle.mx_formulas.proofs.Walking.{out_item}
+use Rattle.mx_meaning.proofs.Walking.{out_item}
 use Rattle.mx_formula_rows.proofs.Worked.{has_item, one_bound, small}
 use Rattle.mx_answers.specs.Held.{nodes_of}
 use Rattle.mx_answers.specs.Records.{IsRecordOf, IsRightMemo}

@@ -13,10 +13,10 @@ use Rattle.mx_runs.specs.Runs.{Run, Ends, Looks, Gives, Faults, Looked}
 use Rattle.mx_runs.specs.Meaning.{Leads}
 use Rattle.mx_runs.specs.Chains.{DoesAsk}
 use Rattle.mx_runs.proofs.Meanings.{finished, passed_on}
-use Rattle.mx_formulas.specs.Namespaces.{Step, Overlay, overlaid_by, root, child, with_name}
-use Rattle.mx_formulas.specs.Nodes.{path_in, source_or_fault, item_given, item_returned, cells_found, body}
-use Rattle.mx_formulas.specs.Statements.{Display}
-use Rattle.mx_formulas.proofs.Walking.{out_name}
+use Rattle.mx_meaning.specs.Namespaces.{Step, Overlay, overlaid_by, root, child, with_name}
+use Rattle.mx_meaning.specs.Nodes.{path_in, source_or_fault, item_given, item_returned, cells_found, body}
+use Rattle.mx_meaning.specs.Statements.{Display}
+use Rattle.mx_meaning.proofs.Walking.{out_name}
 use Rattle.mx_formula_rows.proofs.Equations.{out_space, out_int}
 use Rattle.mx_formula_rows.proofs.Rules.{Walks, top, inside, item_events, lit, local, in_overlay, in_source, name_sought, target_reference, sum, product, plus, times, joined_end, joined_more}
 use Rattle.mx_formula_rows.proofs.NodeRules.{RunsTo, means, within_run, displayed_item, display_base, display_refs, display_end, more_refs, no_refs}

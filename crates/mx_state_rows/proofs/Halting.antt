@@ -41,18 +41,18 @@ use Rattle.mx_runs.specs.Meaning.{Leads}
 use Rattle.mx_runs.specs.Chains.{DoesAsk}
 use Rattle.mx_runs.specs.Inputs.{is_static}
 use Rattle.mx_runs.proofs.Levels.{leads_append}
-use Rattle.mx_formulas.specs.Namespaces.{Overlay, root, value_in, ends_with_name, is_short, is_allowed, item_at}
-use Rattle.mx_formulas.specs.Walks.{entered, item_entered, stepped, walked_from, walked}
-use Rattle.mx_formulas.specs.Environments.{Env, Reading, fault, tested, local_of}
-use Rattle.mx_formulas.specs.References.{Target, target_of, relative, parent_of, member_of, member_found, member_read, target_found, target_read}
-use Rattle.mx_formulas.specs.Lookup.{Callee, Called, bound_name, overlaid_or, local_or, global_found, builtin_or_none, as_value}
-use Rattle.mx_formulas.specs.Calls.{cells_asked, called, space_asked, space_sought, content_indexed, indexed}
-use Rattle.mx_formulas.specs.Expressions.{Behind, values_beside, joined_from, chosen_from, applied, applied_from, part_read, reading}
-use Rattle.mx_formulas.specs.Statements.{Returned, Plain, Display, named_reading, displayed_from, body_done}
-use Rattle.mx_formulas.specs.Nodes.{arguments_of, first_env, cells_returned, cells_found, cells_run, input_or, item_returned, body}
-use Rattle.mx_formulas.specs.Laws.{model_of}
-use Rattle.mx_formulas.proofs.Walking.{out_item, walked_push, walk_append}
-use Rattle.mx_formulas.proofs.Forms.{trailer_read, product_read, arm_read}
+use Rattle.mx_meaning.specs.Namespaces.{Overlay, root, value_in, ends_with_name, is_short, is_allowed, item_at}
+use Rattle.mx_meaning.specs.Walks.{entered, item_entered, stepped, walked_from, walked}
+use Rattle.mx_meaning.specs.Environments.{Env, Reading, fault, tested, local_of}
+use Rattle.mx_meaning.specs.References.{Target, target_of, relative, parent_of, member_of, member_found, member_read, target_found, target_read}
+use Rattle.mx_meaning.specs.Lookup.{Callee, Called, bound_name, overlaid_or, local_or, global_found, builtin_or_none, as_value}
+use Rattle.mx_meaning.specs.Calls.{cells_asked, called, space_asked, space_sought, content_indexed, indexed}
+use Rattle.mx_meaning.specs.Expressions.{Behind, values_beside, joined_from, chosen_from, applied, applied_from, part_read, reading}
+use Rattle.mx_meaning.specs.Statements.{Returned, Plain, Display, named_reading, displayed_from, body_done}
+use Rattle.mx_meaning.specs.Nodes.{arguments_of, first_env, cells_returned, cells_found, cells_run, input_or, item_returned, body}
+use Rattle.mx_meaning.specs.Laws.{model_of}
+use Rattle.mx_meaning.proofs.Walking.{out_item, walked_push, walk_append}
+use Rattle.mx_meaning.proofs.Forms.{trailer_read, product_read, arm_read}
 use Rattle.mx_formula_rows.proofs.Equations.{out_space, part-name, part-product, part-post, trailer-call, trailer-index}
 use Rattle.mx_formula_rows.proofs.Rules.{from, Walks, Stands, Comes, with_value, NameComes, AllCome, seeking, asking_item, as_walk, asking}
 use Rattle.mx_formula_rows.proofs.NodeRules.{line_env, one_line, line_done, display_line, display_done, item_leads}

@@ -5,7 +5,7 @@ use Rattle.mx_c3.specs.Linearisation.{c3}
 use Rattle.mx_value.specs.declared.namespace.Namespace.{Namespace}
 use Rattle.mx_edit.specs.declared.key.Key.TheVariants as key
 use Rattle.mx_runs.specs.Runs.{Gives, Looked}
-use Rattle.mx_formulas.specs.Namespaces.{root, child}
+use Rattle.mx_meaning.specs.Namespaces.{root, child}
 use Rattle.mx_formula_rows.proofs.Rules.{Walks, top, inside, item_events, in_overlay, in_source, name_sought, plain_reference}
 use Rattle.mx_formula_rows.proofs.NodeRules.{RunsTo, means, static_run, within_run, bare_item}
 use Rattle.mx_formula_rows.proofs.Worked.{ends, one_name, has_item, one_bound, small}

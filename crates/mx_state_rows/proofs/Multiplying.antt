@@ -24,12 +24,12 @@ use Rattle.mx_runs.specs.Runs.{Run, Ends, Looks, Tests, Asks, Gives, Faults, Wro
 use Rattle.mx_runs.specs.Meaning.{Leads}
 use Rattle.mx_runs.proofs.Levels.{ends_only, leads_append}
 use Rattle.mx_runs.proofs.Runs.{comparable}
-use Rattle.mx_formulas.specs.Namespaces.{Step, root, child, is_allowed}
-use Rattle.mx_formulas.specs.Walks.{entered, walked}
-use Rattle.mx_formulas.specs.Nodes.{cells_found, cells_run, input_or, body}
-use Rattle.mx_formulas.proofs.Walking.{out_name, out_item}
-use Rattle.mx_formulas.specs.Binding.{binding, cell_bound}
-use Rattle.mx_formulas.specs.Laws.{BindsTo}
+use Rattle.mx_meaning.specs.Namespaces.{Step, root, child, is_allowed}
+use Rattle.mx_meaning.specs.Walks.{entered, walked}
+use Rattle.mx_meaning.specs.Nodes.{cells_found, cells_run, input_or, body}
+use Rattle.mx_meaning.proofs.Walking.{out_name, out_item}
+use Rattle.mx_meaning.specs.Binding.{binding, cell_bound}
+use Rattle.mx_meaning.specs.Laws.{BindsTo}
 use Rattle.mx_formula_rows.proofs.Equations.{normal_int, size_space, size_name, size_item}
 use Rattle.mx_formula_rows.proofs.Rules.{from, Walks, top, inside, item_events, local, in_overlay, name_sought, product, times, joined_end, joined_more}
 use Rattle.mx_formula_rows.proofs.NodeRules.{RunsTo, means, within_run, bare_item}

@@ -4,7 +4,7 @@ use Rattle.mx_c3.specs.Merge.{merge}
 use Rattle.mx_c3.specs.Linearisation.{c3}
 use Rattle.mx_value.specs.declared.node.Node.TheVariants.{Cell}
 use Rattle.mx_runs.specs.Runs.{Gives}
-use Rattle.mx_formulas.specs.Namespaces.{root, child}
+use Rattle.mx_meaning.specs.Namespaces.{root, child}
 use Rattle.mx_formula_rows.proofs.Rules.{top, below, lit, in_source, name_sought, post, call, none, trail_end, call_of_cells}
 use Rattle.mx_formula_rows.proofs.NodeRules.{RunsTo, means, static_run}
 use Rattle.mx_formula_rows.proofs.Worked.{one_name, two_names}

@@ -15,7 +15,7 @@ use Rattle.mx_edit.specs.declared.key.Key.TheVariants as key
 use Rattle.mx_edit.specs.declared.reply.Reply.{Reply}
 use Rattle.mx_runs.specs.Runs.{Outcome, Ends, Gives, Faults, NoSuch, WrongCount, Event, Looked, Tested, Asked, Noted}
 use Rattle.mx_runs.specs.Meaning.{Means, Leads}
-use Rattle.mx_formulas.specs.Laws.{BindsTo}
+use Rattle.mx_meaning.specs.Laws.{BindsTo}
 use Rattle.mx_answers.specs.Records.{HasReads}
 use Rattle.mx_model.specs.Records.{Path, ModelRecord}
 use Rattle.mx_model.specs.Refused.{record_trouble}

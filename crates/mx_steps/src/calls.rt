@@ -2,7 +2,7 @@
 ghost use Rattle.std.specs.Prelude.{◌≡◌, option_copied, IfOk, OnOk};
 ghost use Rattle.mx_value.specs.declared.value.Value.{out-Value};
 ghost use Rattle.mx_model.specs.Keys.{key_result};
-ghost use Rattle.mx_instructions.specs.declared.action.Action.TheVariants as act;
+ghost use Rattle.mx_code.specs.declared.action.Action.TheVariants as act;
 ghost use Rattle.mx_stack.specs.Callees.{callee_of};
 ghost use Rattle.mx_steps.specs.Reached.{LeadsTo};
 ghost use Rattle.mx_steps.specs.Walking.{called_address, callee_address};

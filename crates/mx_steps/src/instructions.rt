@@ -2,10 +2,10 @@
 ghost use Rattle.std.specs.Prelude.{◌≡◌, [], List as Many, Some, get_or, slice_get, IfOk};
 ghost use Rattle.mx_value.specs.declared.label.Label.{Label as Bytes};
 ghost use Rattle.mx_value.specs.declared.value.Value.{Value as Values};
-ghost use Rattle.mx_instructions.specs.Told.{told, told_action};
+ghost use Rattle.mx_code.specs.Told.{told, told_action};
 
-use mx_instructions::action::{Action, Instr};
-use mx_instructions::code::{Code, Instruction};
+use mx_code::action::{Action, Instr};
+use mx_code::code::{Code, Instruction};
 use mx_value::label::Label;
 use std::alloc::{AllocError, Global};
 

@@ -1,8 +1,8 @@
 //! Names of the formula's namespace.
 ghost use Rattle.std.specs.Prelude.{◌≡◌, ◌+◌, ◌∷◌, ℕ, IfSome, OnSome};
 ghost use Rattle.mx_model.specs.Keys.{key_result};
-ghost use Rattle.mx_instructions.specs.declared.action.Action.TheVariants as act;
-ghost use Rattle.mx_instructions_law.specs.States.{state};
+ghost use Rattle.mx_code.specs.declared.action.Action.TheVariants as act;
+ghost use Rattle.mx_code_law.specs.States.{state};
 ghost use Rattle.mx_stack.specs.Slots.{told};
 ghost use Rattle.mx_stack.specs.Flight.{on_top};
 ghost use Rattle.mx_stack.specs.Came.{done};

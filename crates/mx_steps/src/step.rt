@@ -1,9 +1,9 @@
 //! One instruction.
 ghost use Rattle.std.specs.Prelude.{◌≡◌, ℕ, IfOk, IsSome, OnOk};
 ghost use Rattle.mx_model.specs.Keys.{key_result};
-ghost use Rattle.mx_instructions.specs.declared.action.Action.TheVariants as act;
-ghost use Rattle.mx_instructions_law.specs.States.{End, Home as Where, State};
-ghost use Rattle.mx_instructions_law.specs.Machine.{next_of};
+ghost use Rattle.mx_code.specs.declared.action.Action.TheVariants as act;
+ghost use Rattle.mx_code_law.specs.States.{End, Home as Where, State};
+ghost use Rattle.mx_code_law.specs.Machine.{next_of};
 ghost use Rattle.mx_stack.specs.Came.{done, went_as};
 ghost use Rattle.mx_reading.specs.Passed.{passed};
 ghost use Rattle.mx_names.specs.Endings.{ending_of};
@@ -14,7 +14,7 @@ use crate::attributes::run_attribute;
 use crate::calls::{run_call, run_index};
 use crate::names::{leave, run_callee, run_name};
 use crate::stepped::{Resume, Stop};
-use mx_instructions::action::{Action, Instr};
+use mx_code::action::{Action, Instr};
 use mx_names::ending::{Ending, end_with};
 use mx_names::home::Home;
 use mx_reading::seen::Seen;

@@ -1,7 +1,7 @@
 //! What instructions take from the stack, and put back where they ask on their walk.
 ghost use Rattle.std.specs.Prelude.{◌≡◌, [], List as Many, IfOk, OnOk};
 ghost use Rattle.mx_value.specs.declared.value.Value.{Value as Values};
-ghost use Rattle.mx_instructions_law.specs.States.{Next, Slot as Slots, on_many};
+ghost use Rattle.mx_code_law.specs.States.{Next, Slot as Slots, on_many};
 ghost use Rattle.mx_stack.specs.Flight.{on_top, with_value};
 ghost use Rattle.mx_steps.specs.Values.{with_values};
 

@@ -2,8 +2,8 @@
 ghost use Rattle.std.specs.Prelude.{◌≡◌, [], ℕ, Option as Maybe, Some, option_copied, IfOk};
 ghost use Rattle.mx_value.specs.declared.value.Value.{Value as Values};
 ghost use Rattle.mx_model.specs.Keys.{key_result};
-ghost use Rattle.mx_instructions_law.specs.States.{Home, Next, State};
-ghost use Rattle.mx_instructions_law.specs.Finding.{Again, Place};
+ghost use Rattle.mx_code_law.specs.States.{Home, Next, State};
+ghost use Rattle.mx_code_law.specs.Finding.{Again, Place};
 ghost use Rattle.mx_stack.specs.Walks.{place_of};
 ghost use Rattle.mx_reading.specs.Seen.{Seen as Readings};
 ghost use Rattle.mx_reading.specs.Passed.{passed};

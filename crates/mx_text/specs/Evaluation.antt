@@ -29,13 +29,16 @@ way_back [] = []
 way_back (n ∷ ns) = codes " -> " ++ node_text n
 
 abbrev pub ring_text : List Node → Text
-ring_text nodes = codes "ring " ++ (separated (codes " -> ") (map node_text nodes) ++ way_back nodes)
+ring_text nodes =
+    codes "ring " ++ (separated (codes " -> ") (map node_text nodes) ++ way_back nodes)
 
 -- why an evaluation gave no value; want of memory has no text
 abbrev pub refusal_text : EvalRefusal → Text
 refusal_text refusal.NoSuch = codes "no such node"
 refusal_text refusal.WrongCount = codes "wrong count"
-refusal_text (refusal.Fault kind n line) = codes "fault " ++ (fault_text kind ++ (codes " at " ++ (node_text n ++ (codes " line " ++ decimal line))))
+refusal_text (refusal.Fault kind n line) =
+    codes "fault " ++ (fault_text kind ++ (codes " at "
+    ++ (node_text n ++ (codes " line " ++ decimal line))))
 refusal_text (refusal.Ring nodes) = ring_text nodes
 refusal_text (refusal.TooDeep n) = codes "too deep at " ++ node_text n
 refusal_text refusal.Full = codes "full"

@@ -2,3 +2,6 @@ pub mod Edit
 pub mod Evaluation
 pub mod Parsing
 pub mod Table
+pub mod Reads
+pub mod Form
+pub mod Blocks

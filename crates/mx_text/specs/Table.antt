@@ -9,5 +9,6 @@ use Rattle.mx_edit.specs.declared.table.TableRefusal.TheVariants as refusal
 abbrev pub table_refusal_text : TableRefusal → Text
 table_refusal_text refusal.TooBig = codes "too big"
 table_refusal_text (refusal.BadRow row) = codes "bad row " ++ decimal row
-table_refusal_text (refusal.BadNumber row column) = codes "bad number " ++ (decimal row ++ (codes " " ++ decimal column))
+table_refusal_text (refusal.BadNumber row column) =
+    codes "bad number " ++ (decimal row ++ (codes " " ++ decimal column))
 table_refusal_text refusal.NoMemory = []

@@ -38,7 +38,8 @@ pub fn push_path(out: &mut Vec<u8>, names: &[Label]) -> Result<(), AllocError>
 /// Adds why an edit was refused: the name of the refusal, and behind it the path or the limit that it names. Want of memory
 /// is handed on: it has no text.
 pub fn push_edit_refusal(out: &mut Vec<u8>, refusal: &EditRefusal) -> Result<(), AllocError>
-    ensures text { OnOk result (out.new.items ≡ out.old.items ++ spec.edit_refusal_text refusal.now) }
+    ensures text { OnOk result
+        (out.new.items ≡ out.old.items ++ spec.edit_refusal_text refusal.now) }
     ensures memory { OnOk result (refusal.now ≢ EditRefusal.NoMemory) }
 {
     match refusal {

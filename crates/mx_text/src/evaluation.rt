@@ -47,7 +47,8 @@ fn push_ring(out: &mut Vec<u8>, nodes: &[Node]) -> Result<(), AllocError>
 
 /// Adds nodes with arrows between them.
 fn push_arrows(out: &mut Vec<u8>, nodes: &[Node]) -> Result<(), AllocError>
-    ensures { OnOk result (out.new.items ≡ out.old.items ++ separated (codes " -> ") (map node_text nodes.now)) }
+    ensures { OnOk result
+        (out.new.items ≡ out.old.items ++ separated (codes " -> ") (map node_text nodes.now)) }
 {
     for (i, node) in nodes.iter().enumerate() {
         if i > 0 {
@@ -60,7 +61,8 @@ fn push_arrows(out: &mut Vec<u8>, nodes: &[Node]) -> Result<(), AllocError>
 
 /// Adds a fault: its kind, the node whose run met it and the line of its formula, from 1.
 fn push_fault(out: &mut Vec<u8>, kind: FaultKind, node: &Node, line: u32) -> Result<(), AllocError>
-    ensures { OnOk result (out.new.items ≡ out.old.items ++ spec.refusal_text (EvalRefusal.Fault kind node.now line)) }
+    ensures { OnOk result (out.new.items
+        ≡ out.old.items ++ spec.refusal_text (EvalRefusal.Fault kind node.now line)) }
 {
     push(out, b"fault ")?;
     push(out, fault_text(kind))?;

@@ -1,9 +1,14 @@
-//! The texts of values, addresses and nodes, and of why evaluations, edits, sources and tables are refused.
+//! The texts of values, addresses, nodes and reads, of why evaluations, edits, sources, tables and commands are refused, and
+//! of the blocks that answer the commands of a script.
 #![tactic(auto)]
 
-pub mod counted;
+pub mod address;
+pub mod blocks;
+mod counted;
 pub mod edit;
 pub mod evaluation;
+pub mod form;
 pub mod parsing;
+pub mod reads;
 pub mod table;
 pub mod value;

@@ -7,7 +7,8 @@ use mx_edit::table::TableRefusal;
 use mx_print::append::push;
 use std::alloc::{AllocError, Global};
 
-/// Adds why rows are no table. Records and columns are counted from 1. Want of memory is handed on: it has no text.
+/// Adds why rows are no table. Rows are counted from 1 behind the head, columns from 0. Want of memory is handed on: it has
+/// no text.
 pub fn push_table_refusal(out: &mut Vec<u8>, refusal: TableRefusal) -> Result<(), AllocError>
     ensures text { OnOk result (out.new.items ≡ out.old.items ++ table_refusal_text refusal) }
     ensures memory { OnOk result (refusal ≢ TableRefusal.NoMemory) }

@@ -13,10 +13,10 @@ use Rattle.mx_vertices.specs.Inputs.{has_no_item}
 use Rattle.mx_runs.specs.Lists.{Has, Distinct}
 use Rattle.mx_runs.specs.Inputs as runs
 use Rattle.mx_runs.specs.Runs.{Model, Run, Ends, Looks, Tests, Asks, Notes}
-use Rattle.mx_formulas.specs.Nodes.{body, cells_run, input_or}
-use Rattle.mx_formulas.specs.Laws.{model_of}
+use Rattle.mx_meaning.specs.Nodes.{body, cells_run, input_or}
+use Rattle.mx_meaning.specs.Laws.{model_of}
 use Rattle.mx_suspended.specs.Recorded.{Recorded, Adds, GoesPast, Stays, PastLook, PastTest, PastNote, PastHeld, PastInput, nothing}
-use Rattle.mx_instructions_law.specs.States.{State}
+use Rattle.mx_code_law.specs.States.{State}
 use Rattle.mx_reading.specs.Seen.{Seen, nothing_seen}
 use Rattle.mx_steps.specs.Runs.{recorded}
 use Rattle.mx_node_runs.specs.Halts.{HaltsAs, HaltsAt}

@@ -9,7 +9,7 @@ use Rattle.mx_runs.specs.Lists.{Has}
 use Rattle.mx_runs.specs.Runs.{Model, Run, Asks}
 use Rattle.mx_runs.specs.Inputs.{InputsEnd, is_input}
 use Rattle.mx_runs.specs.Chains.{asks_of}
-use Rattle.mx_formulas.specs.Laws.{BindsTo}
+use Rattle.mx_meaning.specs.Laws.{BindsTo}
 use Rattle.mx_answers.specs.Held.{nodes_of, IsKnown}
 use Rattle.mx_suspended.specs.Flights.{Suspended, InFlight, IsTop, Awaits, nodes_waiting}
 use Rattle.mx_suspended.proofs.Steps.{asking, answering_ring, answering_too_deep}

@@ -13,7 +13,7 @@ use Rattle.mx_runs.specs.Lists.{Has, Distinct}
 use Rattle.mx_runs.specs.Runs.{Model, Run, Event, Asks}
 use Rattle.mx_runs.specs.Meaning.{Leads}
 use Rattle.mx_runs.specs.Chains.{DoesAsk, HasValue, asks_of}
-use Rattle.mx_formulas.specs.Laws.{BindsTo}
+use Rattle.mx_meaning.specs.Laws.{BindsTo}
 use Rattle.mx_answers.specs.Answers.{Evaluation, IsSettled}
 use Rattle.mx_suspended.specs.Flights.{Suspended, InFlight, IsTop, Awaits, IsDone, nodes_waiting}
 use Rattle.mx_suspended.specs.Ended.{HasEnded}

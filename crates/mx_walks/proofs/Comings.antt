@@ -10,9 +10,9 @@ use Rattle.mx_syntax.specs.declared.stmt.Param.{Param}
 use Rattle.mx_edit.specs.declared.key.Key.TheVariants as key
 use Rattle.mx_ops.specs.declared.op.OpRefusal.{OpRefusal}
 use Rattle.mx_ops.specs.declared.op.OpRefusal.TheVariants as refusal
-use Rattle.mx_instructions_law.specs.States.{State, Home, Next, Look as Looks, Fault}
-use Rattle.mx_instructions_law.specs.Finding.{Again, Place, walked_next}
-use Rattle.mx_instructions_law.specs.Calling.{arguments_next, cells_asked_next, cells_called_next, space_called_next, space_sought_next}
+use Rattle.mx_code_law.specs.States.{State, Home, Next, Look as Looks, Fault}
+use Rattle.mx_code_law.specs.Finding.{Again, Place, walked_next}
+use Rattle.mx_code_law.specs.Calling.{arguments_next, cells_asked_next, cells_called_next, space_called_next, space_sought_next}
 use Rattle.mx_stack.specs.Came.{Continues}
 use Rattle.mx_reading.specs.Seen.{Seen}
 use Rattle.mx_reading.specs.Passed.{passed}

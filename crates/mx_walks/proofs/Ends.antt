@@ -4,7 +4,7 @@ use Rattle.std.specs.Prelude.{slice_get}
 use Rattle.std.proofs.lemmas.Option.{same_Some}
 use Rattle.mx_value.specs.declared.value.Segment.{Segment, out-Segment}
 use Rattle.mx_runs.specs.Inputs.{is_name}
-use Rattle.mx_formulas.specs.Namespaces.{ends_with_name}
+use Rattle.mx_meaning.specs.Namespaces.{ends_with_name}
 
 ends : (xs : List Segment) (s : Segment) (i : ℕ) → i + 1 ≡ length xs → Some s ≡ slice_get xs i → is_name (out-Segment s) ≡ ends_with_name xs
 ends [] s i n e = absurd (omega arith)

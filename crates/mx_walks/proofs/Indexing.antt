@@ -13,7 +13,7 @@ use Rattle.mx_ops.specs.declared.op.Op.TheVariants as op
 use Rattle.mx_ops.specs.Kinds.{Content, bytes_of}
 use Rattle.mx_ops.specs.Numbers.{whole_of}
 use Rattle.mx_ops.specs.Table.{gives}
-use Rattle.mx_formulas.specs.Calls.{row_key}
+use Rattle.mx_meaning.specs.Calls.{row_key}
 
 -- another number of subscripts than one
 pub not_one : (v : Value) (args : List Value) → (length args ≡ 1 → ⊥) → gives op.Index (v ∷ args) ≡ Err TypeMismatch

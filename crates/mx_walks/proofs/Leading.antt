@@ -11,11 +11,11 @@ use Rattle.mx_edit.specs.declared.key.Key.TheVariants as key
 use Rattle.mx_edit.specs.declared.key.KeyResult.{KeyResult}
 use Rattle.mx_edit.specs.declared.key.KeyResult.TheVariants as found
 use Rattle.mx_runs.specs.Runs.{Model, Run}
-use Rattle.mx_formulas.specs.Namespaces.{Step, root, child, ends_with_name}
-use Rattle.mx_formulas.specs.Walks.{Onward, entered, item_entered, stepped, walked, walked_from}
+use Rattle.mx_meaning.specs.Namespaces.{Step, root, child, ends_with_name}
+use Rattle.mx_meaning.specs.Walks.{Onward, entered, item_entered, stepped, walked, walked_from}
 use Rattle.mx_suspended.specs.Recorded.{Recorded, GoesPast, Stays, PastTest}
-use Rattle.mx_instructions_law.specs.States.{Next}
-use Rattle.mx_instructions_law.specs.Finding.{Again, Place, item_next, step_next, walk_next, begun_next, resumed_next, walked_next}
+use Rattle.mx_code_law.specs.States.{Next}
+use Rattle.mx_code_law.specs.Finding.{Again, Place, item_next, step_next, walk_next, begun_next, resumed_next, walked_next}
 use Rattle.mx_reading.specs.Seen.{Seen}
 use Rattle.mx_reading.specs.Passed.{passed}
 use Rattle.mx_walks.specs.Ways.{Look, Leading, item_way, step_way, way_of, begun_way, resumed_way, walked_way, leading_next, leading_run}

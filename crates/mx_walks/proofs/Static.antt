@@ -12,7 +12,7 @@ use Rattle.mx_value.specs.declared.value.Segment.TheVariants as segment
 use Rattle.mx_value.specs.declared.namespace.Namespace.{Namespace}
 use Rattle.mx_runs.specs.Runs.{NoSuch}
 use Rattle.mx_model.specs.Inputs.{name_in, joined, path_of}
-use Rattle.mx_formulas.specs.Namespaces.{Step, child}
+use Rattle.mx_meaning.specs.Namespaces.{Step, child}
 use Rattle.mx_walks.specs.Ways.{Look, Came, Refused, step_way, way_of, begun_way}
 
 -- the name in front of an address, and the names behind it

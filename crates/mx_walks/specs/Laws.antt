@@ -4,10 +4,10 @@ use Rattle.mx_value.specs.declared.value.Segment.{Segment}
 use Rattle.mx_value.specs.declared.namespace.Namespace.{Namespace}
 use Rattle.mx_edit.specs.Entry.{Entry}
 use Rattle.mx_runs.specs.Runs.{Model}
-use Rattle.mx_formulas.specs.Walks.{Onward, entered, walked, walked_from}
+use Rattle.mx_meaning.specs.Walks.{Onward, entered, walked, walked_from}
 use Rattle.mx_suspended.specs.Recorded.{Recorded, GoesPast}
-use Rattle.mx_instructions_law.specs.States.{Next}
-use Rattle.mx_instructions_law.specs.Finding.{Again, Place, walked_next}
+use Rattle.mx_code_law.specs.States.{Next}
+use Rattle.mx_code_law.specs.Finding.{Again, Place, walked_next}
 use Rattle.mx_reading.specs.Seen.{Seen}
 use Rattle.mx_reading.specs.Passed.{passed}
 use Rattle.mx_walks.specs.Ways.{Look, begun_way, resumed_way, walked_way, leading_next, leading_run}

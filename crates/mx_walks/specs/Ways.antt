@@ -12,10 +12,10 @@ use Rattle.mx_edit.specs.declared.key.Key.TheVariants as key
 use Rattle.mx_edit.specs.declared.key.KeyResult.{KeyResult}
 use Rattle.mx_edit.specs.declared.key.KeyResult.TheVariants as found
 use Rattle.mx_runs.specs.Runs.{Outcome, NoSuch, WrongCount, Run, Ends, Asks}
-use Rattle.mx_formulas.specs.Namespaces.{Step, root, child, ends_with_name}
-use Rattle.mx_formulas.specs.Walks.{Onward, entered, walked_from}
-use Rattle.mx_instructions_law.specs.States.{Next, End, Ask}
-use Rattle.mx_instructions_law.specs.Finding.{Again, Place}
+use Rattle.mx_meaning.specs.Namespaces.{Step, root, child, ends_with_name}
+use Rattle.mx_meaning.specs.Walks.{Onward, entered, walked_from}
+use Rattle.mx_code_law.specs.States.{Next, End, Ask}
+use Rattle.mx_code_law.specs.Finding.{Again, Place}
 use Rattle.mx_walks.specs.declared.items.Stop.{Stop}
 use Rattle.mx_walks.specs.declared.items.Stop.TheVariants as stop
 use Rattle.mx_walks.specs.declared.walks.Walked.{Walked}

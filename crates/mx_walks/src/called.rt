@@ -1,7 +1,7 @@
 //! What a call or a subscript leads to.
 ghost use Rattle.std.specs.Prelude.{IfOk};
 ghost use Rattle.mx_ops.specs.Answers.{Answer};
-ghost use Rattle.mx_instructions_law.specs.States.{On, computed_next};
+ghost use Rattle.mx_code_law.specs.States.{On, computed_next};
 ghost use Rattle.mx_stack.specs.Came.{Gives};
 ghost use Rattle.mx_walks.specs.Calls.{IsCalled};
 

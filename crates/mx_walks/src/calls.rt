@@ -4,7 +4,7 @@ ghost use Rattle.mx_value.specs.declared.value.Value.{out-Value};
 ghost use Rattle.mx_model.specs.Keys.{key_result};
 ghost use Rattle.mx_ops.specs.Answers.{Answers};
 ghost use Rattle.mx_ops.specs.Table.{gives};
-ghost use Rattle.mx_instructions_law.specs.Calling.{call_next, index_next, value_called_next};
+ghost use Rattle.mx_code_law.specs.Calling.{call_next, index_next, value_called_next};
 ghost use Rattle.mx_stack.specs.Callees.{callee_of};
 ghost use Rattle.mx_stack.specs.Walks.{place_of};
 ghost use Rattle.mx_walks.specs.Calls.{Comes};

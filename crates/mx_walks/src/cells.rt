@@ -3,8 +3,8 @@ ghost use Rattle.std.specs.Prelude.{IfOk};
 ghost use Rattle.mx_value.specs.declared.node.Node.TheVariants.{Cell};
 ghost use Rattle.mx_edit.specs.declared.key.Key.TheVariants as key;
 ghost use Rattle.mx_model.specs.Keys.{key_result};
-ghost use Rattle.mx_instructions_law.specs.States.{Ask, Look};
-ghost use Rattle.mx_instructions_law.specs.Calling.{arguments_next, cells_asked_next, cells_called_next};
+ghost use Rattle.mx_code_law.specs.States.{Ask, Look};
+ghost use Rattle.mx_code_law.specs.Calling.{arguments_next, cells_asked_next, cells_called_next};
 ghost use Rattle.mx_stack.specs.Walks.{place_of};
 ghost use Rattle.mx_walks.specs.Calls.{Comes, IsCalled};
 

@@ -1,7 +1,7 @@
 //! Walks through names, up to the next item.
 ghost use Rattle.std.specs.Prelude.{◌≡◌, IfOk, OnOk, length};
 ghost use Rattle.mx_model.specs.Keys.{key_result};
-ghost use Rattle.mx_formulas.specs.Namespaces.{child, root};
+ghost use Rattle.mx_meaning.specs.Namespaces.{child, root};
 ghost use Rattle.mx_walks.specs.Ways.{stopped_way, way_of};
 
 use crate::copies::{copy_names, copy_segments};

@@ -7,7 +7,7 @@ ghost use Rattle.mx_edit.specs.declared.key.Key.TheVariants as key;
 ghost use Rattle.mx_model.specs.Keys.{key_result};
 ghost use Rattle.mx_runs.specs.Inputs.{is_name};
 ghost use Rattle.mx_runs.specs.Runs as outcome;
-ghost use Rattle.mx_formulas.specs.Namespaces.{ends_with_name};
+ghost use Rattle.mx_meaning.specs.Namespaces.{ends_with_name};
 ghost use Rattle.mx_walks.specs.Ways.{AsksAt, Refused, item_way, stopped_way};
 
 use mx_list::items::Items;

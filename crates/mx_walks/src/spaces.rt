@@ -3,8 +3,8 @@ ghost use Rattle.std.specs.Prelude.{◌≡◌, ◌++◌, ◌∷◌, [], IfOk};
 ghost use Rattle.mx_value.specs.declared.value.Segment.TheVariants as segment;
 ghost use Rattle.mx_edit.specs.declared.key.Key.TheVariants as key;
 ghost use Rattle.mx_model.specs.Keys.{key_result};
-ghost use Rattle.mx_formulas.specs.Namespaces.{is_allowed};
-ghost use Rattle.mx_instructions_law.specs.Calling.{arguments_next, item_asked_next, space_called_next, space_sought_next};
+ghost use Rattle.mx_meaning.specs.Namespaces.{is_allowed};
+ghost use Rattle.mx_code_law.specs.Calling.{arguments_next, item_asked_next, space_called_next, space_sought_next};
 ghost use Rattle.mx_stack.specs.Walks.{place_of};
 ghost use Rattle.mx_walks.specs.Calls.{Comes, IsCalled};
 

@@ -1,13 +1,13 @@
 //! Subscripts of tables.
 ghost use Rattle.std.specs.Prelude.{◌≡◌, option_copied, IfOk};
-ghost use Rattle.mx_formulas.specs.Calls.{entry, entry_of, row_key};
+ghost use Rattle.mx_meaning.specs.Calls.{entry, entry_of, row_key};
 ghost use Rattle.mx_model.specs.Keys.{key_result};
 ghost use Rattle.mx_value.specs.Normal.{number_of};
 ghost use Rattle.mx_ops.specs.Answers.{Answers};
 ghost use Rattle.mx_ops.specs.Builtins.{or_no_index};
 ghost use Rattle.mx_ops.specs.Kinds.{bytes_of};
 ghost use Rattle.mx_ops.specs.Numbers.{whole_of};
-ghost use Rattle.mx_instructions_law.specs.Calling.{table_next};
+ghost use Rattle.mx_code_law.specs.Calling.{table_next};
 ghost use Rattle.mx_walks.specs.Calls.{Comes};
 
 use crate::called::{Called, leave_given};

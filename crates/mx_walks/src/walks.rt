@@ -2,7 +2,7 @@
 ghost use Rattle.std.specs.Prelude.{◌≡◌, IfOk, IfSome, drop};
 ghost use Rattle.mx_model.specs.Keys.{key_result};
 ghost use Rattle.mx_stack.specs.Walks.{place_of};
-ghost use Rattle.mx_formulas.specs.Namespaces.{root};
+ghost use Rattle.mx_meaning.specs.Namespaces.{root};
 ghost use Rattle.mx_walks.specs.Ways.{Came, Look, begun_way, resumed_way, told, walked_way, way_of};
 
 use crate::copies::copy_segments;

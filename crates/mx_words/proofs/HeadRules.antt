@@ -1,11 +1,10 @@
 -- The parsers of heads are exact.
-use Rattle.std.proofs.Common.{◌≡◌, ℕ, Bool, true, false, List, [], ◌∷◌, ◌++◌, refl, sym, ap, subst, ◌∙◌}
+use Rattle.std.proofs.Common.{◌≡◌, ℕ, true, List, [], ◌∷◌, ◌++◌, refl, sym, ap, subst, ◌∙◌}
 use Rattle.mx_grammar.specs.declared.word.Symbol.TheVariants as symbol
-use Rattle.mx_grammar.specs.declared.word.Word.{Word}
 use Rattle.mx_grammar.specs.declared.word.Word.TheVariants.{Name, Symbol}
 use Rattle.mx_grammar.specs.Words.{is}
 use Rattle.mx_grammar.specs.Grammar.{Parts}
-use Rattle.mx_grammar.specs.Reading.{Words, accept, line}
+use Rattle.mx_grammar.specs.Reading.{Words, line}
 use Rattle.mx_grammar.specs.AddressParsers.{name_of}
 use Rattle.mx_grammar.proofs.Exact.{Rel, Kinds, none, or, Exists, One}
 use Rattle.mx_grammar.proofs.Meets.{Shorter}

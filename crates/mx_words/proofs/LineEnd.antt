@@ -1,5 +1,5 @@
 -- A line that is a whole text, from what is read of it and its end.
-use Rattle.std.proofs.Common.{◌≡◌, [], ◌∷◌, Result, Ok, Err, refl, sym, ap, ◌∙◌}
+use Rattle.std.proofs.Common.{◌≡◌, [], ◌∷◌, Result, Ok, Err, refl, ap, ◌∙◌}
 use Rattle.mx_grammar.specs.declared.word.Symbol.TheVariants as symbol
 use Rattle.mx_grammar.specs.declared.trouble.Trouble.{Trouble}
 use Rattle.mx_grammar.specs.Reading.{Words, Outcome, Parser, and_then, ◌>>◌, pure, expect, line, text, whole}

@@ -1,10 +1,9 @@
 -- A part in a small language has one answer at most.
-use Rattle.std.proofs.Common.{◌≡◌, ℕ, ◌+◌, Bool, true, false, List, Result, Ok, Err, refl, sym, ap, subst, ◌∙◌}
+use Rattle.std.proofs.Common.{◌≡◌, ℕ, ◌+◌, Bool, true, false, List, Result, Ok, Err, sym, ap, subst, ◌∙◌}
 use Rattle.mx_lex.specs.declared.Token.{Token}
 use Rattle.mx_lex.specs.declared.LexRefusal.{LexRefusal}
 use Rattle.mx_lex.specs.Lexing.{tokens_of}
 use Rattle.mx_grammar.specs.declared.word.Word.{Word}
-use Rattle.mx_grammar.specs.declared.refusal.ParseRefusal.{ParseRefusal}
 use Rattle.mx_grammar.specs.declared.refusal.ParseRefusal.TheVariants.{Lex, TooNested}
 use Rattle.mx_grammar.specs.Reading.{Parser}
 use Rattle.mx_grammar.specs.Spelling.{Language, words_of, Spells, Shallow, DeepAt, NestedAt, unopened, UnexpectedIn, PlaceOf}

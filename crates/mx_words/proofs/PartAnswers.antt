@@ -1,5 +1,5 @@
 -- What the code's answers say of a part in a small language.
-use Rattle.std.proofs.Common.{◌≡◌, ◌≢◌, ℕ, ◌+◌, ◌<◌, ◌≤◌, Bool, true, List, ◌∷◌, length, Result, Ok, Err, refl, sym, ap, subst, ◌∙◌, arith}
+use Rattle.std.proofs.Common.{◌≡◌, ◌≢◌, ℕ, Bool, true, List, ◌∷◌, length, Result, Ok, Err, sym, ap, subst, ◌∙◌, arith}
 use Rattle.std.proofs.lemmas.List.{length-append, length-map}
 use Rattle.mx_lex.specs.declared.Token.{Token}
 use Rattle.mx_lex.specs.declared.LexRefusal.{LexRefusal}
@@ -10,7 +10,7 @@ use Rattle.mx_grammar.specs.declared.trouble.Trouble.{Trouble}
 use Rattle.mx_grammar.specs.declared.trouble.Trouble.TheVariants as trouble
 use Rattle.mx_grammar.specs.Words.{word_of}
 use Rattle.mx_grammar.specs.Reading.{Words, Parser, parsed, Gives}
-use Rattle.mx_grammar.specs.Spelling.{Language, words_of, PlaceOf, NestedAt, Unread, IsOpened, InText}
+use Rattle.mx_grammar.specs.Spelling.{Language, PlaceOf, NestedAt, Unread, IsOpened, InText}
 use Rattle.mx_grammar.proofs.Exact.{ends}
 use Rattle.mx_grammar.proofs.Texts.{Exactly, parsed_sound, parsed_unexpected}
 use Rattle.mx_grammar.proofs.Answering.{words_end}

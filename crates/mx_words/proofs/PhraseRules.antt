@@ -1,5 +1,5 @@
 -- The parsers of phrases are exact.
-use Rattle.std.proofs.Common.{◌≡◌, ℕ, suc, ◌+◌, ◌<◌, ◌≤◌, ◌^◌, nat_lt, Bool, true, false, List, [], ◌∷◌, ◌++◌, Option, Some, pos, refl, sym, ap, subst, ◌∙◌, append_assoc, codes, arith, inl, inr}
+use Rattle.std.proofs.Common.{◌≡◌, ℕ, suc, ◌+◌, ◌<◌, ◌≤◌, ◌^◌, nat_lt, Bool, true, false, List, [], ◌∷◌, ◌++◌, Some, pos, refl, sym, ap, subst, ◌∙◌, append_assoc, codes, arith, inl, inr}
 use Rattle.std.proofs.lemmas.Bool.Decides.{Decides-ltb}
 use Rattle.mx_grammar.specs.declared.word.Word.{Word}
 use Rattle.mx_grammar.specs.declared.word.Word.TheVariants.{Name, Int, Fix, Text, Symbol}
@@ -32,7 +32,7 @@ use Rattle.mx_words.specs.declared.table.Reference.TheVariants as reference
 use Rattle.mx_words.specs.Combined.{Behind, After, Maybe, Separated, Worded, cons, the_second}
 use Rattle.mx_words.specs.Heads.{whole_of}
 use Rattle.mx_words.specs.HeadParsers.{worded}
-use Rattle.mx_words.specs.Phrases.{named_command, no_global, LimitText, PathText, BasesText, set_bases, ReferenceText, fixed_to, set_ref, clear_all, address_text, phrase_text}
+use Rattle.mx_words.specs.Phrases.{named_command, no_global, LimitText, PathText, set_bases, ReferenceText, fixed_to, set_ref, clear_all, address_text, phrase_text}
 use Rattle.mx_words.specs.PhraseParsers.{onto, limit_in, limit_of, path, another, paths, bases, reference_by, the_name, address_by, phrase_by}
 use Rattle.mx_words.proofs.Combining.{one_knot, flat, as_rule, some_as, both_rule, some_both, after_rule, sign_rule, sees_behind, some_ended, name_rule, some_name, the_name_rule, some_the, worded_rule, some_worded}
 use Rattle.mx_words.proofs.HeadRules.{dotted, target_rule, some_target, reference_rule, some_owned}

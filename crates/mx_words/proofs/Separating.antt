@@ -1,5 +1,5 @@
 -- The code's loop over items that each stand behind a symbol, beside the parser that it computes.
-use Rattle.std.proofs.Common.{◌≡◌, ℕ, ◌<◌, Bool, true, false, cond, List, [], ◌∷◌, ◌++◌, length, Ok, Err, ap, ◌∙◌}
+use Rattle.std.proofs.Common.{◌≡◌, ◌<◌, Bool, true, false, cond, List, [], ◌∷◌, ◌++◌, length, Ok, Err, ap, ◌∙◌}
 use Rattle.mx_grammar.specs.declared.word.Symbol.{Symbol}
 use Rattle.mx_grammar.specs.declared.trouble.Trouble.{Trouble}
 use Rattle.mx_grammar.specs.Words.{is}

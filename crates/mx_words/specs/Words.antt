@@ -13,6 +13,12 @@ use Rattle.mx_words.specs.declared.table.Asked.TheVariants as asked
 use Rattle.mx_words.specs.declared.table.Rest.{Rest}
 use Rattle.mx_words.specs.Texts.{first_word}
 
+-- every word, in order of the table
+abbrev pub every_word : List CommandWord
+every_word =
+    words.Space ∷ words.Unspace ∷ words.Bases ∷ words.Cells ∷ words.Def ∷ words.Uncells ∷ words.Allow ∷ words.Disallow ∷ words.Ref ∷ words.Unref ∷ words.Params ∷ words.Unparams
+    ∷ words.Global ∷ words.Unglobal ∷ words.Input ∷ words.Uninput ∷ words.Eval ∷ words.Precedents ∷ words.Succs ∷ words.Held ∷ words.Clear ∷ words.Limit ∷ words.Order ∷ []
+
 -- a command of one line, and one that takes further lines
 abbrev pub one : Form → Rest
 one f = record { form = f; takes_lines = false }

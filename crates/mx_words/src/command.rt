@@ -36,8 +36,6 @@ pub enum FormRefusal {
     /// A formula or a node is refused, with places from its own start, or a head has no tokens, with places from the start
     /// of the command.
     Parse(ParseRefusal),
-    /// The formula or the node has a form that is not run yet.
-    NotBuilt,
     NoMemory,
 }
 

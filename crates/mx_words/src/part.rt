@@ -50,7 +50,8 @@ fn move_trouble(lead: usize, trouble: LexRefusal) -> Result<LexRefusal, AllocErr
 
 /// The tokens of a head.
 fn head_tokens(alloc: Global, head: &[u8]) -> Result<Source, LexRefusal>
-    ensures tokens { IfOk result (λ s. (tokens_of head.now ≡ Ok s.tokens) × (s.words ≡ words_of head.now s.tokens)) }
+    ensures tokens { IfOk result (λ s.
+        (tokens_of head.now ≡ Ok s.tokens) × (s.words ≡ words_of head.now s.tokens)) }
     ensures trouble { IfErr result (λ e. e ≢ LexRefusal.NoMemory → tokens_of head.now ≡ Err e) }
 {
     let tokens = lex(alloc, head)?;
@@ -60,7 +61,8 @@ fn head_tokens(alloc: Global, head: &[u8]) -> Result<Source, LexRefusal>
 
 /// The refusal for a lexing trouble in a head.
 fn no_tokens(lead: usize, trouble: LexRefusal) -> FormRefusal
-    ensures { result ≢ FormRefusal.NoMemory → (trouble ≢ LexRefusal.NoMemory) × (result ≡ FormRefusal.Parse (ParseRefusal.Lex (moved lead trouble))) }
+    ensures { result ≢ FormRefusal.NoMemory → (trouble ≢ LexRefusal.NoMemory)
+        × (result ≡ FormRefusal.Parse (ParseRefusal.Lex (moved lead trouble))) }
 {
     match trouble {
         LexRefusal::NoMemory => FormRefusal::NoMemory,
@@ -74,7 +76,8 @@ fn no_tokens(lead: usize, trouble: LexRefusal) -> FormRefusal
 /// The tokens of a part of a command, or why they can't be parsed.
 fn source_of(alloc: Global, lead: usize, part: &[u8]) -> Result<Source, FormRefusal>
     ensures read { IfOk result (λ s. IsRead false part.now s.tokens s.words) }
-    ensures unread { IfErr result (λ e. e ≢ FormRefusal.NoMemory → Unreadable false lead part.now e) }
+    ensures unread { IfErr result (λ e.
+        e ≢ FormRefusal.NoMemory → Unreadable false lead part.now e) }
 {
     match head_tokens(alloc, part) {
         Ok(source) => Ok(source),
@@ -84,7 +87,8 @@ fn source_of(alloc: Global, lead: usize, part: &[u8]) -> Result<Source, FormRefu
 
 /// The refusal for a part whose tokens can't be parsed, where its brackets count.
 fn unread(lead: usize, refusal: ParseRefusal) -> FormRefusal
-    ensures { (part : Many ℕ) → (refusal ≢ ParseRefusal.NoMemory → Unread part refusal) → result ≢ FormRefusal.NoMemory → Unreadable true lead part result }
+    ensures { (part : Many ℕ) → (refusal ≢ ParseRefusal.NoMemory → Unread part refusal)
+        → result ≢ FormRefusal.NoMemory → Unreadable true lead part result }
 {
     match refusal {
         ParseRefusal::Lex(trouble) => no_tokens(lead, trouble),
@@ -101,7 +105,8 @@ fn unread(lead: usize, refusal: ParseRefusal) -> FormRefusal
 
 /// The address behind a command's word and a name, or why it is refused.
 pub fn address(alloc: Global, name: &[u8], lead: usize, text: &[u8]) -> Result<Addr, FormRefusal>
-    ensures { result ≢ Err FormRefusal.NoMemory → PartAnswers (address_text name.now) true lead text.now result }
+    ensures { result ≢ Err FormRefusal.NoMemory
+        → PartAnswers (address_text name.now) true lead text.now result }
 {
     let source = match open(alloc, text) {
         Ok(source) => source,
@@ -134,7 +139,8 @@ pub fn names_in(
     form: HeadForm,
     part: &[u8],
 ) -> Result<Target, FormRefusal>
-    ensures { result ≢ Err FormRefusal.NoMemory → PartAnswers (head_text form) false lead part.now result }
+    ensures { result ≢ Err FormRefusal.NoMemory
+        → PartAnswers (head_text form) false lead part.now result }
 {
     let source = match source_of(alloc, lead, part) {
         Ok(source) => source,
@@ -153,7 +159,8 @@ pub fn phrase(
     lead: usize,
     text: &[u8],
 ) -> Result<Command, FormRefusal>
-    ensures { result ≢ Err FormRefusal.NoMemory → PartAnswers (phrase_text phrase) false lead text.now result }
+    ensures { result ≢ Err FormRefusal.NoMemory
+        → PartAnswers (phrase_text phrase) false lead text.now result }
 {
     let source = match source_of(alloc, lead, text) {
         Ok(source) => source,

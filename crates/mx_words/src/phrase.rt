@@ -89,7 +89,8 @@ fn named_command(alloc: Global, named: Named, target: Target) -> Result<Command,
 
 /// Whether cells may give None, as a command.
 fn allowed(alloc: Global, target: Target, flag: bool) -> Result<Command, AllocError>
-    ensures { IfOk result (λ c. c ≡ command.Edit (edit.SetAllowNone (space_of target.path) target.name flag)) }
+    ensures { IfOk result (λ c.
+        c ≡ command.Edit (edit.SetAllowNone (space_of target.path) target.name flag)) }
 {
     let Target { path, name } = target;
     Ok(Command::Edit(Edit::SetAllowNone {
@@ -322,7 +323,8 @@ fn worded(
 
 /// The command that the tokens of a phrase say.
 pub fn phrase_in(alloc: Global, phrase: Phrase, words: &[Word]) -> Result<Command, Trouble>
-    ensures { Gives (parsed (λ n. line (parsers.worded (spec.phrase_by phrase n))) words.now) result }
+    ensures { Gives (parsed (λ n. line (parsers.worded (spec.phrase_by phrase n))) words.now)
+        result }
 {
     let mut left = Cursor::new(words);
     let command = worded(alloc, &mut left, phrase, words.len() + 1)?;
@@ -333,7 +335,8 @@ pub fn phrase_in(alloc: Global, phrase: Phrase, words: &[Word]) -> Result<Comman
 /// The address that the tokens of a command say, behind its word and a name.
 #[tactic(auto, unfolding(mx_grammar::specs::Reading::line, mx_grammar::specs::Reading::text))]
 pub fn address_in(alloc: Global, name: &[u8], words: &[Word]) -> Result<Addr, Trouble>
-    ensures { Gives (parsed (λ n. line (parsers.worded (spec.address_by name.now n))) words.now) result }
+    ensures { Gives (parsed (λ n. line (parsers.worded (spec.address_by name.now n))) words.now)
+        result }
 {
     let mut left = Cursor::new(words);
     let levels = words.len() + 1;

@@ -32,6 +32,33 @@ pub enum CommandWord {
     Order,
 }
 
+/// Every word, in order of the table.
+pub const WORDS: [CommandWord; 23] = [
+    CommandWord::Space,
+    CommandWord::Unspace,
+    CommandWord::Bases,
+    CommandWord::Cells,
+    CommandWord::Def,
+    CommandWord::Uncells,
+    CommandWord::Allow,
+    CommandWord::Disallow,
+    CommandWord::Ref,
+    CommandWord::Unref,
+    CommandWord::Params,
+    CommandWord::Unparams,
+    CommandWord::Global,
+    CommandWord::Unglobal,
+    CommandWord::Input,
+    CommandWord::Uninput,
+    CommandWord::Eval,
+    CommandWord::Precedents,
+    CommandWord::Succs,
+    CommandWord::Held,
+    CommandWord::Clear,
+    CommandWord::Limit,
+    CommandWord::Order,
+];
+
 /// What a command does with the path or the cells that stand behind its word.
 #[derive(Clone, Copy, Debug, PartialEq, Eq)]
 pub enum Named {

@@ -1,6 +1,6 @@
 //! What a name is bound to, lent.
+use mx_code::compiled::Compiled;
 use mx_edit::reference::RefValue;
-use mx_instructions::compiled::Compiled;
 use mx_value::node::Path;
 
 /// Cells that a path binds to a name.

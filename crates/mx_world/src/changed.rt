@@ -5,10 +5,10 @@ ghost use Rattle.mx_world.specs.Bound.{told_name, told_cells};
 
 use crate::bound::{Bound, BoundCells};
 use crate::world::World;
+use mx_code::compiled::CompiledParams;
 use mx_edit::key::Key;
 use mx_edit::reference::RefValue;
 use mx_edit::table::Table;
-use mx_instructions::compiled::CompiledParams;
 use mx_value::value::Value;
 
 /// Whether what a key leads to differs between two worlds.

@@ -6,7 +6,7 @@ use Rattle.mx_syntax.specs.declared.stmt.Formula.{Formula}
 use Rattle.mx_syntax.specs.declared.stmt.Param.{Param}
 use Rattle.mx_edit.specs.declared.key.KeyResult.TheVariants as found
 use Rattle.mx_model.specs.Keys.{key_result}
-use Rattle.mx_formulas.specs.Walks.{bound_or_refused}
+use Rattle.mx_meaning.specs.Walks.{bound_or_refused}
 use Rattle.mx_bound.specs.declared.settled.Settled.TheVariants as settled
 use Rattle.mx_bound.specs.Settles.{settled_run}
 use Rattle.mx_bound.proofs.Settling.{cells_settle}

@@ -1,5 +1,5 @@
 use Rattle.std.proofs.Common.{◌≡◌, ◌≤◌, drop, length}
-use Rattle.mx_formulas.specs.References.{behind}
+use Rattle.mx_meaning.specs.References.{behind}
 use Rattle.mx_names.proofs.addresses.behind.Given as goal
 
 abbrev pub invariant-loop-at : goal.invariant-loop-at

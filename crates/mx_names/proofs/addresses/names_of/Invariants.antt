@@ -1,5 +1,5 @@
 use Rattle.std.proofs.Common.{◌≡◌, drop}
-use Rattle.mx_formulas.specs.Namespaces.{names_of}
+use Rattle.mx_meaning.specs.Namespaces.{names_of}
 use Rattle.mx_names.proofs.Paths.{prefixed}
 use Rattle.mx_names.proofs.addresses.names_of.Given as goal
 

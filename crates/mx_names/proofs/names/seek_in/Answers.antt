@@ -4,8 +4,8 @@ use Rattle.mx_edit.specs.declared.key.Key.TheVariants as key
 use Rattle.mx_edit.specs.declared.key.KeyResult.{KeyResult}
 use Rattle.mx_edit.specs.declared.key.KeyResult.TheVariants as found
 use Rattle.mx_model.specs.Keys.{key_result}
-use Rattle.mx_formulas.specs.Namespaces.{value_in}
-use Rattle.mx_instructions_law.specs.Finding.{bound_name_next, overlaid_next}
+use Rattle.mx_meaning.specs.Namespaces.{value_in}
+use Rattle.mx_code_law.specs.Finding.{bound_name_next, overlaid_next}
 use Rattle.mx_reading.specs.Seen.{with_key}
 use Rattle.mx_names.specs.Goes.{Goes}
 use Rattle.mx_names.specs.Sought.{found_or}

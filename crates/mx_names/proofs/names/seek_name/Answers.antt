@@ -2,9 +2,9 @@ use Rattle.std.proofs.Common.{◌∙◌, ap}
 use Rattle.mx_value.specs.declared.namespace.Namespace.{Namespace}
 use Rattle.mx_edit.specs.declared.key.Key.TheVariants as key
 use Rattle.mx_model.specs.Keys.{key_result}
-use Rattle.mx_formulas.specs.Lookup.{Called}
-use Rattle.mx_instructions_law.specs.States.{Next, Look}
-use Rattle.mx_instructions_law.specs.Finding.{global_next, name_next, sought_in_next}
+use Rattle.mx_meaning.specs.Lookup.{Called}
+use Rattle.mx_code_law.specs.States.{Next, Look}
+use Rattle.mx_code_law.specs.Finding.{global_next, name_next, sought_in_next}
 use Rattle.mx_stack.specs.Callees.{callee_of}
 use Rattle.mx_reading.specs.Passed.{passed}
 use Rattle.mx_names.proofs.Going.{goes_behind}

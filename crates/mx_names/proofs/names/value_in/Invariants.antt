@@ -1,5 +1,5 @@
 use Rattle.std.proofs.Common.{◌≡◌, drop}
-use Rattle.mx_formulas.specs.Namespaces.{value_in}
+use Rattle.mx_meaning.specs.Namespaces.{value_in}
 use Rattle.mx_names.proofs.names.value_in.Given as goal
 
 abbrev pub invariant-loop-other : goal.invariant-loop-other

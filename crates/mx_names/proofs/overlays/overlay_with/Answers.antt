@@ -1,5 +1,5 @@
 use Rattle.std.proofs.Common.{◌≡◌, ◌∙◌, sym, ap}
-use Rattle.mx_formulas.specs.Namespaces.{Overlay, overlaid}
+use Rattle.mx_meaning.specs.Namespaces.{Overlay, overlaid}
 use Rattle.mx_names.proofs.Overlaying.{overlaid_by_more}
 use Rattle.mx_names.proofs.overlays.overlay_with.Goals as goal
 

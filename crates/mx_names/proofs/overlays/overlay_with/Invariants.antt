@@ -1,5 +1,5 @@
 use Rattle.std.proofs.Common.{◌≡◌, take}
-use Rattle.mx_formulas.specs.Namespaces.{overlaid_by}
+use Rattle.mx_meaning.specs.Namespaces.{overlaid_by}
 use Rattle.mx_names.proofs.overlays.overlay_with.Given as goal
 
 abbrev pub invariant-loop-name : goal.invariant-loop-name

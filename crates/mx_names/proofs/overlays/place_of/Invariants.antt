@@ -1,6 +1,6 @@
 use Rattle.std.proofs.Common.{◌≡◌, ◌++◌, drop, take}
 use Rattle.mx_value.specs.declared.value.Value.{Value}
-use Rattle.mx_formulas.specs.Namespaces.{overlaid}
+use Rattle.mx_meaning.specs.Namespaces.{overlaid}
 use Rattle.mx_names.proofs.overlays.place_of.Given as goal
 
 abbrev pub invariant-loop-at : goal.invariant-loop-at

@@ -2,9 +2,9 @@ use Rattle.std.proofs.Common.{◌≡◌, ◌∙◌, List, Option, sym, ap, subst
 use Rattle.mx_value.specs.declared.label.Label.{Label}
 use Rattle.mx_edit.specs.declared.reference.RefValue.{RefValue}
 use Rattle.mx_model.specs.Keys.{key_result}
-use Rattle.mx_formulas.specs.References.{Target, relative, target_of}
-use Rattle.mx_instructions_law.specs.States.{Next}
-use Rattle.mx_instructions_law.specs.Finding.{reference_next, target_next}
+use Rattle.mx_meaning.specs.References.{Target, relative, target_of}
+use Rattle.mx_code_law.specs.States.{Next}
+use Rattle.mx_code_law.specs.Finding.{reference_next, target_next}
 use Rattle.mx_names.specs.Goes.{Goes}
 use Rattle.mx_names.specs.Targets.{target_meant}
 use Rattle.mx_names.proofs.references.seek_reference.Goals as goal

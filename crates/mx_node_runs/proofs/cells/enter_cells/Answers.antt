@@ -2,7 +2,7 @@ use Rattle.std.proofs.Common.{◌≡◌, ◌∙◌, Bool, List, ap, subst}
 use Rattle.mx_value.specs.declared.label.Label.{Label}
 use Rattle.mx_edit.specs.declared.key.Key.TheVariants as key
 use Rattle.mx_model.specs.Keys.{key_result}
-use Rattle.mx_formulas.specs.Laws.{model_of}
+use Rattle.mx_meaning.specs.Laws.{model_of}
 use Rattle.mx_names.specs.declared.ending.Ending.TheVariants as ending
 use Rattle.mx_reading.specs.Seen.{with_key}
 use Rattle.mx_node_runs.specs.declared.halt.Halt.TheVariants as halt

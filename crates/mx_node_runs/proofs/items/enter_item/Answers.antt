@@ -2,10 +2,10 @@ use Rattle.std.proofs.Common.{◌≡◌, ◌∙◌, true, false, List, sym, ap}
 use Rattle.mx_value.specs.declared.label.Label.{Label}
 use Rattle.mx_edit.specs.declared.key.Key.TheVariants as key
 use Rattle.mx_model.specs.Keys.{key_result}
-use Rattle.mx_formulas.specs.Laws.{model_of}
-use Rattle.mx_formulas.specs.Namespaces.{ends_with_name}
-use Rattle.mx_formulas.specs.Nodes.{item_made, item_run}
-use Rattle.mx_formulas.specs.Walks.{bound_or_refused}
+use Rattle.mx_meaning.specs.Laws.{model_of}
+use Rattle.mx_meaning.specs.Namespaces.{ends_with_name}
+use Rattle.mx_meaning.specs.Nodes.{item_made, item_run}
+use Rattle.mx_meaning.specs.Walks.{bound_or_refused}
 use Rattle.mx_names.specs.declared.ending.Ending.TheVariants as ending
 use Rattle.mx_reading.specs.Seen.{with_key}
 use Rattle.mx_node_runs.specs.declared.halt.Halt.TheVariants as halt

@@ -3,8 +3,8 @@ use Rattle.mx_value.specs.declared.value.Value.{Value}
 use Rattle.mx_syntax.specs.declared.stmt.Param.{Param}
 use Rattle.mx_syntax.specs.declared.stmt.Params.{Params}
 use Rattle.mx_syntax.specs.Binding.{bound, is_wrong_count}
-use Rattle.mx_formulas.specs.Nodes.{arguments_of}
-use Rattle.mx_instructions.specs.Statements.{body_of}
+use Rattle.mx_meaning.specs.Nodes.{arguments_of}
+use Rattle.mx_code.specs.Statements.{body_of}
 use Rattle.mx_state.specs.Model.{model_of}
 use Rattle.mx_node_runs.proofs.Beginning.{in_full, right, stands, wrong}
 use Rattle.mx_node_runs.proofs.Halting.{of_both}

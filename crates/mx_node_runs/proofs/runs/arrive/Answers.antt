@@ -1,5 +1,5 @@
 use Rattle.std.proofs.Common.{ap, refl}
-use Rattle.mx_formulas.specs.Walks.{entered, walked_from}
+use Rattle.mx_meaning.specs.Walks.{entered, walked_from}
 use Rattle.mx_names.specs.declared.ending.Ending.TheVariants as ending
 use Rattle.mx_state.specs.Model.{model_of}
 use Rattle.mx_walks.specs.declared.walks.Walked.{Walked}

@@ -3,7 +3,7 @@ use Rattle.mx_value.specs.declared.node.Node.{Node}
 use Rattle.mx_value.specs.declared.node.Node.TheVariants.{Cell, Item}
 use Rattle.mx_edit.specs.declared.key.Key.TheVariants as key
 use Rattle.mx_runs.specs.Runs.{Looks}
-use Rattle.mx_formulas.specs.Nodes.{cells_found, item_run}
+use Rattle.mx_meaning.specs.Nodes.{cells_found, item_run}
 use Rattle.mx_state.specs.Model.{model_of}
 use Rattle.mx_node_runs.specs.Behind.{behind}
 use Rattle.mx_node_runs.proofs.Halting.{of_one, of_same}

@@ -2,7 +2,7 @@ use Rattle.std.proofs.Common.{◌≡◌, ◌∙◌, List, Option, ap, subst}
 use Rattle.mx_value.specs.declared.value.Segment.{Segment}
 use Rattle.mx_value.specs.declared.value.Value.{Value}
 use Rattle.mx_model.specs.Keys.{key_result}
-use Rattle.mx_formulas.specs.Nodes.{body}
+use Rattle.mx_meaning.specs.Nodes.{body}
 use Rattle.mx_state.specs.Model.{model_of}
 use Rattle.mx_walks.specs.Ways.{begun_way, told}
 use Rattle.mx_node_runs.specs.Behind.{address_of, after_input}

@@ -1,4 +1,5 @@
-use Rattle.mx_run.proofs.Alike.{one_block, one_output, one_transcript}
+use Rattle.mx_commands.proofs.Alike.{one_block}
+use Rattle.mx_run.proofs.Alike.{one_output, one_transcript}
 use Rattle.mx_run.proofs.laws.commands_have_one_output.Goals as goal
 
 pub returns-clause-block : goal.returns-clause-block

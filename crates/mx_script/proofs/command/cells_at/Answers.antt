@@ -1,4 +1,4 @@
-use Rattle.std.proofs.Common.{rules, refl, length, ◌+◌, ◌∙◌, ap}
+use Rattle.std.proofs.Common.{refl, length, ◌+◌, ◌∙◌, ap}
 use Rattle.std.proofs.lemmas.Option.{slice_get_read, slice_get_past}
 use Rattle.mx_words.proofs.PartAnswers.{failed}
 use Rattle.mx_script.specs.Commands.{newline_of}

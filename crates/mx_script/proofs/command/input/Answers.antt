@@ -1,4 +1,4 @@
-use Rattle.std.proofs.Common.{◌≡◌, ◌∙◌, rules, ℕ, List, Ok, Err, ap, take, subst}
+use Rattle.std.proofs.Common.{◌≡◌, ◌∙◌, rules, ℕ, List, Err, ap, take, subst}
 use Rattle.mx_value.specs.declared.node.Node.TheVariants.{Cell, Item}
 use Rattle.mx_grammar.specs.declared.refusal.ParseRefusal.TheVariants.{NoMemory}
 use Rattle.mx_grammar.specs.Spelling.{Answers}

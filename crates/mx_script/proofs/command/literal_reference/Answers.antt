@@ -1,10 +1,9 @@
-use Rattle.std.proofs.Common.{◌≡◌, false, ℕ, List, Result, Ok, Err, ap, sym, take, subst}
+use Rattle.std.proofs.Common.{◌≡◌, false, ℕ, List, Ok, Err, ap, take, subst}
 use Rattle.mx_grammar.specs.declared.refusal.ParseRefusal.TheVariants.{NoMemory}
 use Rattle.mx_grammar.specs.Spelling.{Answers}
 use Rattle.mx_grammar.specs.Literals.{literal_text}
 use Rattle.mx_words.specs.declared.head.Target.{Target}
 use Rattle.mx_words.specs.declared.head.HeadForm.TheVariants as head
-use Rattle.mx_words.specs.declared.command.FormRefusal.{FormRefusal}
 use Rattle.mx_words.specs.Heads.{head_text}
 use Rattle.mx_words.specs.Texts.{behind_equals}
 use Rattle.mx_words.specs.Parts.{PartAnswers}

@@ -1,4 +1,4 @@
-use Rattle.std.proofs.Common.{◌≡◌, ℕ, List, Ok, Err, ap}
+use Rattle.std.proofs.Common.{◌≡◌, Ok, Err, ap}
 use Rattle.mx_grammar.specs.declared.refusal.ParseRefusal.TheVariants.{NoMemory}
 use Rattle.mx_grammar.specs.Limits.{AnswersWithin}
 use Rattle.mx_parse.specs.Formulas.{params_text}

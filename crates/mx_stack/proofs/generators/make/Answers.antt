@@ -3,9 +3,9 @@ use Rattle.std.proofs.lemmas.Grind.{common_steps}
 use Rattle.std.proofs.lemmas.Option.{IfSome_then}
 use Rattle.mx_value.specs.declared.value.Value.TheVariants.{Tup}
 use Rattle.mx_ops.specs.Answers.{Answer, made}
-use Rattle.mx_formulas.specs.Lookup.{Callee}
-use Rattle.mx_instructions_law.specs.States.{Collected, State, computed_next, slot_of}
-use Rattle.mx_instructions_law.specs.Machine.{deciding_truth, made_next}
+use Rattle.mx_meaning.specs.Lookup.{Callee}
+use Rattle.mx_code_law.specs.States.{Collected, State, computed_next, slot_of}
+use Rattle.mx_code_law.specs.Machine.{deciding_truth, made_next}
 use Rattle.mx_stack.specs.Callees.{callee_of}
 use Rattle.mx_stack.specs.Flight.{Flight, at_next, at_past, with_slot, with_value}
 use Rattle.mx_stack.specs.Came.{done}

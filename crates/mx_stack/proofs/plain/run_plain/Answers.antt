@@ -1,7 +1,7 @@
 use Rattle.std.proofs.Common.{◌∙◌, ap}
 use Rattle.std.proofs.lemmas.Option.{IfSome_then}
-use Rattle.mx_instructions.specs.declared.action.Action.{Action}
-use Rattle.mx_instructions_law.specs.Machine.{next_of}
+use Rattle.mx_code.specs.declared.action.Action.{Action}
+use Rattle.mx_code_law.specs.Machine.{next_of}
 use Rattle.mx_stack.specs.Came.{done}
 use Rattle.mx_stack.proofs.plain.run_plain.Goals as goal
 

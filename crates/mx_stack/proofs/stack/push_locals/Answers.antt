@@ -1,7 +1,7 @@
 use Rattle.std.proofs.Common.{◌≡◌, ◌∙◌, ◌+◌, ◌-◌, ◌++◌, ◌∷◌, [], ℕ, List, Option, None, length, map, ap, arith, rules, length-append}
 use Rattle.std.proofs.lemmas.Grind.{common_steps}
 use Rattle.mx_value.specs.declared.value.Value.{Value}
-use Rattle.mx_instructions_law.specs.Laws.{set, unset}
+use Rattle.mx_code_law.specs.Laws.{set, unset}
 use Rattle.mx_stack.proofs.Stacks.{locals_more}
 use Rattle.mx_stack.proofs.stack.push_locals.Goals as goal
 

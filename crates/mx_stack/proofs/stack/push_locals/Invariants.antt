@@ -1,5 +1,5 @@
 use Rattle.std.proofs.Common.{◌≡◌, ◌≤◌, ◌++◌, length, map, take}
-use Rattle.mx_instructions_law.specs.Laws.{set, unset}
+use Rattle.mx_code_law.specs.Laws.{set, unset}
 use Rattle.mx_stack.proofs.stack.push_locals.Given as goal
 
 abbrev pub invariant-loop-argument : goal.invariant-loop-argument

@@ -1,5 +1,5 @@
 use Rattle.std.proofs.Common.{◌≡◌, ◌∙◌, ◌∷◌, ◌++◌, [], ap}
-use Rattle.mx_instructions_law.specs.States.{Holds}
+use Rattle.mx_code_law.specs.States.{Holds}
 use Rattle.mx_stack.specs.Flight.{Flight}
 use Rattle.mx_stack.proofs.Taken.{kept, one_more}
 use Rattle.mx_stack.proofs.taking.pop_values.Goals as goal

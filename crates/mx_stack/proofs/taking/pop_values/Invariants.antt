@@ -1,6 +1,6 @@
 use Rattle.std.proofs.Common.{◌≡◌, ◌-◌, List, [], reverse}
 use Rattle.mx_value.specs.declared.value.Value.{Value}
-use Rattle.mx_instructions_law.specs.States.{Slot, Next, on_many, state}
+use Rattle.mx_code_law.specs.States.{Slot, Next, on_many, state}
 use Rattle.mx_stack.specs.Flight.{on_top}
 use Rattle.mx_stack.proofs.taking.pop_values.Given as goal
 

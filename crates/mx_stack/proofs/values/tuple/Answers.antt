@@ -2,7 +2,7 @@ use Rattle.std.proofs.Common.{◌∙◌, ap, sym}
 use Rattle.std.proofs.lemmas.Option.{IfSome_then}
 use Rattle.mx_value.specs.declared.value.Value.TheVariants.{Tup}
 use Rattle.mx_ops.specs.Answers.{Answer, made}
-use Rattle.mx_instructions_law.specs.States.{State, computed_next}
+use Rattle.mx_code_law.specs.States.{State, computed_next}
 use Rattle.mx_stack.specs.Flight.{Flight}
 use Rattle.mx_stack.specs.Came.{done}
 use Rattle.mx_stack.proofs.Computed.{behind}

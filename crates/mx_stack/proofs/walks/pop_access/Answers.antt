@@ -1,4 +1,4 @@
-use Rattle.mx_instructions_law.specs.States.{Holds}
+use Rattle.mx_code_law.specs.States.{Holds}
 use Rattle.mx_stack.specs.Walks.{place_of}
 use Rattle.mx_stack.proofs.Taken.{kept}
 use Rattle.mx_stack.proofs.Walking.{accessed}

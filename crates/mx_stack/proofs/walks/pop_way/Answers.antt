@@ -1,6 +1,6 @@
 use Rattle.std.proofs.Common.{◌≡◌, ◌∙◌, [], List, None, ap, sym}
-use Rattle.mx_instructions_law.specs.States.{Slot, state}
-use Rattle.mx_instructions_law.specs.Machine.{on_walk}
+use Rattle.mx_code_law.specs.States.{Slot, state}
+use Rattle.mx_code_law.specs.Machine.{on_walk}
 use Rattle.mx_stack.specs.Flight.{Flight, on_top}
 use Rattle.mx_stack.specs.Walks.{below_way}
 use Rattle.mx_stack.proofs.walks.pop_way.Goals as goal

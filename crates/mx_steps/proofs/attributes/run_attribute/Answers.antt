@@ -3,8 +3,8 @@ use Rattle.mx_value.specs.declared.value.Value.{Value}
 use Rattle.mx_value.specs.declared.fault.FaultKind.TheVariants.{NoName}
 use Rattle.mx_model.specs.Keys.{key_result}
 use Rattle.mx_runs.specs.Runs.{NoSuch, WrongCount}
-use Rattle.mx_instructions_law.specs.States.{Fault, Next, On}
-use Rattle.mx_instructions_law.specs.Finding.{sought_in_next}
+use Rattle.mx_code_law.specs.States.{Fault, Next, On}
+use Rattle.mx_code_law.specs.Finding.{sought_in_next}
 use Rattle.mx_stack.specs.Flight.{on_top, with_value}
 use Rattle.mx_stack.specs.Walks.{answered, place_of}
 use Rattle.mx_reading.specs.Passed.{passed}

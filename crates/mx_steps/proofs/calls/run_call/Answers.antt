@@ -3,9 +3,9 @@ use Rattle.mx_value.specs.declared.value.Value.{Value, out-Value}
 use Rattle.mx_value.specs.declared.value.Segment.{Segment}
 use Rattle.std.specs.Prelude.{List, Option}
 use Rattle.mx_model.specs.Keys.{key_result}
-use Rattle.mx_instructions_law.specs.States.{Home, Holds, Next, slot_of}
-use Rattle.mx_instructions_law.specs.Finding.{Place}
-use Rattle.mx_instructions_law.specs.Calling.{call_next, index_next}
+use Rattle.mx_code_law.specs.States.{Home, Holds, Next, slot_of}
+use Rattle.mx_code_law.specs.Finding.{Place}
+use Rattle.mx_code_law.specs.Calling.{call_next, index_next}
 use Rattle.mx_stack.specs.Callees.{callee_of}
 use Rattle.mx_stack.specs.Walks.{again, answered, place_of}
 use Rattle.mx_stack.proofs.Walking.{called, subscripted}

@@ -1,9 +1,9 @@
 use Rattle.std.proofs.Common.{◌+◌, ◌∷◌, ℕ, refl}
 use Rattle.mx_model.specs.Keys.{key_result}
-use Rattle.mx_formulas.specs.Lookup.{Callee, Called, Function}
-use Rattle.mx_instructions.specs.declared.action.Action.TheVariants as act
-use Rattle.mx_instructions_law.specs.States.{Next, On, State, slot_of, state}
-use Rattle.mx_instructions_law.specs.Machine.{next_of}
+use Rattle.mx_meaning.specs.Lookup.{Callee, Called, Function}
+use Rattle.mx_code.specs.declared.action.Action.TheVariants as act
+use Rattle.mx_code_law.specs.States.{Next, On, State, slot_of, state}
+use Rattle.mx_code_law.specs.Machine.{next_of}
 use Rattle.mx_names.specs.Homes.{home_of}
 use Rattle.mx_steps.proofs.Steps.{left}
 use Rattle.mx_steps.proofs.names.run_callee.Goals as goal

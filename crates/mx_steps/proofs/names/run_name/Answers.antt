@@ -1,10 +1,10 @@
 use Rattle.std.proofs.Common.{◌+◌, ◌∷◌, ℕ, refl}
 use Rattle.mx_value.specs.declared.value.Value.{Value}
 use Rattle.mx_model.specs.Keys.{key_result}
-use Rattle.mx_instructions.specs.declared.action.Action.TheVariants as act
-use Rattle.mx_instructions_law.specs.States.{Holds, State, state}
-use Rattle.mx_instructions_law.specs.Finding.{valued_next}
-use Rattle.mx_instructions_law.specs.Machine.{next_of}
+use Rattle.mx_code.specs.declared.action.Action.TheVariants as act
+use Rattle.mx_code_law.specs.States.{Holds, State, state}
+use Rattle.mx_code_law.specs.Finding.{valued_next}
+use Rattle.mx_code_law.specs.Machine.{next_of}
 use Rattle.mx_names.specs.Homes.{home_of}
 use Rattle.mx_steps.proofs.Steps.{left}
 use Rattle.mx_steps.proofs.names.run_name.Goals as goal

@@ -1,9 +1,9 @@
 use Rattle.std.proofs.Common.{◌≡◌, ◌∙◌, Option, Some, None, refl, rules, subst}
 use Rattle.std.specs.Prelude.{slice_get}
 use Rattle.mx_model.specs.Keys.{key_result}
-use Rattle.mx_instructions.specs.Told.{told}
-use Rattle.mx_instructions_law.specs.States.{On}
-use Rattle.mx_instructions_law.specs.Machine.{next_of}
+use Rattle.mx_code.specs.Told.{told}
+use Rattle.mx_code_law.specs.States.{On}
+use Rattle.mx_code_law.specs.Machine.{next_of}
 use Rattle.mx_reading.specs.Passed.{passed}
 use Rattle.mx_names.specs.Homes.{home_of}
 use Rattle.mx_steps.specs.declared.stepped.Stop.{Stop}

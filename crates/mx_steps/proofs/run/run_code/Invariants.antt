@@ -1,8 +1,8 @@
 use Rattle.std.proofs.Common.{◌≡◌}
 use Rattle.mx_runs.specs.Runs.{Run}
-use Rattle.mx_instructions.specs.Told.{told}
-use Rattle.mx_instructions_law.specs.States.{On}
-use Rattle.mx_instructions_law.specs.Machine.{Does}
+use Rattle.mx_code.specs.Told.{told}
+use Rattle.mx_code_law.specs.States.{On}
+use Rattle.mx_code_law.specs.Machine.{Does}
 use Rattle.mx_names.specs.Homes.{home_of}
 use Rattle.mx_steps.proofs.Past.{Along}
 use Rattle.mx_steps.proofs.run.run_code.Given as goal

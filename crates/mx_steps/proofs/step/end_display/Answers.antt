@@ -1,5 +1,5 @@
 use Rattle.std.proofs.Common.{◌∙◌, sym, ap}
-use Rattle.mx_instructions_law.specs.States.{End}
+use Rattle.mx_code_law.specs.States.{End}
 use Rattle.mx_names.specs.Homes.{home_of}
 use Rattle.mx_steps.proofs.step.end_display.Goals as goal
 

@@ -1,9 +1,9 @@
 use Rattle.std.proofs.Common.{◌≡◌, ◌∙◌, ap, sym}
 use Rattle.mx_model.specs.Keys.{key_result}
-use Rattle.mx_instructions.specs.declared.action.Action.{Action}
-use Rattle.mx_instructions.specs.declared.action.Action.TheVariants as act
-use Rattle.mx_instructions_law.specs.States.{Next}
-use Rattle.mx_instructions_law.specs.Machine.{next_of}
+use Rattle.mx_code.specs.declared.action.Action.{Action}
+use Rattle.mx_code.specs.declared.action.Action.TheVariants as act
+use Rattle.mx_code_law.specs.States.{Next}
+use Rattle.mx_code_law.specs.Machine.{next_of}
 use Rattle.mx_reading.specs.Passed.{passed}
 use Rattle.mx_names.specs.Homes.{home_of}
 use Rattle.mx_steps.proofs.Steps.{stepped_after}

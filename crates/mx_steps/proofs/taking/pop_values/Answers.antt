@@ -1,7 +1,7 @@
 use Rattle.std.proofs.Common.{◌≡◌, ◌∙◌, ◌∷◌, ◌++◌, [], List, reverse, ap, sym}
 use Rattle.std.proofs.lemmas.List.{reverse-append}
 use Rattle.mx_value.specs.declared.value.Value.{Value}
-use Rattle.mx_instructions_law.specs.States.{Holds}
+use Rattle.mx_code_law.specs.States.{Holds}
 use Rattle.mx_stack.specs.Flight.{Flight, on_top}
 use Rattle.mx_stack.proofs.Taken.{one_more}
 use Rattle.mx_steps.specs.Values.{with_values}

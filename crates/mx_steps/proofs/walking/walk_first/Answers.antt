@@ -1,7 +1,7 @@
 use Rattle.std.proofs.Common.{◌≡◌, ◌∙◌, Some, sym, ap}
 use Rattle.mx_model.specs.Keys.{key_result}
 use Rattle.mx_runs.specs.Runs.{NoSuch, WrongCount}
-use Rattle.mx_instructions_law.specs.States.{Next}
+use Rattle.mx_code_law.specs.States.{Next}
 use Rattle.mx_stack.specs.Walks.{place_of}
 use Rattle.mx_reading.specs.Passed.{passed}
 use Rattle.mx_walks.specs.Ways.{AsksAt, Came, Refused, told}

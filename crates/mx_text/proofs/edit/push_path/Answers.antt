@@ -1,4 +1,4 @@
-use Rattle.std.proofs.Common.{◌≡◌, arith, ◌+◌, take, refl, sym, ap, ◌∙◌, ◌++◌, map, List}
+use Rattle.std.proofs.Common.{◌≡◌, arith, ◌+◌, take, sym, ap, map, List}
 use Rattle.std.specs.Prelude.{codes}
 use Rattle.std.proofs.lemmas.List.{map-id}
 use Rattle.mx_value.specs.declared.label.Label.{Label}

@@ -5,7 +5,7 @@ use Rattle.mx_state.specs.Model.{model_of}
 use Rattle.mx_state.proofs.Bound.{inputs_end}
 use Rattle.mx_stack.specs.Flight.{Flight}
 use Rattle.mx_turns.specs.Flights.{first_of}
-use Rattle.mx_formulas.specs.Nodes.{body}
+use Rattle.mx_meaning.specs.Nodes.{body}
 use Rattle.mx_node_runs.specs.Halts.{HaltsAt}
 use Rattle.mx_bound.specs.Records.{HasOwnKey}
 use Rattle.mx_reading.specs.Seen.{Seen, nothing_seen}

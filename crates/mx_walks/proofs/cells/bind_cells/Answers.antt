@@ -2,7 +2,7 @@ use Rattle.std.proofs.Common.{◌∙◌, List, sym, ap}
 use Rattle.mx_value.specs.declared.label.Label.{Label}
 use Rattle.mx_value.specs.declared.value.Segment.{Segment}
 use Rattle.mx_value.specs.declared.node.Node.TheVariants.{Cell}
-use Rattle.mx_instructions_law.specs.States.{Ask}
+use Rattle.mx_code_law.specs.States.{Ask}
 use Rattle.mx_walks.proofs.Comings.{refused}
 use Rattle.mx_walks.proofs.cells.bind_cells.Goals as goal
 

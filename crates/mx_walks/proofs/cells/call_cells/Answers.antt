@@ -3,8 +3,8 @@ use Rattle.mx_value.specs.declared.value.CellsAt.{out-CellsAt}
 use Rattle.mx_edit.specs.declared.key.Key.TheVariants as key
 use Rattle.mx_model.specs.Keys.{key_result}
 use Rattle.mx_runs.specs.Runs.{NoSuch, WrongCount}
-use Rattle.mx_instructions_law.specs.States.{Look}
-use Rattle.mx_instructions_law.specs.Calling.{cells_asked_next, cells_called_next}
+use Rattle.mx_code_law.specs.States.{Look}
+use Rattle.mx_code_law.specs.Calling.{cells_asked_next, cells_called_next}
 use Rattle.mx_stack.specs.Walks.{place_of}
 use Rattle.mx_walks.specs.Ways.{Came, AsksAt, Refused, told}
 use Rattle.mx_walks.proofs.Comings.{comes_on, cells_lead}

@@ -3,8 +3,8 @@ use Rattle.std.specs.Prelude.{if◌then◌else◌}
 use Rattle.mx_value.specs.declared.value.Segment.{Segment}
 use Rattle.mx_value.specs.declared.node.Node.TheVariants.{Item}
 use Rattle.mx_value.specs.declared.fault.FaultKind.TheVariants.{TooLarge}
-use Rattle.mx_instructions_law.specs.States.{Ask, Fault}
-use Rattle.mx_instructions_law.specs.Calling.{item_asked_next}
+use Rattle.mx_code_law.specs.States.{Ask, Fault}
+use Rattle.mx_code_law.specs.Calling.{item_asked_next}
 use Rattle.mx_walks.proofs.Comings.{refused}
 use Rattle.mx_walks.proofs.spaces.bind_item.Goals as goal
 

@@ -1,7 +1,7 @@
 use Rattle.std.proofs.Common.{ap}
 use Rattle.mx_model.specs.Keys.{key_result}
 use Rattle.mx_runs.specs.Runs.{NoSuch, WrongCount}
-use Rattle.mx_instructions_law.specs.Calling.{space_called_next, space_sought_next}
+use Rattle.mx_code_law.specs.Calling.{space_called_next, space_sought_next}
 use Rattle.mx_stack.specs.Walks.{place_of}
 use Rattle.mx_walks.specs.Ways.{Came, AsksAt, Refused, told}
 use Rattle.mx_walks.proofs.Comings.{comes_on, space_leads}

@@ -4,7 +4,7 @@ use Rattle.mx_edit.specs.Table.{entry_at}
 use Rattle.mx_ops.specs.Answers.{Answer, Answers}
 use Rattle.mx_ops.specs.Builtins.{or_no_index}
 use Rattle.mx_ops.specs.Kinds.{bytes_of}
-use Rattle.mx_formulas.specs.Calls.{entry, row_key}
+use Rattle.mx_meaning.specs.Calls.{entry, row_key}
 use Rattle.mx_walks.proofs.Indexing.{bytes_text}
 use Rattle.mx_walks.proofs.tables.entry.Goals as goal
 

@@ -1,7 +1,7 @@
 use Rattle.std.proofs.Common.{◌≤◌, ◌∙◌, List, [], length, sym, ap, arith}
 use Rattle.mx_value.specs.declared.label.Label.{Label}
 use Rattle.mx_value.specs.declared.value.Segment.{Segment}
-use Rattle.mx_formulas.specs.Namespaces.{Overlay}
+use Rattle.mx_meaning.specs.Namespaces.{Overlay}
 use Rattle.mx_walks.specs.Ways.{Came}
 use Rattle.mx_walks.proofs.Static.{static_walk}
 use Rattle.mx_walks.proofs.walks.static_namespace.Goals as goal

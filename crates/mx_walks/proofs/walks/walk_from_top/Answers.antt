@@ -1,7 +1,7 @@
 use Rattle.std.proofs.Common.{◌≡◌, ◌∙◌, Option, IfSome, sym, subst}
 use Rattle.mx_value.specs.declared.namespace.Namespace.{Namespace}
 use Rattle.mx_model.specs.Keys.{key_result}
-use Rattle.mx_formulas.specs.Namespaces.{root}
+use Rattle.mx_meaning.specs.Namespaces.{root}
 use Rattle.mx_walks.specs.Ways.{Came, Look, way_of}
 use Rattle.mx_walks.proofs.Static.{begun_on}
 use Rattle.mx_walks.proofs.walks.walk_from_top.Goals as goal

@@ -1,6 +1,6 @@
 use Rattle.std.proofs.Common.{FitsSigned, to_z-of_z}
 use Rattle.std.specs.Int.{w64}
-use Rattle.mx_words.proofs.PhraseCode.{small_fits, small_misses}
+use Rattle.mx_words.proofs.PhraseCode.{small_misses}
 use Rattle.mx_words.proofs.phrase.small.Goals as goal
 
 pub returns-in-Err : goal.returns-in-Err

@@ -1,6 +1,6 @@
 use Rattle.std.proofs.Common.{◌≡◌, ◌≤◌, List, length, map, take, min, ap, sym, arith, rules, length-take}
 use Rattle.std.proofs.lemmas.Grind.{common_steps}
-use Rattle.mx_instructions_law.specs.States.{Slot}
+use Rattle.mx_code_law.specs.States.{Slot}
 use Rattle.mx_stack.specs.Slots.{told}
 use Rattle.mx_stack.specs.Flight.{Below, Flight}
 use Rattle.mx_stack.proofs.Stacks.{dropped}

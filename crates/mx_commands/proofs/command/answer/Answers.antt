@@ -1,0 +1,16 @@
+use Rattle.std.proofs.Common.{◌≡◌, refl}
+use Rattle.mx_words.specs.declared.command.FormRefusal.TheVariants.{NoMemory}
+use Rattle.mx_commands.specs.Step.{refused, carried}
+use Rattle.mx_commands.proofs.EditLemmas.{read_command}
+use Rattle.mx_commands.proofs.command.answer.Goals as goal
+
+pub carry_out-requires-clause-read : goal.carry_out-requires-clause-read
+carry_out-requires-clause-read g c = read_command c.laws.ensures.edits_are_read c.args.text.now c.in-Ok.command (c.in-Ok.ensures.found (λ e. absurd cc))
+
+pub returns-in-Err : goal.returns-in-Err
+returns-in-Err g c =
+    let done = c.in_ok-push_form_block-in-Err.ensures in
+    refused c.in-Err.refusal done.memory (c.in-Err.ensures.found (λ e. done.memory (let same : c.in-Err.refusal ≡ NoMemory = cc in same))) (rw c.clear.ensures.items at done.text) refl
+
+pub returns-in-Ok : goal.returns-in-Ok
+returns-in-Ok g c = carried c.in-Ok.command (c.in-Ok.ensures.found (λ e. absurd cc)) c.in_ok-carry_out-in-Ok.ensures

@@ -1,0 +1,11 @@
+//! The commands of a script: what each does with an engine, and the block that answers it.
+#![tactic(auto)]
+
+mod changes;
+mod command;
+mod evaluations;
+mod held;
+pub mod laws;
+mod settings;
+
+pub use command::answer;

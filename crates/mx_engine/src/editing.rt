@@ -1,0 +1,60 @@
+//! Edits.
+ghost use Rattle.std.specs.Prelude.{◌≡◌, ◌+◌, ℕ, IfOk, OnErr, OnOk, length};
+ghost use Rattle.mx_whole_edits.specs.Ready.{IsRead};
+ghost use Rattle.mx_state.specs.Changes.{Edits};
+ghost use Rattle.mx_engine.specs.Edited.{HasEdited};
+ghost use Rattle.mx_engine.specs.Refused.{IsRefusedBy};
+
+use crate::engine::Engine;
+use mx_edit::edit::Edit;
+use mx_edit::refusal::EditRefusal;
+use mx_memo::Memo;
+use mx_retain::inputs::changed_inputs;
+use mx_retain::retain::keep_unchanged;
+use mx_world::prepare::{commit, prepare};
+use mx_world::world::World;
+use std::alloc::Global;
+
+impl Engine {
+    /// Changes the text, and tells how many held nodes are dropped: those that looked up what is changed, and all that reach
+    /// one of them. A refused edit changes nothing. All memory is taken before anything changes.
+    pub fn edit(&mut self, edit: &Edit) -> Result<u32, EditRefusal>
+        requires { IsRead edit.now }
+        ensures accepted { OnOk result (Edits self.old edit.now self.new) }
+        ensures dropped { IfOk result (λ n. n + length self.new.held ≡ length self.old.held) }
+        ensures refused { OnErr result (self.new ≡ self.old) }
+        ensures exact { IsRefusedBy self.old.text edit.now result }
+    {
+        change(self.alloc, edit, &mut self.world, &mut self.memo)
+    }
+}
+
+/// Changes a world and what is held for it.
+fn change(
+    alloc: Global,
+    edit: &Edit,
+    world: &mut World,
+    memo: &mut Memo,
+) -> Result<u32, EditRefusal>
+    requires { IsRead edit.now }
+    ensures accepted { OnOk result (HasEdited world.old memo.old edit.now world.new memo.new) }
+    ensures dropped { IfOk result (λ n. n + length memo.new.held ≡ length memo.old.held) }
+    ensures text { OnErr result (world.new ≡ world.old) }
+    ensures held { OnErr result (memo.new ≡ memo.old) }
+    ensures exact { IsRefusedBy world.old edit.now result }
+{
+    mx_state::laws::laws();
+    mx_entries::laws::laws();
+    let prepared = match prepare(alloc, world, edit) {
+        Ok(prepared) => prepared,
+        Err(why) => return Err(why),
+    };
+    let next = prepared.world();
+    let _ = next.text();
+    let Ok(inputs) = changed_inputs(alloc, world, next) else {
+        return Err(EditRefusal::NoMemory);
+    };
+    let dropped = keep_unchanged(world, next, inputs.as_slice(), memo);
+    commit(prepared, world);
+    return Ok(dropped);
+}

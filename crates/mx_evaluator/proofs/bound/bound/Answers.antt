@@ -1,6 +1,0 @@
-use Rattle.std.proofs.lemmas.Result.{IfOk-weaker}
-use Rattle.mx_evaluator.proofs.BoundForms.{form_in_state}
-use Rattle.mx_evaluator.proofs.bound.bound.Goals as goal
-
-pub returns : goal.returns
-returns c = IfOk-weaker c.bound.result _ _ (form_in_state c.args.world.now c.args.memo.now c.args.node.now) c.bound.ensures

@@ -1,5 +1,0 @@
-pub mod States
-pub mod Settings
-pub mod Seeking
-pub mod Closing
-pub mod Behind

@@ -1,5 +1,0 @@
-pub mod Standing
-pub mod Waiting
-pub mod Deep
-pub mod Tops
-pub mod Past

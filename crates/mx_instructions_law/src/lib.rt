@@ -1,4 +1,0 @@
-//! What instructions do, and the law that the instructions of a formula do what it means.
-#![tactic(auto)]
-
-pub mod laws;

@@ -1,4 +1,0 @@
-//! The model text: what a model is made of, by name.
-#![tactic(auto)]
-
-pub mod text;

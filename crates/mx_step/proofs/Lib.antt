@@ -1,5 +1,0 @@
-pub mod Stacks
-pub mod Tolds
-pub mod Looks
-pub mod Callings
-pub mod Computed

@@ -1,3 +1,0 @@
-pub mod Flight
-pub mod Homes
-pub mod Came

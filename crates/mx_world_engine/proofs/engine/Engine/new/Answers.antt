@@ -1,8 +1,0 @@
-use Rattle.mx_world_engine.proofs.Kept.{sound_first, first_view}
-use Rattle.mx_world_engine.proofs.engine.Engine.new.Goals as goal
-
-pub invariant_of-result : goal.invariant_of-result
-invariant_of-result c = sound_first c.laws.ensures.begins_right c.in_ok-world.world c.in-Ok.memo c.beginning_laws.ensures.valid c.in_ok-world.ensures c.in-Ok.ensures
-
-pub returns : goal.returns
-returns c = first_view c.in_ok-world.world c.in-Ok.memo c.in_ok-world.ensures c.in-Ok.ensures

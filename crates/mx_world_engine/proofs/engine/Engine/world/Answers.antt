@@ -1,6 +1,0 @@
-use Rattle.std.proofs.Common.{subst}
-use Rattle.mx_state.specs.State.{State, IsRightState}
-use Rattle.mx_world_engine.proofs.engine.Engine.world.Goals as goal
-
-pub returns-clause-right : goal.returns-clause-right
-returns-clause-right c = subst (λ (s : State). IsRightState s) c.self.view_is c.self.invariant.right
