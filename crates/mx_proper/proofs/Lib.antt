@@ -1,0 +1,14 @@
+pub mod Values
+pub mod Lists
+pub mod Normals
+pub mod Operators
+pub mod Addresses
+pub mod Staying
+pub mod Lookups
+pub mod Expressions
+pub mod Statements
+pub mod Nodes
+pub mod Texts
+pub mod Edits
+pub mod States
+pub mod Tables

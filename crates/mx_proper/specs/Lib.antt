@@ -1,0 +1,5 @@
+pub mod Values
+pub mod Literals
+pub mod Replies
+pub mod Texts
+pub mod Laws
