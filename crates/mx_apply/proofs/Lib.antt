@@ -1,4 +1,5 @@
 pub mod ChainLemmas
 pub mod DisplayLemmas
+pub mod LengthLemmas
 pub mod StaticLemmas
 pub mod ValueLemmas

@@ -1,11 +1,11 @@
 -- The steps of the tests of values, of bases and of the spaces that use a removed one.
-use Rattle.std.proofs.Common.{◌≡◌, ℕ, ◌+◌, ◌<◌, Bool, true, false, List, [], ◌∷◌, ◌++◌, length, take, drop, get_or, map, Some, refl, sym, ◌∙◌, ap}
+use Rattle.std.proofs.Common.{◌≡◌, ℕ, ◌+◌, ◌<◌, Bool, true, false, List, [], ◌∷◌, length, drop, get_or, map, Some, refl, sym, ◌∙◌, ap}
 use Rattle.std.specs.Prelude.{codes, ◌||◌, ◌&&◌, not, if◌then◌else◌}
 use Rattle.std.specs.List.{list_any}
 use Rattle.std.proofs.lemmas.List.{drop_more}
 use Rattle.mx_value.specs.Name.{same_path}
 use Rattle.mx_print.specs.Texts.{Text, separated}
-use Rattle.mx_print.proofs.TextLemmas.{separated_first, separated_more}
+use Rattle.mx_apply.proofs.LengthLemmas.{separated_from, separated_length}
 use Rattle.mx_model.specs.Records.{Name, Path, SpaceRecord}
 use Rattle.mx_model.specs.Walk.{path_text}
 use Rattle.mx_model.specs.Change.{is_within}
@@ -43,24 +43,12 @@ uses_by removed s bases found stays b f =
 
 -- ---- the text of a path
 
-abbrev itself : Name → Text
+abbrev pub itself : Name → Text
 itself name = name
 
 same_names : (names : Path) → map itself names ≡ names
 same_names [] = refl
 same_names (name ∷ names) = ap (λ (ns : Path). name ∷ ns) (same_names names)
 
-abbrev dot : Text
-dot = codes "."
-
-pub names_first : (out : Text) (names : Path) (i : ℕ) (name : Name) → i ≡ 0 → i < length names → name ≡ get_or names i name → (out ++ path_text (take i names)) ++ name ≡ out ++ path_text (take (i + 1) names)
-names_first out names i name none within is =
-    ap (λ (ns : Path). (out ++ separated dot ns) ++ name) (sym (same_names (take i names))) ∙
-    separated_first itself dot out names i name none within is ∙
-    ap (λ (ns : Path). out ++ separated dot ns) (same_names (take (i + 1) names))
-
-pub names_more : (out : Text) (names : Path) (i : ℕ) (name : Name) → 0 < i → i < length names → name ≡ get_or names i name → ((out ++ path_text (take i names)) ++ dot) ++ name ≡ out ++ path_text (take (i + 1) names)
-names_more out names i name some within is =
-    ap (λ (ns : Path). ((out ++ separated dot ns) ++ dot) ++ name) (sym (same_names (take i names))) ∙
-    separated_more itself dot out names i name some within is ∙
-    ap (λ (ns : Path). out ++ separated dot ns) (same_names (take (i + 1) names))
+pub path_length : (names : Path) → length (path_text names) ≡ separated_from 1 itself names 0
+path_length names = ap (λ (ns : Path). length (separated (codes ".") ns)) (sym (same_names names)) ∙ separated_length (codes ".") itself names

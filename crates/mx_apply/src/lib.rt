@@ -6,6 +6,7 @@ pub mod counts;
 mod displays;
 pub mod edits;
 pub mod laws;
+mod lengths;
 mod own;
 mod refusals;
 pub mod statics;

@@ -255,7 +255,7 @@ fn bad_value(alloc: Global, text: &ModelText, edit: &Edit) -> Result<bool, Alloc
 {
     match edit {
         Edit::SetBases { path: _, bases } => {
-            let is_long = is_long_list(alloc, bases.as_slice())?;
+            let is_long = is_long_list(bases.as_slice());
             return Ok(has_double(bases.as_slice()) || is_long);
         }
         Edit::SetCells {
@@ -268,7 +268,7 @@ fn bad_value(alloc: Global, text: &ModelText, edit: &Edit) -> Result<bool, Alloc
             name: _,
             value: RefValue::Plain(value),
         } => {
-            let is_long = is_long_value(alloc, value.get())?;
+            let is_long = is_long_value(value.get());
             return Ok(is_unfit(value.get()) || is_long);
         }
         Edit::SetParams {
@@ -283,7 +283,7 @@ fn bad_value(alloc: Global, text: &ModelText, edit: &Edit) -> Result<bool, Alloc
         } => {
             let args_bound = bound_args(alloc, text, space, name, args)?;
             let node = node_of(space, name, args_bound)?;
-            let is_long = is_long_input(alloc, &node, value)?;
+            let is_long = is_long_input(&node, value);
             return Ok(
                 is_nothing(value) || is_one_unfit(args.as_slice()) || is_unfit(value) || is_long,
             );

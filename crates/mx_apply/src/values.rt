@@ -1,5 +1,5 @@
 //! The test of BadValue: what may not stand in a model text.
-ghost use Rattle.std.specs.Prelude.{◌≡◌, ◌+◌, ◌++◌, map, length, IfOk, OnOk};
+ghost use Rattle.std.specs.Prelude.{◌≡◌, ◌+◌, map, length};
 ghost use Rattle.std.specs.List.{list_any};
 ghost use Rattle.mx_value.specs.Name.{same_path};
 ghost use Rattle.mx_print.specs.Texts.{commas};
@@ -7,14 +7,11 @@ ghost use Rattle.mx_print.specs.Values.{value_text, node_text};
 ghost use Rattle.mx_model.specs.Walk.{path_text};
 ghost use Rattle.mx_model.specs.Refused.{is_unfit, is_nothing, is_long, has_double};
 
-use mx_print::append::push;
-use mx_print::value::{push_node, push_value};
-use mx_value::label::Label;
+use crate::lengths::{room_after_node, room_after_paths, room_after_value};
 use mx_value::nesting::nesting_of_value;
 use mx_value::node::{Node, Path};
 use mx_value::plain::is_plain;
 use mx_value::value::Value;
-use std::alloc::{AllocError, Global};
 
 /// The deepest nesting of a value in a model text.
 const NESTING: u32 = 64;
@@ -71,48 +68,25 @@ fn is_among(paths: &[Path], path: &Path) -> bool
 }
 
 /// Whether the text of a value is too long.
-pub fn is_long_value(alloc: Global, value: &Value) -> Result<bool, AllocError>
-    ensures { IfOk result (λ long. long ≡ is_long (length (value_text value.now))) }
+pub fn is_long_value(value: &Value) -> bool
+    ensures { result ≡ is_long (length (value_text value.now)) }
 {
-    let mut text = Vec::new(alloc);
-    push_value(&mut text, value)?;
-    Ok(text.len() > TEXT)
+    room_after_value(value, TEXT).is_none()
 }
 
 /// Whether the texts of a node and of its value are too long together.
-pub fn is_long_input(alloc: Global, node: &Node, value: &Value) -> Result<bool, AllocError>
-    ensures { let bytes = length (node_text node.now) + length (value_text value.now) in
-        IfOk result (λ long. long ≡ is_long bytes) }
+pub fn is_long_input(node: &Node, value: &Value) -> bool
+    ensures { result ≡ is_long (length (node_text node.now) + length (value_text value.now)) }
 {
-    let mut text = Vec::new(alloc);
-    push_node(&mut text, node)?;
-    push_value(&mut text, value)?;
-    Ok(text.len() > TEXT)
+    match room_after_node(node, TEXT) {
+        Some(left) => room_after_value(value, left).is_none(),
+        None => true,
+    }
 }
 
 /// Whether the text of a list of bases is too long.
-pub fn is_long_list(alloc: Global, bases: &[Path]) -> Result<bool, AllocError>
-    ensures { IfOk result (λ long. long ≡ is_long (length (commas (map path_text bases.now)))) }
+pub fn is_long_list(bases: &[Path]) -> bool
+    ensures { result ≡ is_long (length (commas (map path_text bases.now))) }
 {
-    let mut text = Vec::new(alloc);
-    for (i, base) in bases.iter().enumerate() {
-        if i > 0 {
-            push(&mut text, b", ")?;
-        }
-        push_path(&mut text, base.as_slice())?;
-    }
-    Ok(text.len() > TEXT)
-}
-
-/// Adds the names of a path with dots between them.
-fn push_path(out: &mut Vec<u8>, names: &[Label]) -> Result<(), AllocError>
-    ensures { OnOk result (out.new.items ≡ out.old.items ++ path_text names.now) }
-{
-    for (i, name) in names.iter().enumerate() {
-        if i > 0 {
-            push(out, b".")?;
-        }
-        push(out, name.as_slice())?;
-    }
-    Ok(())
+    room_after_paths(bases, TEXT).is_none()
 }

@@ -1,3 +1,4 @@
+pub mod Asking
 pub mod Recording
 pub mod Testing
 pub mod Passing

@@ -1,19 +1,14 @@
 -- What is recorded of a run so far.
-use Rattle.std.specs.Prelude.{◌≡◌, ◌==◌, List, ◌++◌, map}
-use Rattle.mx_graph.specs.declared.ids.NodeId.{NodeId}
+pub use Rattle.mx_bound.specs.Asking.{with_ask}
+use Rattle.std.specs.Prelude.{◌≡◌, List, ◌++◌, map}
 use Rattle.mx_value.specs.declared.node.Node.{Node}
 use Rattle.mx_edit.specs.declared.key.Key.{Key}
 use Rattle.mx_vertices.specs.Kept.{Kept}
 use Rattle.mx_vertices.specs.Reading.{id_at}
 use Rattle.mx_memo.specs.Memos.{AreHeld}
 use Rattle.mx_entries.specs.Entries.{nodes_under, own_keys}
-use Rattle.mx_reading.specs.Seen.{added}
 use Rattle.mx_suspended.specs.Recorded.{Recorded}
 use Rattle.mx_bound.specs.declared.records.Records.{Records}
-
--- with one more id, unless it is there
-abbrev pub with_ask : NodeId → List NodeId → List NodeId
-with_ask id ids = added (λ a b. a.at == b.at) ids id
 
 -- what is recorded, with the nodes that were asked under their ids
 abbrev pub recorded_in : List Kept → Records → Recorded

@@ -1,6 +1,7 @@
 //! The bound form of a node by what is held, and what is recorded of a run so far.
 #![tactic(auto)]
 
+pub mod asks;
 pub mod bound;
 pub mod records;
 pub mod settled;

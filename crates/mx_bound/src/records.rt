@@ -1,14 +1,13 @@
 //! What is recorded of a run so far.
-ghost use Rattle.std.specs.Prelude.{◌≡◌, ◌==◌, [], OnOk};
-ghost use Rattle.std.specs.List.{list_any};
+ghost use Rattle.std.specs.Prelude.{◌≡◌, [], OnOk};
 ghost use Rattle.mx_value.specs.declared.read.Read.TheVariants as read;
 ghost use Rattle.mx_edit.specs.declared.key.Key.TheVariants as key;
 ghost use Rattle.mx_reading.specs.Seen.{nothing_seen, with_key, with_read};
-ghost use Rattle.mx_bound.specs.Records.{with_ask};
+ghost use Rattle.mx_bound.specs.Asking.{with_ask};
 
+use crate::asks::Asks;
 use mx_edit::key::Key;
 use mx_graph::NodeId;
-use mx_list::items::Items;
 use mx_list::shared::Shared;
 use mx_reading::seen::Seen;
 use mx_value::node::Node;
@@ -20,7 +19,7 @@ use std::alloc::{AllocError, Global};
 #[derive(Drop)]
 pub struct Records {
     pub seen: Seen,
-    pub asks: Items<NodeId>,
+    pub asks: Asks,
 }
 
 impl Records {
@@ -31,7 +30,7 @@ impl Records {
     {
         Records {
             seen: Seen::new(alloc),
-            asks: Items::new(alloc),
+            asks: Asks::new(alloc),
         }
     }
 
@@ -41,7 +40,7 @@ impl Records {
         ensures asks { OnOk result (self.new.asks ≡ with_ask id self.old.asks) }
     {
         self.seen.note(Read::Node(node.copy(alloc)?))?;
-        enter(&mut self.asks, id)
+        self.asks.enter(id)
     }
 
     /// An input was asked.
@@ -52,22 +51,4 @@ impl Records {
         self.seen.look(Key::Input(node.copy()?))?;
         self.seen.note(Read::Node(node.get().copy(alloc)?))
     }
-}
-
-/// Enters an id, unless it is there.
-fn enter(asks: &mut Items<NodeId>, id: NodeId) -> Result<(), AllocError>
-    ensures { OnOk result (asks.new ≡ with_ask id asks.old) }
-{
-    if has_id(asks.as_slice(), id) {
-        return Ok(());
-    }
-    asks.push(id)?;
-    Ok(())
-}
-
-/// Whether an id is among these.
-fn has_id(asks: &[NodeId], id: NodeId) -> bool
-    ensures { result ≡ list_any (λ a. a.at == id.at) asks.now }
-{
-    asks.iter().any(|a| *a == id)
 }

@@ -14,3 +14,4 @@ mod EditTold
 mod BoundTold
 mod ReadHeld
 mod Ordering
+mod Proper

@@ -7,3 +7,4 @@ pub mod Successors
 pub mod Gathering
 pub mod Order
 pub mod Precedents
+pub mod Proper

@@ -1,6 +1,7 @@
 //! Clearings, and other worlds.
 ghost use Rattle.std.specs.Prelude.{◌≡◌, ◌+◌, [], length};
 ghost use Rattle.mx_state.specs.Changes.{Clearing};
+ghost use Rattle.mx_engine.specs.Proper.{IsProperState};
 ghost use Rattle.mx_engine.specs.Scopes.{DropsScope};
 
 use crate::engine::Engine;
@@ -15,6 +16,7 @@ impl Engine {
     pub fn clear(&mut self, scope: &Scope) -> u32
         ensures clears { Clearing self.old scope.now self.new }
         ensures dropped { result + length self.new.held ≡ length self.old.held }
+        ensures proper { IsProperState self.old → IsProperState self.new }
     {
         mx_state::laws::laws();
         mx_entries::laws::laws();

@@ -2,7 +2,9 @@
 ghost use Rattle.std.specs.Prelude.{◌≡◌, ◌+◌, ℕ, IfOk, OnErr, OnOk, length};
 ghost use Rattle.mx_whole_edits.specs.Ready.{IsRead};
 ghost use Rattle.mx_state.specs.Changes.{Edits};
+ghost use Rattle.mx_proper.specs.Texts.{IsSmallEdit};
 ghost use Rattle.mx_engine.specs.Edited.{HasEdited};
+ghost use Rattle.mx_engine.specs.Proper.{IsProperState};
 ghost use Rattle.mx_engine.specs.Refused.{IsRefusedBy};
 
 use crate::engine::Engine;
@@ -24,6 +26,7 @@ impl Engine {
         ensures dropped { IfOk result (λ n. n + length self.new.held ≡ length self.old.held) }
         ensures refused { OnErr result (self.new ≡ self.old) }
         ensures exact { IsRefusedBy self.old.text edit.now result }
+        ensures proper { IsSmallEdit edit.now → IsProperState self.old → IsProperState self.new }
     {
         change(self.alloc, edit, &mut self.world, &mut self.memo)
     }

@@ -2,7 +2,9 @@
 ghost use Rattle.std.specs.Prelude.{◌-◌, ◌≤◌};
 ghost use Rattle.mx_machine.specs.States.{state_of};
 ghost use Rattle.mx_state.specs.Evaluations.{Evaluates, HasPrecedents};
+ghost use Rattle.mx_state.specs.Proper.{IsProper};
 ghost use Rattle.mx_engine.specs.Engine.{IsSound};
+ghost use Rattle.mx_engine.specs.Proper.{IsProperState};
 
 use crate::engine::Engine;
 use crate::gaps::{close_gaps, keep_first};
@@ -27,6 +29,7 @@ impl Engine {
         steps: &mut Steps<L>,
     ) -> Result<Value, EvalRefusal>
         ensures evaluates { Evaluates self.old node.now result (steps.new - steps.old) self.new }
+        ensures proper { IsProper node.now → IsProperState self.old → IsProperState self.new }
         ensures ticks { steps.old ≤ steps.new }
     {
         let request = Request {
@@ -45,6 +48,7 @@ impl Engine {
     ) -> Result<Reads, EvalRefusal>
         ensures precedents { let ticks = steps.new - steps.old in
             HasPrecedents self.old node.now result ticks self.new }
+        ensures proper { IsProper node.now → IsProperState self.old → IsProperState self.new }
         ensures ticks { steps.old ≤ steps.new }
     {
         let request = Request {

@@ -13,7 +13,8 @@ use Rattle.mx_proper.proofs.States.{begins_proper, proper_after_evaluation, prop
 use Rattle.mx_proper_commands.specs.Laws.{IsProperCommand}
 use Rattle.mx_proper_commands.proofs.Commands.{commands_are_proper}
 use Rattle.mx_commands.specs.Step.{Accepts, Refuses, IsHeld, IsNotHeld, Sets, IsPastBounds, HasLayers, IsNotStatic, CarriesOut, refused, carried}
-use Rattle.mx_proper_steps.specs.Laws.{IsProperState, BeginsProperly, StepsStayProper}
+use Rattle.mx_engine.specs.Proper.{IsProperState}
+use Rattle.mx_proper_steps.specs.Laws.{BeginsProperly, StepsStayProper}
 
 module _ (s new : State) (block : Text) (valid : Valid s.text) (p : IsProperState s) where
   -- where nothing changes

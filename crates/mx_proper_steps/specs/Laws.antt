@@ -4,14 +4,9 @@ use Rattle.mx_print.specs.Texts.{Text}
 use Rattle.mx_script.specs.Script.{Command}
 use Rattle.mx_model.specs.Records.{beginning}
 use Rattle.mx_model.specs.Valid.{Valid}
-use Rattle.mx_state.specs.State.{State, AreProper}
-use Rattle.mx_proper.specs.Texts.{IsSmallText}
+use Rattle.mx_state.specs.State.{State}
+use Rattle.mx_engine.specs.Proper.{IsProperState}
 use Rattle.mx_commands.specs.Step.{Step}
-
--- the text has small literals, and each held node is proper
-pub record IsProperState (s : State) : Type 0 where
-  pub small : IsSmallText s.text
-  pub proper : AreProper s
 
 -- so is the state in which a script begins
 abbrev pub BeginsProperly : Type 0

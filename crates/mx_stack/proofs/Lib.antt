@@ -3,3 +3,5 @@ pub mod Taken
 pub mod Computed
 pub mod Collecting
 pub mod Walking
+pub mod Codes
+pub mod Plainly

@@ -5,3 +5,4 @@ pub mod Callees
 pub mod Plain
 pub mod Returns
 pub mod Walks
+pub mod Ahead

@@ -1,7 +1,8 @@
 //! Instructions that leave a value or store one.
-ghost use Rattle.std.specs.Prelude.{◌≡◌, ◌+◌, ◌∷◌, ℕ, IfSome, OnSome};
+ghost use Rattle.std.specs.Prelude.{◌≡◌, ◌+◌, ◌∷◌, ℕ, get_or, IfSome, OnSome};
 ghost use Rattle.std.specs.Bool.{beq};
 ghost use Rattle.mx_value.specs.declared.value.Value.{out-Value};
+ghost use Rattle.mx_value.specs.declared.value.Value.TheVariants.{Nothing};
 ghost use Rattle.mx_meaning.specs.Expressions.{nothing_in};
 ghost use Rattle.mx_code.specs.declared.action.Action.TheVariants as act;
 ghost use Rattle.mx_code_law.specs.States.{Home, Holds, On, computed_next, state};
@@ -12,6 +13,7 @@ use crate::stack::Stack;
 use crate::taking::{leave, pass_with, pop_value, pop_values, step_on};
 use crate::tuples::make_tuple;
 use crate::went::Went;
+use mx_code::code::Code;
 use mx_value::fault::FaultKind;
 use mx_value::value::Value;
 use std::alloc::Global;
@@ -28,7 +30,39 @@ pub fn leave_made(stack: &mut Stack, made: Result<Value, FaultKind>) -> Went
     }
 }
 
-pub fn constant(alloc: Global, stack: &mut Stack, value: &Value) -> Went
+/// A copy of a value that holds nothing behind a pointer.
+#[inline(always)]
+fn copy_in_place(value: &Value) -> Option<Value>
+    ensures { IfSome result (λ c. c ≡ value.now) }
+{
+    match value {
+        Value::Nothing => Some(Value::Nothing),
+        Value::Flag(flag) => Some(Value::Flag(*flag)),
+        Value::Int(number) => Some(Value::Int(*number)),
+        Value::Fix(number) => Some(Value::Fix(*number)),
+        Value::Text(_) | Value::Tup(_) | Value::Space(_) | Value::Cells(_) | Value::Table(_) =>
+            None,
+    }
+}
+
+/// Leaves the value at this place of the code's constants.
+#[inline(always)]
+pub fn constant(alloc: Global, code: &Code, stack: &mut Stack, place: usize) -> Went
+    ensures came { Came (act.Const (get_or code.now.constants place Nothing)) result stack.old.top stack.new.top }
+    ensures below { OnSome (done result) (stack.new.below ≡ stack.old.below) }
+{
+    let Some(value) = code.constants.get(place) else {
+        return Went::NoMemory;
+    };
+    match copy_in_place(value) {
+        Some(copy) => leave(stack, Slot::Holds(copy)),
+        None => leave_copy(alloc, stack, value),
+    }
+}
+
+/// Leaves a copy of a constant.
+#[inline(never)]
+fn leave_copy(alloc: Global, stack: &mut Stack, value: &Value) -> Went
     ensures came { Came (act.Const value.now) result stack.old.top stack.new.top }
     ensures below { OnSome (done result) (stack.new.below ≡ stack.old.below) }
 {
@@ -38,7 +72,25 @@ pub fn constant(alloc: Global, stack: &mut Stack, value: &Value) -> Went
     leave(stack, Slot::Holds(value))
 }
 
+/// Leaves the value of the local at a place.
+#[inline(always)]
 pub fn local(alloc: Global, stack: &mut Stack, place: usize) -> Went
+    ensures came { Came (act.Local place) result stack.old.top stack.new.top }
+    ensures below { OnSome (done result) (stack.new.below ≡ stack.old.below) }
+{
+    let copy = match stack.local(place) {
+        Some(Some(value)) => copy_in_place(value),
+        _ => None,
+    };
+    match copy {
+        Some(copy) => leave(stack, Slot::Holds(copy)),
+        None => copy_local(alloc, stack, place),
+    }
+}
+
+/// The same for any local.
+#[inline(never)]
+fn copy_local(alloc: Global, stack: &mut Stack, place: usize) -> Went
     ensures came { Came (act.Local place) result stack.old.top stack.new.top }
     ensures below { OnSome (done result) (stack.new.below ≡ stack.old.below) }
 {

@@ -3,5 +3,4 @@ pub mod Opened
 pub mod Past
 pub mod Values
 pub mod Walks
-pub mod Codes
 pub mod Steps

@@ -14,8 +14,10 @@ use crate::step::step;
 use crate::stepped::{Resume, Stop};
 use mx_code::code::Code;
 use mx_edit::reply::Reply;
+use mx_names::ending::Ending;
 use mx_names::home::Home;
 use mx_reading::seen::Seen;
+use mx_stack::ahead::{Ahead, run_ahead};
 use mx_stack::slot::Slot;
 use mx_stack::stack::Stack;
 use mx_value::namespace::Namespace;
@@ -37,7 +39,11 @@ pub fn run_code(
 {
     laws();
     for _ in 0..u64::MAX {
-        let instr = instruction_at(alloc, code, stack.pc())?;
+        let ahead = run_ahead(alloc, code, stack)?;
+        if let Ahead::Faults(kind, line) = ahead {
+            return Ok(Stop::Ends(Ending::Faults(kind, line)));
+        }
+        let instr = instruction_at(code, stack.pc())?;
         if let Some(stop) = step(alloc, world, home, instr, stack, seen)? {
             return Ok(stop);
         }

@@ -12,13 +12,12 @@ ghost use Rattle.mx_steps.specs.Reached.{led_as, stepped_as};
 
 use crate::attributes::run_attribute;
 use crate::calls::{run_call, run_index};
-use crate::names::{leave, run_callee, run_name};
+use crate::names::{run_callee, run_name};
 use crate::stepped::{Resume, Stop};
 use mx_code::action::{Action, Instr};
 use mx_names::ending::{Ending, end_with};
 use mx_names::home::Home;
 use mx_reading::seen::Seen;
-use mx_stack::plain::run_plain;
 use mx_stack::returns::{return_display, return_value};
 use mx_stack::slot::Slot;
 use mx_stack::stack::Stack;
@@ -27,8 +26,8 @@ use mx_walks::called::Called;
 use mx_world::world::World;
 use std::alloc::{AllocError, Global};
 
-/// One instruction: the run goes on, or stops.
-#[inline(always)]
+/// One instruction that looks something up or ends the run with a value: the run goes on, or stops.
+#[inline(never)]
 pub fn step(
     alloc: Global,
     world: &World,
@@ -42,7 +41,6 @@ pub fn step(
 {
     let line = instr.line;
     match instr.action {
-        Action::Const(value) => return Ok(stop_after(leave(stack, Slot::Holds(value)), line)?),
         Action::Name(name) => {
             let went = run_name(alloc, world, home, stack, &name, seen);
             return Ok(stop_after(went, line)?);
@@ -65,7 +63,7 @@ pub fn step(
         }
         Action::Return => return Ok(Some(Stop::Ends(end_value(alloc, home, stack)?))),
         Action::ReturnDisplay => return Ok(Some(Stop::Ends(end_display(alloc, home, stack)?))),
-        other => return Ok(stop_after(run_plain(alloc, stack, &other), line)?),
+        _ => return Err(AllocError),
     }
 }
 

@@ -12,6 +12,7 @@ use mx_list::list::List;
 use mx_list::shared::Shared;
 use mx_memo::{Body, HoldRefusal, Memo};
 use mx_passing::current::Current;
+use mx_reading::distinct::Distinct;
 use mx_value::node::Node;
 use mx_value::read::Read;
 use mx_vertices::inputs::is_static;
@@ -40,7 +41,7 @@ pub fn hold(
     let Ok(reply) = body.reply.copy() else {
         return Err(HoldRefusal::NoMemory);
     };
-    let others = other_keys(node.get(), &keys);
+    let others = other_keys(node.get(), keys.as_slice());
     match memo.hold(body, others, asks.as_slice()) {
         Ok(id) => {
             memo.in_order();
@@ -56,14 +57,14 @@ fn body_of(
     alloc: Global,
     node: &Shared<Node>,
     reply: Reply,
-    reads: Vec<Read>,
+    reads: Distinct<Read>,
 ) -> Result<Body, AllocError>
-    ensures { IfOk result (λ b. (b.node ≡ node.now) × (b.reply ≡ reply) × (b.reads ≡ reads.items)) }
+    ensures { IfOk result (λ b. (b.node ≡ node.now) × (b.reply ≡ reply) × (b.reads ≡ reads)) }
 {
     Ok(Body {
         node: node.copy()?,
         reply: Shared::new(alloc, reply)?,
-        reads: List::from_vec(alloc, reads)?,
+        reads: List::from_vec(alloc, reads.into_vec()?)?,
     })
 }
 

@@ -4,6 +4,7 @@ pub mod FineEdits
 pub mod FineSpaces
 pub mod Free
 pub mod GoodInputs
+pub mod InputEdits
 pub mod Members
 pub mod NormalLaws
 pub mod ReadyLemmas

@@ -1,6 +1,7 @@
 -- What comes of an edit before the walk over the static paths.
-use Rattle.std.specs.Prelude.{◌≡◌, List, Some, None, Result, Ok, Err}
+use Rattle.std.specs.Prelude.{◌≡◌, Bool, true, false, List, Some, None, Result, Ok, Err}
 use Rattle.mx_edit.specs.declared.edit.Edit.{Edit}
+use Rattle.mx_edit.specs.declared.edit.Edit.TheVariants as edit
 use Rattle.mx_edit.specs.declared.refusal.EditRefusal.{EditRefusal}
 use Rattle.mx_edit.specs.declared.refusal.EditRefusal.TheVariants as refusal
 use Rattle.mx_edit.specs.declared.refusal.Limit.{Limit}
@@ -43,3 +44,9 @@ pub record IsWhole (text : ModelRecord) (e : Edit) : Type 0 where
 
 abbrev pub EditsAreWhole : Type 0
 EditsAreWhole = (text : ModelRecord) (e : Edit) → IsWhole text e
+
+-- an edit of an input
+abbrev pub is_of_input : Edit → Bool
+is_of_input (edit.SetInput at name arguments value) = true
+is_of_input (edit.DelInput at name arguments) = true
+is_of_input _ = false

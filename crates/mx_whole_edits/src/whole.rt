@@ -4,8 +4,9 @@ ghost use Rattle.mx_model.specs.Rings.{IsRing, HasNoRing};
 ghost use Rattle.mx_model.specs.Refused.{record_trouble};
 ghost use Rattle.mx_model.specs.Change.{change, bound_edit};
 ghost use Rattle.mx_model.specs.Inputs.{without_unfit};
+ghost use Rattle.mx_model.specs.Valid.{InputsFit};
 ghost use Rattle.mx_apply.specs.Chain.{MakesNoRing, CanGoOn};
-ghost use Rattle.mx_whole_edits.specs.Whole.{IsAccepted, IsApplied, EditsAreWhole};
+ghost use Rattle.mx_whole_edits.specs.Whole.{IsAccepted, IsApplied, EditsAreWhole, is_of_input};
 ghost use Rattle.mx_whole_edits.specs.Ready.{IsRead, IsReady, KeepsReady, ReadyIsValid, ValidIsReady};
 
 use mx_apply::counts::over;
@@ -22,7 +23,8 @@ use std::alloc::{AllocError, Global};
 /// The text that an edit makes of another one, without the inputs that then fit no cells, or the first refusal that applies. The
 /// walk over the static paths of the new text is still to be made.
 pub fn applied(alloc: Global, text: &ModelText, edit: &Edit) -> Result<ModelText, EditRefusal>
-    requires { CanGoOn text.now }
+    requires next { CanGoOn text.now }
+    requires fit { InputsFit text.now }
     ensures exact { IsApplied text.now edit.now result }
     ensures next { IfOk result CanGoOn }
     ensures ready { KeepsReady text.now edit.now result }
@@ -58,11 +60,12 @@ fn counted(
     requires free { record_trouble text.now edit.now ≡ None }
     requires is { made ≡ change text.now (bound_edit text.now edit.now) }
     requires next { CanGoOn made }
+    requires fit { InputsFit text.now }
     ensures exact { IsApplied text.now edit.now result }
     ensures next { IfOk result CanGoOn }
     ensures ready { KeepsReady text.now edit.now result }
 {
-    match without_unfit(alloc, &made, &made) {
+    match fitting(alloc, text, edit, &made) {
         Ok(kept) => match over(&kept) {
             Some(limit) => return Err(EditRefusal::TooMany(limit)),
             None => {
@@ -71,6 +74,45 @@ fn counted(
             }
         },
         Err(_) => return Err(EditRefusal::NoMemory),
+    }
+}
+
+/// The changed text without the inputs that do not fit it. An edit of an input leaves none of these, and no test is made.
+fn fitting(
+    alloc: Global,
+    text: &ModelText,
+    edit: &Edit,
+    made: &ModelText,
+) -> Result<ModelText, AllocError>
+    requires free { record_trouble text.now edit.now ≡ None }
+    requires is { made.now ≡ change text.now (bound_edit text.now edit.now) }
+    requires next { CanGoOn made.now }
+    requires fit { InputsFit text.now }
+    ensures { IfOk result (λ t. t ≡ without_unfit made.now) }
+{
+    if is_of_input(edit) {
+        return made.copy(alloc);
+    }
+    return without_unfit(alloc, made, made);
+}
+
+/// Whether an edit is one of an input.
+fn is_of_input(edit: &Edit) -> bool
+    ensures { result ≡ is_of_input edit.now }
+{
+    match edit {
+        Edit::SetInput {
+            space: _,
+            name: _,
+            args: _,
+            value: _,
+        } => true,
+        Edit::DelInput {
+            space: _,
+            name: _,
+            args: _,
+        } => true,
+        _ => false,
     }
 }
 

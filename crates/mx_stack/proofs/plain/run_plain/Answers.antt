@@ -1,42 +1,53 @@
-use Rattle.std.proofs.Common.{◌∙◌, ap}
-use Rattle.std.proofs.lemmas.Option.{IfSome_then}
-use Rattle.mx_code.specs.declared.action.Action.{Action}
-use Rattle.mx_code_law.specs.Machine.{next_of}
-use Rattle.mx_stack.specs.Came.{done}
+use Rattle.std.proofs.Common.{sym, subst}
+use Rattle.mx_code.specs.declared.code.Instruction.{Instruction}
+use Rattle.mx_code.specs.Told.{told_action}
+use Rattle.mx_stack.specs.Came.{Came}
 use Rattle.mx_stack.proofs.plain.run_plain.Goals as goal
 
 pub returns-in-Const-clause-came : goal.returns-in-Const-clause-came
-returns-in-Const-clause-came c = IfSome_then (done c.constant.result) c.constant.ensures.came (λ r k h line. ap (λ (a : Action). next_of h a line c.args.stack.now.top) c.in-Const.is ∙ k h line)
+returns-in-Const-clause-came c =
+    subst (λ (i : Instruction). Came (told_action c.args.code.now.constants c.args.code.now.names i) c.constant.result c.args.stack.now.top c.constant.new.stack.top) (sym c.in-Const.is) c.constant.ensures.came
 
 pub returns-in-IsNone-clause-came : goal.returns-in-IsNone-clause-came
-returns-in-IsNone-clause-came c = IfSome_then (done c.none_last.result) c.none_last.ensures.came (λ r k h line. ap (λ (a : Action). next_of h a line c.args.stack.now.top) c.in-IsNone.is ∙ k h line)
+returns-in-IsNone-clause-came c =
+    subst (λ (i : Instruction). Came (told_action c.args.code.now.constants c.args.code.now.names i) c.none_last.result c.args.stack.now.top c.none_last.new.stack.top) (sym c.in-IsNone.is) c.none_last.ensures.came
 
 pub returns-in-ChainNone-clause-came : goal.returns-in-ChainNone-clause-came
-returns-in-ChainNone-clause-came c = IfSome_then (done c.none_on.result) c.none_on.ensures.came (λ r k h line. ap (λ (a : Action). next_of h a line c.args.stack.now.top) c.in-ChainNone.is ∙ k h line)
+returns-in-ChainNone-clause-came c =
+    subst (λ (i : Instruction). Came (told_action c.args.code.now.constants c.args.code.now.names i) c.none_on.result c.args.stack.now.top c.none_on.new.stack.top) (sym c.in-ChainNone.is) c.none_on.ensures.came
 
 pub returns-in-Jump-clause-came : goal.returns-in-Jump-clause-came
-returns-in-Jump-clause-came c = IfSome_then (done c.jump.result) c.jump.ensures.came (λ r k h line. ap (λ (a : Action). next_of h a line c.args.stack.now.top) c.in-Jump.is ∙ k h line)
+returns-in-Jump-clause-came c =
+    subst (λ (i : Instruction). Came (told_action c.args.code.now.constants c.args.code.now.names i) c.jump.result c.args.stack.now.top c.jump.new.stack.top) (sym c.in-Jump.is) c.jump.ensures.came
 
 pub returns-in-Pop-clause-came : goal.returns-in-Pop-clause-came
-returns-in-Pop-clause-came c = IfSome_then (done c.drop_value.result) c.drop_value.ensures.came (λ r k h line. ap (λ (a : Action). next_of h a line c.args.stack.now.top) c.in-Pop.is ∙ k h line)
+returns-in-Pop-clause-came c =
+    subst (λ (i : Instruction). Came (told_action c.args.code.now.constants c.args.code.now.names i) c.drop_value.result c.args.stack.now.top c.drop_value.new.stack.top) (sym c.in-Pop.is) c.drop_value.ensures.came
 
 pub returns-in-Store-clause-came : goal.returns-in-Store-clause-came
-returns-in-Store-clause-came c = IfSome_then (done c.store.result) c.store.ensures.came (λ r k h line. ap (λ (a : Action). next_of h a line c.args.stack.now.top) c.in-Store.is ∙ k h line)
+returns-in-Store-clause-came c =
+    subst (λ (i : Instruction). Came (told_action c.args.code.now.constants c.args.code.now.names i) c.store.result c.args.stack.now.top c.store.new.stack.top) (sym c.in-Store.is) c.store.ensures.came
 
 pub returns-in-Gather-clause-came : goal.returns-in-Gather-clause-came
-returns-in-Gather-clause-came c = IfSome_then (done c.gather.result) c.gather.ensures.came (λ r k h line. ap (λ (a : Action). next_of h a line c.args.stack.now.top) c.in-Gather.is ∙ k h line)
+returns-in-Gather-clause-came c =
+    subst (λ (i : Instruction). Came (told_action c.args.code.now.constants c.args.code.now.names i) c.gather.result c.args.stack.now.top c.gather.new.stack.top) (sym c.in-Gather.is) c.gather.ensures.came
 
 pub returns-in-NextItem-clause-came : goal.returns-in-NextItem-clause-came
-returns-in-NextItem-clause-came c = IfSome_then (done c.next_item.result) c.next_item.ensures.came (λ r k h line. ap (λ (a : Action). next_of h a line c.args.stack.now.top) c.in-NextItem.is ∙ k h line)
+returns-in-NextItem-clause-came c =
+    subst (λ (i : Instruction). Came (told_action c.args.code.now.constants c.args.code.now.names i) c.next_item.result c.args.stack.now.top c.next_item.new.stack.top) (sym c.in-NextItem.is) c.next_item.ensures.came
 
 pub returns-in-Back-clause-came : goal.returns-in-Back-clause-came
-returns-in-Back-clause-came c = IfSome_then (done c.jump_back.result) c.jump_back.ensures.came (λ r k h line. ap (λ (a : Action). next_of h a line c.args.stack.now.top) c.in-Back.is ∙ k h line)
+returns-in-Back-clause-came c =
+    subst (λ (i : Instruction). Came (told_action c.args.code.now.constants c.args.code.now.names i) c.jump_back.result c.args.stack.now.top c.jump_back.new.stack.top) (sym c.in-Back.is) c.jump_back.ensures.came
 
 pub returns-in-Display-clause-came : goal.returns-in-Display-clause-came
-returns-in-Display-clause-came c = IfSome_then (done c.display.result) c.display.ensures.came (λ r k h line. ap (λ (a : Action). next_of h a line c.args.stack.now.top) c.in-Display.is ∙ k h line)
+returns-in-Display-clause-came c =
+    subst (λ (i : Instruction). Came (told_action c.args.code.now.constants c.args.code.now.names i) c.display.result c.args.stack.now.top c.display.new.stack.top) (sym c.in-Display.is) c.display.ensures.came
 
 pub returns-in-Refer-clause-came : goal.returns-in-Refer-clause-came
-returns-in-Refer-clause-came c = IfSome_then (done c.refer.result) c.refer.ensures.came (λ r k h line. ap (λ (a : Action). next_of h a line c.args.stack.now.top) c.in-Refer.is ∙ k h line)
+returns-in-Refer-clause-came c =
+    subst (λ (i : Instruction). Came (told_action c.args.code.now.constants c.args.code.now.names i) c.refer.result c.args.stack.now.top c.refer.new.stack.top) (sym c.in-Refer.is) c.refer.ensures.came
 
 pub returns-in-Base-clause-came : goal.returns-in-Base-clause-came
-returns-in-Base-clause-came c = IfSome_then (done c.set_base.result) c.set_base.ensures.came (λ r k h line. ap (λ (a : Action). next_of h a line c.args.stack.now.top) c.in-Base.is ∙ k h line)
+returns-in-Base-clause-came c =
+    subst (λ (i : Instruction). Came (told_action c.args.code.now.constants c.args.code.now.names i) c.set_base.result c.args.stack.now.top c.set_base.new.stack.top) (sym c.in-Base.is) c.set_base.ensures.came

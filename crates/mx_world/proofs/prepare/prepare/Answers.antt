@@ -1,5 +1,6 @@
 use Rattle.std.proofs.Common.{sym, subst}
 use Rattle.mx_model.specs.Records.{ModelRecord}
+use Rattle.mx_model.specs.Valid.{InputsFit}
 use Rattle.mx_apply.specs.Chain.{CanGoOn}
 use Rattle.mx_apply.proofs.ChainLemmas.{valid_goes_on}
 use Rattle.mx_paths.specs.Names.{IsNamed}
@@ -8,8 +9,11 @@ use Rattle.mx_world.proofs.Named.{named_after}
 use Rattle.mx_world.proofs.PrepareLemmas.{walked_all, stopped}
 use Rattle.mx_world.proofs.prepare.prepare.Goals as goal
 
-pub applied-requires : goal.applied-requires
-applied-requires c = subst CanGoOn (sym c.text.ensures.exact) (valid_goes_on c.args.world.now c.text.ensures.valid)
+pub applied-requires-clause-fit : goal.applied-requires-clause-fit
+applied-requires-clause-fit c = subst InputsFit (sym c.text.ensures.exact) c.text.ensures.valid.inputs
+
+pub applied-requires-clause-next : goal.applied-requires-clause-next
+applied-requires-clause-next c = subst CanGoOn (sym c.text.ensures.exact) (valid_goes_on c.args.world.now c.text.ensures.valid)
 
 pub walked-requires-clause-named : goal.walked-requires-clause-named
 walked-requires-clause-named c =

@@ -1,4 +1,5 @@
 use Rattle.mx_engine.proofs.EditTold.{still_sound, edits_told, dropped_told, same_told}
+use Rattle.mx_engine.proofs.Proper.{proper_told}
 use Rattle.mx_engine.proofs.engine.Engine.edit.Goals as goal
 
 pub invariant_of-self : goal.invariant_of-self
@@ -20,3 +21,8 @@ pub returns-clause-refused : goal.returns-clause-refused
 returns-clause-refused c =
     same_told c.self.inside.world c.change.new.world c.self.inside.memo c.change.new.memo c.args.edit.now c.self.inside.limit c.self.invariant c.args.self.now c.self.view_is
     c.change.result c.change.ensures.text c.change.ensures.held
+
+pub returns-clause-proper : goal.returns-clause-proper
+returns-clause-proper c =
+    proper_told c.self.inside.world c.change.new.world c.self.inside.memo c.change.new.memo c.args.edit.now c.self.inside.limit c.self.invariant c.args.self.now c.self.view_is
+    c.change.result c.change.ensures.accepted c.change.ensures.text c.change.ensures.held
