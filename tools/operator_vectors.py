@@ -378,7 +378,7 @@ def module(arrays):
     sources = sorted({SOURCES[source] for _, _, rows in arrays for _, _, source in rows})
     named = ", ".join([*sources, "Row"])
     out = ["//! Written by tools/operator_vectors.py.",
-           f"use crate::rows::{{{named}}};" , "use mx_ops::op::Op;", ""]
+           f"use crate::rows::{{{named}}};" , "use mx_op::op::Op;", ""]
     for name, title, rows in arrays:
         seen = []
         for op, operands, source in rows:

@@ -13,7 +13,7 @@ use crate::displays::shows_item;
 use crate::own::{
     has_cells, has_child, has_params, has_reference, holds_reference, is_defined, is_holder,
 };
-use crate::statics::{cells_formula, is_target, lacks_cells, lacks_path, path_of};
+use crate::statics::{cells_formula, is_target, lacks_cells, lacks_path};
 use crate::values::{
     has_double, is_long_input, is_long_list, is_long_value, is_nothing, is_one_unfit, is_unfit,
 };
@@ -24,6 +24,7 @@ use mx_edit::reference::RefValue;
 use mx_edit::refusal::EditRefusal;
 use mx_list::items::Items;
 use mx_list::shared::Shared;
+use mx_model::address::path_of;
 use mx_model::space::Space;
 use mx_model::text::ModelText;
 use mx_syntax::bind::{BindRefusal, bind};

@@ -12,28 +12,15 @@ ghost use Rattle.mx_model.specs.Sound.{IsSound};
 use mx_c3::lists::Order;
 use mx_edit::reference::RefValue;
 use mx_list::list::List;
+use mx_model::address::path_of;
 use mx_model::layers::Layered;
 use mx_model::lookup::{Binding, lookup};
 use mx_model::text::ModelText;
 use mx_syntax::stmt::Formula;
 use mx_value::label::Label;
 use mx_value::node::Path;
-use mx_value::value::{Addr, Segment};
+use mx_value::value::Addr;
 use std::alloc::{AllocError, Global};
-
-/// The names of an address without an item.
-pub fn path_of(alloc: Global, at: &Addr) -> Result<Option<Path>, AllocError>
-    ensures { IfOk result (λ path. path ≡ path_of at.now) }
-{
-    let mut names = Vec::new(alloc);
-    for segment in at.as_slice() {
-        match segment {
-            Segment::Name(name) => names.push(name.copy()?)?,
-            Segment::Item(_) => return Ok(None),
-        }
-    }
-    Ok(Some(List::from_vec(alloc, names)?))
-}
 
 /// Whether a path is a static one.
 pub fn is_static(alloc: Global, text: &ModelText, path: &Path) -> Result<bool, AllocError>

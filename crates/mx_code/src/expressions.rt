@@ -11,7 +11,7 @@ use crate::emit::{
     compare_op, product_op, put, put_block, put_name, sign_op, since, sum_op, way_back, with_name,
 };
 use mx_list::shared::Shared;
-use mx_ops::op::Op;
+use mx_op::op::Op;
 use mx_syntax::expr::{
     Args, Arm, Comparison, Expr, PowerPart, ProductPart, Sign, SumPart, Trailer,
 };

@@ -12,7 +12,7 @@ ghost use Rattle.mx_code.specs.Parts.{arm_coded};
 use crate::action::{Action, Instr, Local};
 use crate::emit::{place, put, put_block, put_name, since, way_back};
 use crate::expressions::put_part;
-use mx_ops::op::Op;
+use mx_op::op::Op;
 use mx_syntax::expr::Expr;
 use mx_syntax::height::{arm_height, arms_height, body_height, height};
 use mx_syntax::stmt::{ArithOp, IfArm, ItemEntry, Stmt};

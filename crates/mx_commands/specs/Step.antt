@@ -23,7 +23,7 @@ use Rattle.mx_model.specs.Records.{Path}
 use Rattle.mx_model.specs.declared.layers.Layered.TheVariants.{NotStatic}
 use Rattle.mx_model.specs.Layers.{layers}
 use Rattle.mx_model.specs.Apply.{Apply}
-use Rattle.mx_whole_edits.specs.Ready.{IsRead}
+use Rattle.mx_model.specs.Literals.{IsRead}
 use Rattle.mx_answers.specs.Held.{nodes_of}
 use Rattle.mx_answers.specs.Answers.{IsLimit}
 use Rattle.mx_state.specs.State.{State}

@@ -1,6 +1,6 @@
 //! Edits.
 ghost use Rattle.std.specs.Prelude.{◌≡◌, [], OnOk};
-ghost use Rattle.mx_whole_edits.specs.Ready.{IsRead};
+ghost use Rattle.mx_model.specs.Literals.{IsRead};
 ghost use Rattle.mx_commands.specs.Step.{Changes};
 
 use mx_edit::edit::Edit;

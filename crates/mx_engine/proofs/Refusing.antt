@@ -4,7 +4,7 @@ use Rattle.mx_edit.specs.declared.edit.Edit.{Edit}
 use Rattle.mx_edit.specs.declared.refusal.EditRefusal.{EditRefusal}
 use Rattle.mx_edit.specs.declared.refusal.EditRefusal.TheVariants as refusal
 use Rattle.mx_model.specs.Records.{ModelRecord}
-use Rattle.mx_world.specs.Prepared.{Prepares}
+use Rattle.mx_prepare.specs.Prepared.{Prepares}
 use Rattle.mx_engine.specs.Refused.{IsRefusedBy}
 
 pub refused_for : (text : ModelRecord) (e : Edit) (why : EditRefusal) → Prepares text e (Err why) → IsRefusedBy text e (Err why)

@@ -1,6 +1,6 @@
 //! Edits.
 ghost use Rattle.std.specs.Prelude.{◌≡◌, ◌+◌, ℕ, IfOk, OnErr, OnOk, length};
-ghost use Rattle.mx_whole_edits.specs.Ready.{IsRead};
+ghost use Rattle.mx_model.specs.Literals.{IsRead};
 ghost use Rattle.mx_state.specs.Changes.{Edits};
 ghost use Rattle.mx_proper.specs.Texts.{IsSmallEdit};
 ghost use Rattle.mx_engine.specs.Edited.{HasEdited};
@@ -11,9 +11,9 @@ use crate::engine::Engine;
 use mx_edit::edit::Edit;
 use mx_edit::refusal::EditRefusal;
 use mx_memo::Memo;
+use mx_prepare::prepare::{commit, prepare};
 use mx_retain::inputs::changed_inputs;
 use mx_retain::retain::keep_unchanged;
-use mx_world::prepare::{commit, prepare};
 use mx_world::world::World;
 use std::alloc::Global;
 

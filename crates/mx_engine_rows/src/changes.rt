@@ -3,9 +3,9 @@ use crate::bench::Bench;
 use mx_edit::edit::Edit;
 use mx_edit::scope::Scope;
 use mx_engine::engine::Engine;
+use mx_prepare::prepare::{commit, is_read, prepare};
 use mx_print::append::{push, push_number};
 use mx_text::blocks::{push_accepted, push_cleared_block, push_refused, push_refused_edit};
-use mx_world::prepare::{commit, is_read, prepare};
 use mx_world::world::World;
 use std::alloc::{AllocError, Global};
 

@@ -31,7 +31,7 @@ use Rattle.mx_edit.specs.declared.key.Key.{Key}
 use Rattle.mx_edit.specs.declared.key.Key.TheVariants as key
 use Rattle.mx_edit.specs.declared.key.KeyResult.{KeyResult}
 use Rattle.mx_edit.specs.declared.key.KeyResult.TheVariants as found
-use Rattle.mx_ops.specs.declared.op.Op.{Op}
+use Rattle.mx_op.specs.declared.op.Op.{Op}
 use Rattle.mx_ops.specs.Kinds.{items_in, items_of}
 use Rattle.mx_ops.specs.Truth.{truth}
 use Rattle.mx_ops.specs.Answers.{is_allowed, made}

@@ -21,7 +21,7 @@ use Rattle.mx_syntax.specs.Heights.{height}
 use Rattle.mx_syntax.specs.Locals.{bound_by, add_all}
 use Rattle.mx_edit.specs.declared.key.Key.TheVariants as key
 use Rattle.mx_edit.specs.declared.key.KeyResult.TheVariants as found
-use Rattle.mx_ops.specs.declared.op.Op.TheVariants as op
+use Rattle.mx_op.specs.declared.op.Op.TheVariants as op
 use Rattle.mx_ops.specs.Kinds.{Content, items_in}
 use Rattle.mx_ops.specs.Rows.{or_else, of_part}
 use Rattle.mx_ops.specs.Builtins.{sum_from}

@@ -34,7 +34,7 @@ use Rattle.mx_edit.specs.declared.key.Key.TheVariants as key
 use Rattle.mx_edit.specs.declared.key.KeyResult.{KeyResult}
 use Rattle.mx_edit.specs.declared.key.KeyResult.TheVariants as found
 use Rattle.mx_edit.specs.declared.reply.Reply.{Reply}
-use Rattle.mx_ops.specs.declared.op.Op.{Op}
+use Rattle.mx_op.specs.declared.op.Op.{Op}
 use Rattle.mx_runs.specs.Runs.{Run, Ends, Looks, Tests, Asks, Notes, Gives, NoSuch, WrongCount, Event, Looked, Tested, Asked, Noted}
 use Rattle.mx_runs.specs.Meaning.{Means, Leads}
 use Rattle.mx_runs.proofs.Levels.{leads_append}

@@ -1,3 +1,4 @@
+pub mod AddressLemmas
 mod Changes
 pub mod Defined
 pub mod Filtered

@@ -9,6 +9,7 @@ pub mod Kept
 pub mod Keys
 pub mod Laws
 pub mod Layers
+pub mod Literals
 pub mod Lookup
 pub mod Parents
 pub mod Paths

@@ -1,6 +1,7 @@
 //! The model text: what a model is made of, and what each key leads to in it.
 #![tactic(auto)]
 
+pub mod address;
 mod beside;
 pub mod keys;
 pub mod kind;

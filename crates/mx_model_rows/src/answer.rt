@@ -6,12 +6,12 @@ use mx_edit::edit::Edit;
 use mx_edit::refusal::EditRefusal;
 use mx_model::keys::key_result;
 use mx_model::text::ModelText;
+use mx_prepare::prepare::{commit, is_read, prepare};
 use mx_print::append::push;
 use mx_script::{Command, read_command};
 use mx_text::edit::{push_edit_refusal, push_path};
 use mx_value::node::Path;
 use mx_words::table::CommandWord;
-use mx_world::prepare::{commit, is_read, prepare};
 use mx_world::world::World;
 use std::alloc::{AllocError, Global};
 

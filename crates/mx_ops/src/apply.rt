@@ -7,12 +7,13 @@ ghost use Rattle.mx_ops.specs.Ranges.{UpToTheEnd, DownToTheEnd};
 use crate::answer::mismatch;
 use crate::binary::apply_to_two;
 use crate::number::whole_of;
-use crate::op::{Op, OpRefusal};
+use crate::op::OpRefusal;
 use crate::order::Comparison;
 use crate::range::make_range;
 use crate::tuple::pick;
 use crate::unary::apply_to_one;
 use mx_list::items::Items;
+use mx_op::op::Op;
 use mx_value::value::Value;
 use std::alloc::Global;
 

@@ -10,13 +10,14 @@ use crate::compute::{root_of, round_at};
 use crate::decimal::compute_mixed;
 use crate::index::{byte_at, item_at};
 use crate::number::{Arithmetic, Pair, number_of, pair_of, whole_of};
-use crate::op::{Op, OpRefusal};
+use crate::op::OpRefusal;
 use crate::order::{Comparison, compare_ordered, equal, is_among};
 use crate::parts::{bytes_of, items_of};
 use crate::range::make_range;
 use crate::text::join_texts;
 use crate::tuple::{join_tuples, pick};
 use crate::whole::compute_wholes;
+use mx_op::op::Op;
 use mx_value::value::Value;
 use std::alloc::Global;
 

@@ -3,8 +3,8 @@
 //! count it does nothing.
 #![tactic(auto)]
 
+use mx_op::op::Op;
 use mx_ops::apply::apply;
-use mx_ops::op::Op;
 use mx_value::fixed::Fixed;
 use mx_value::value::Value;
 use std::alloc::Global;

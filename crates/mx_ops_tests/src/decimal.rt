@@ -1,6 +1,6 @@
 //! Written by tools/operator_vectors.py.
 use crate::rows::{DE, FR, PY, Row};
-use mx_ops::op::Op;
+use mx_op::op::Op;
 
 /// Decimal numbers.
 pub const MIXED: [Row; 171] = [

@@ -1,6 +1,6 @@
 //! Written by tools/operator_vectors.py.
 use crate::rows::{FR, PY, Row};
-use mx_ops::op::Op;
+use mx_op::op::Op;
 
 /// Comparisons.
 pub const COMPARED: [Row; 229] = [

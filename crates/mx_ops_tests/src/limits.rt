@@ -1,9 +1,10 @@
 //! Values at the limits of size and nesting, the kinds that no literal spells, and names.
 use mx_list::items::Items;
 use mx_list::list::List;
+use mx_op::op::Op;
 use mx_ops::apply::apply;
 use mx_ops::builtin::{Builtin, builtin_of};
-use mx_ops::op::{Op, OpRefusal};
+use mx_ops::op::OpRefusal;
 use mx_ops::truth::truth;
 use mx_value::fault::FaultKind;
 use mx_value::label::Label;

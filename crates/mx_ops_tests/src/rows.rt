@@ -2,8 +2,9 @@
 use crate::decimal::{MIXED, PLACES, POWERS, ROOTS, SIGNS};
 use crate::kinds::{BEST, COMPARED, JOINED, PICKED, RANGES};
 use crate::whole::WHOLE;
+use mx_op::op::Op;
 use mx_ops::apply::apply;
-use mx_ops::op::{Op, OpRefusal};
+use mx_ops::op::OpRefusal;
 use mx_parse::parse_literal;
 use mx_print::append::push;
 use mx_print::value::push_value;

@@ -1,6 +1,6 @@
 //! Written by tools/operator_vectors.py.
 use crate::rows::{FR, IT, Row};
-use mx_ops::op::Op;
+use mx_op::op::Op;
 
 /// Whole numbers.
 pub const WHOLE: [Row; 194] = [

@@ -19,8 +19,8 @@ use Rattle.mx_value.specs.declared.value.Segment.TheOpen.{Value-F}
 use Rattle.mx_value.specs.declared.value.Segment.TheViews.{roll-Value}
 use Rattle.mx_value.specs.declared.value.Segment.TheFolds.{fold-roll-Value, para-roll-Value}
 use Rattle.mx_print.specs.Values.{padded, decimals, fixed_text, value_text}
-use Rattle.mx_ops.specs.declared.op.Op.{Op}
-use Rattle.mx_ops.specs.declared.op.Op.TheVariants as op
+use Rattle.mx_op.specs.declared.op.Op.{Op}
+use Rattle.mx_op.specs.declared.op.Op.TheVariants as op
 use Rattle.mx_ops.specs.declared.number.Number.{Number}
 use Rattle.mx_ops.specs.declared.number.Number.TheVariants.{Whole, Decimal}
 use Rattle.mx_ops.specs.declared.number.Pair.{Pair}

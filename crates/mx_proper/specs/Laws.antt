@@ -10,7 +10,7 @@ use Rattle.mx_edit.specs.declared.key.Key.{Key}
 use Rattle.mx_edit.specs.declared.key.KeyResult.{KeyResult}
 use Rattle.mx_edit.specs.declared.reply.Reply.{Reply}
 use Rattle.mx_edit.specs.declared.scope.Scope.{Scope}
-use Rattle.mx_ops.specs.declared.op.Op.{Op}
+use Rattle.mx_op.specs.declared.op.Op.{Op}
 use Rattle.mx_ops.specs.Table.{gives}
 use Rattle.mx_runs.specs.Runs.{Gives}
 use Rattle.mx_runs.specs.Meaning.{Means}

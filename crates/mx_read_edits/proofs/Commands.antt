@@ -37,7 +37,7 @@ use Rattle.mx_words.specs.Phrases.{PhraseText, phrase_text, named_command}
 use Rattle.mx_words.specs.Texts.{spaces, behind_spaces, first_word, formula_of, first_name}
 use Rattle.mx_words.specs.Words.{rest_of, word_of}
 use Rattle.mx_script.specs.Commands.{defined, parametrized, uninput, asked_command, is_alone, asked_of, Asks, argument_of, place_behind, has_literal, input_of, Sets, ref_value, reference_of, referred, RefersBy, clearing_of, cleared_of, newline_of, cells_by, cells_at, ClearsBy, ReadsRest, ReadsBy}
-use Rattle.mx_whole_edits.specs.Ready.{IsRead}
+use Rattle.mx_model.specs.Literals.{IsRead}
 use Rattle.mx_read_edits.specs.Laws.{EditsAreRead}
 use Rattle.mx_read_edits.proofs.Defaults.{spelled_literal}
 

@@ -11,7 +11,7 @@ use Rattle.mx_syntax.specs.declared.stmt.Formula.{Formula}
 use Rattle.mx_syntax.specs.Binding.{defaults}
 use Rattle.mx_c3.specs.Lists.{Has}
 use Rattle.mx_model.specs.Refused.{is_unfit}
-use Rattle.mx_whole_edits.specs.Ready.{AreLiteral}
+use Rattle.mx_model.specs.Literals.{AreLiteral}
 use Rattle.mx_grammar.specs.declared.nesting.Open.{Open}
 use Rattle.mx_grammar.specs.declared.word.Word.{Word}
 use Rattle.mx_grammar.specs.declared.word.Word.TheVariants as word

@@ -8,8 +8,8 @@ ghost use Rattle.mx_walks.specs.Ways.{Came, Look, begun_way, resumed_way, told, 
 use crate::copies::copy_segments;
 use crate::going::{Going, SEGMENTS, go_on};
 use crate::items::Stop;
-use mx_apply::statics::path_of;
 use mx_list::list::List;
+use mx_model::address::path_of;
 use mx_stack::rest::Onward;
 use mx_stack::walks::Way;
 use mx_value::namespace::Namespace;

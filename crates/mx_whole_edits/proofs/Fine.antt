@@ -22,7 +22,8 @@ use Rattle.mx_model.proofs.Places.{id_at, space_defined, defined_space}
 use Rattle.mx_model.proofs.Defined.{split_push, split_is}
 use Rattle.mx_model.proofs.NameLemmas.{is_same}
 use Rattle.mx_rings.proofs.SearchLemmas.{place_of}
-use Rattle.mx_whole_edits.specs.Ready.{AreLiteral, IsReady}
+use Rattle.mx_model.specs.Literals.{AreLiteral}
+use Rattle.mx_whole_edits.specs.Ready.{IsReady}
 use Rattle.mx_whole_edits.proofs.Apart.{distinct_join, first_part, last_part, parts_apart}
 
 abbrev pub child : Path → Name → Path

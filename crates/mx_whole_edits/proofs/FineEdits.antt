@@ -32,7 +32,7 @@ use Rattle.mx_model.proofs.Defined.{same_ends}
 use Rattle.mx_model.proofs.NameLemmas.{same_is, is_same, define_other, define_own}
 use Rattle.mx_changes.proofs.Free.{IsFree, is_true, either}
 use Rattle.mx_changes.proofs.NewSpaces.{grown}
-use Rattle.mx_whole_edits.specs.Ready.{AreLiteral, IsRead}
+use Rattle.mx_model.specs.Literals.{AreLiteral, IsRead}
 use Rattle.mx_whole_edits.proofs.TextSizes.{text_fits}
 use Rattle.mx_whole_edits.proofs.Members.{define_has, define_keys, define_once, without_has, without_keys, without_once}
 use Rattle.mx_whole_edits.proofs.Fine.{child, Fine, Top, lookup_none, no_such_cells, no_such_reference}

@@ -16,7 +16,7 @@ use Rattle.mx_model.specs.Change.{at_space, define, without, define_cells, set_a
 use Rattle.mx_model.specs.Valid.{names_of, IsReference}
 use Rattle.mx_model.proofs.Filtered.{map_has}
 use Rattle.mx_model.proofs.NameLemmas.{same_is, is_same, defined_cells}
-use Rattle.mx_whole_edits.specs.Ready.{AreLiteral}
+use Rattle.mx_model.specs.Literals.{AreLiteral}
 use Rattle.mx_whole_edits.proofs.Members.{define_has, define_keys, define_once, without_has, without_keys, without_once}
 use Rattle.mx_whole_edits.proofs.Fine.{child, Fine}
 

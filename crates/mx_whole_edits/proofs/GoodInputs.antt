@@ -35,7 +35,7 @@ use Rattle.mx_model.specs.Refused.{is_unfit, is_long, is_nothing, lacks_cells}
 use Rattle.mx_model.specs.Valid.{IsKept, IsBound, InputsFit}
 use Rattle.mx_model.proofs.Filtered.{place_has, map_has}
 use Rattle.mx_changes.proofs.Free.{IsFree, either}
-use Rattle.mx_whole_edits.specs.Ready.{AreLiteral, HasLiterals}
+use Rattle.mx_model.specs.Literals.{AreLiteral, HasLiterals}
 use Rattle.mx_whole_edits.proofs.NormalLaws.{normal_keeps}
 use Rattle.mx_whole_edits.proofs.Members.{define_has, define_once, without_has, without_once}
 use Rattle.mx_whole_edits.proofs.FineEdits.{kept_value}

@@ -9,7 +9,8 @@ use Rattle.mx_model.specs.Indexed.{Kinds, ArePlaced}
 use Rattle.mx_changes.proofs.Free.{free_of}
 use Rattle.mx_apply.specs.Chain.{CanGoOn}
 use Rattle.mx_whole_edits.specs.Whole.{IsAccepted}
-use Rattle.mx_whole_edits.specs.Ready.{IsRead, IsReady, ReadyIsValid, ValidIsReady}
+use Rattle.mx_model.specs.Literals.{IsRead}
+use Rattle.mx_whole_edits.specs.Ready.{IsReady, ReadyIsValid, ValidIsReady}
 use Rattle.mx_whole_edits.proofs.Fine.{Top, fine_of, top_of, names_from, references_from}
 use Rattle.mx_whole_edits.proofs.FineSpaces.{AllFine}
 use Rattle.mx_whole_edits.proofs.FineEdits.{Places, well}

@@ -7,7 +7,8 @@ ghost use Rattle.mx_model.specs.Inputs.{without_unfit};
 ghost use Rattle.mx_model.specs.Valid.{InputsFit};
 ghost use Rattle.mx_apply.specs.Chain.{MakesNoRing, CanGoOn};
 ghost use Rattle.mx_whole_edits.specs.Whole.{IsAccepted, IsApplied, EditsAreWhole, is_of_input};
-ghost use Rattle.mx_whole_edits.specs.Ready.{IsRead, IsReady, KeepsReady, ReadyIsValid, ValidIsReady};
+ghost use Rattle.mx_model.specs.Literals.{IsRead};
+ghost use Rattle.mx_whole_edits.specs.Ready.{IsReady, KeepsReady, ReadyIsValid, ValidIsReady};
 
 use mx_apply::counts::over;
 use mx_apply::edits::with_edit;

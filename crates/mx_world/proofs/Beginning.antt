@@ -18,7 +18,7 @@ use Rattle.mx_model.proofs.Filtered.{place_has}
 use Rattle.mx_model.proofs.Places.{id_at, SpaceAt, defined_space}
 use Rattle.std.proofs.lemmas.List.{length-append}
 use Rattle.mx_paths.specs.Names.{AreNames, IsNamed}
-use Rattle.mx_whole_edits.specs.Ready.{AreLiteral, HasLiterals}
+use Rattle.mx_model.specs.Literals.{AreLiteral, HasLiterals}
 use Rattle.mx_paths.proofs.PathOrder.{before_not}
 
 abbrev main : Name

@@ -4,5 +4,4 @@
 pub mod bound;
 pub mod changed;
 pub mod laws;
-pub mod prepare;
 pub mod world;

@@ -12,7 +12,7 @@ ghost use Rattle.mx_model.specs.Keys.{bound_to, formula_of, params_of, global_of
 ghost use Rattle.mx_model.specs.Valid.{Valid};
 ghost use Rattle.mx_paths.specs.Names.{IsNamed};
 ghost use Rattle.mx_paths.specs.Table.{IsTableOf};
-ghost use Rattle.mx_whole_edits.specs.Ready.{HasLiterals};
+ghost use Rattle.mx_model.specs.Literals.{HasLiterals};
 ghost use Rattle.mx_world.specs.World.{IsWorld};
 ghost use Rattle.mx_world.specs.Bound.{told_name, told_cells, TellsReference};
 ghost use Rattle.mx_edit.specs.declared.key.KeyResult.TheVariants as found;

@@ -4,7 +4,7 @@ use Rattle.mx_edit.specs.declared.refusal.EditRefusal.TheVariants as refusal
 use Rattle.mx_paths.specs.declared.refusal.PathsRefusal.{PathsRefusal}
 use Rattle.mx_paths.specs.Table.{Row, Builds, IsTableOf}
 use Rattle.mx_paths.specs.Names.{IsNamed}
-use Rattle.mx_whole_edits.specs.Ready.{HasLiterals}
+use Rattle.mx_model.specs.Literals.{HasLiterals}
 use Rattle.mx_world.proofs.Beginning.{begins_named, begins_literal}
 use Rattle.mx_world.proofs.WorldLemmas.{first_valid, meets_not}
 use Rattle.mx_world.proofs.world.World.new.Goals as goal

@@ -16,10 +16,10 @@ use Rattle.mx_whole_edits.specs.Ready.{IsReady}
 use Rattle.mx_whole_edits.proofs.WholeLemmas.{whole}
 use Rattle.mx_whole_edits.proofs.ReadyLemmas.{ready_valid}
 use Rattle.mx_world.specs.World.{IsWorld}
-use Rattle.mx_world.specs.Shape.{shape_of, keeps_shape}
-use Rattle.mx_world.specs.Prepared.{Prepares, Walks}
-use Rattle.mx_world.proofs.Shapes.{built_alike}
-use Rattle.mx_world.proofs.KeptShape.{edits_keep_shape}
+use Rattle.mx_prepare.specs.Shape.{shape_of, keeps_shape}
+use Rattle.mx_prepare.specs.Prepared.{Prepares, Walks}
+use Rattle.mx_prepare.proofs.Shapes.{built_alike}
+use Rattle.mx_prepare.proofs.KeptShape.{edits_keep_shape}
 
 -- ---- an edit that keeps the shape of the text
 

@@ -3,8 +3,8 @@ use Rattle.mx_value.specs.declared.value.Segment.{Segment, out-Segment}
 use Rattle.mx_value.specs.declared.value.Segment.TheFolds.{the_lemmas}
 use Rattle.mx_model.specs.Records.{Name, Path}
 use Rattle.mx_model.specs.Inputs.{name_in}
-use Rattle.mx_apply.proofs.StaticLemmas.{path_more, path_ends}
-use Rattle.mx_apply.proofs.statics.path_of.Goals as goal
+use Rattle.mx_model.proofs.AddressLemmas.{path_more, path_ends}
+use Rattle.mx_model.proofs.address.path_of.Goals as goal
 
 pub loop-segment-preserved : goal.loop-segment-preserved
 loop-segment-preserved c =

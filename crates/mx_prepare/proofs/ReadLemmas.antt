@@ -10,8 +10,8 @@ use Rattle.mx_edit.specs.declared.edit.Edit.TheVariants as edit
 use Rattle.mx_model.specs.Refused.{is_unfit}
 use Rattle.mx_model.proofs.Filtered.{has_filter}
 use Rattle.mx_changes.proofs.Free.{either}
-use Rattle.mx_whole_edits.specs.Ready.{AreLiteral, IsRead}
-use Rattle.mx_world.specs.Read.{is_one_unfit, has_unfit_default, is_read}
+use Rattle.mx_model.specs.Literals.{AreLiteral, IsRead}
+use Rattle.mx_prepare.specs.Read.{is_one_unfit, has_unfit_default, is_read}
 
 none_of : (params : List Param) (p : Param) → Has params p → list_any has_unfit_default params ≡ false → has_unfit_default p ≡ false
 none_of [] p h e = absurd h

@@ -1,6 +1,6 @@
 use Rattle.std.proofs.Common.{sym}
-use Rattle.mx_world.proofs.PrepareLemmas.{kept_world, kept_walk, new_world, walks_ok}
-use Rattle.mx_world.proofs.prepare.walked.Goals as goal
+use Rattle.mx_prepare.proofs.PrepareLemmas.{kept_world, kept_walk, new_world, walks_ok}
+use Rattle.mx_prepare.proofs.prepare.walked.Goals as goal
 
 pub of-requires : goal.of-requires
 of-requires c = kept_world c.args.world.now c.args.text c.args.edit.now c.in-Ok.paths (sym c.if-keeps_shape.ensures) c.requires.accepted.is c.requires.valid c.in-Ok.ensures c.requires.ready c.requires.named

@@ -19,9 +19,9 @@ use Rattle.mx_model.proofs.Filtered.{map_has, has_map}
 use Rattle.mx_model.proofs.Defined.{defined_has}
 use Rattle.mx_changes.proofs.Free.{free_of, is_true, from_space}
 use Rattle.mx_paths.specs.Names.{AreNames, IsNamed}
-use Rattle.mx_world.specs.Shape.{shape_of}
-use Rattle.mx_world.proofs.Shapes.{same_paths}
-use Rattle.mx_world.proofs.KeptShape.{edits_keep_shape}
+use Rattle.mx_prepare.specs.Shape.{shape_of}
+use Rattle.mx_prepare.proofs.Shapes.{same_paths}
+use Rattle.mx_prepare.proofs.KeptShape.{edits_keep_shape}
 
 -- each path of the second was one of the first
 AllOld : ModelRecord → ModelRecord → Type 0

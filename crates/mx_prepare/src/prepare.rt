@@ -1,16 +1,16 @@
 //! Edits of worlds.
 ghost use Rattle.std.specs.Prelude.{◌≡◌, IsTrue};
 ghost use Rattle.std.specs.List.{list_any};
-ghost use Rattle.mx_world.specs.Shape as shape;
+ghost use Rattle.mx_prepare.specs.Shape as shape;
 ghost use Rattle.mx_apply.specs.Chain.{CanGoOn};
 ghost use Rattle.mx_model.specs.Valid.{Valid};
 ghost use Rattle.mx_paths.specs.Names.{IsNamed};
-ghost use Rattle.mx_whole_edits.specs.Ready.{IsRead, IsReady};
+ghost use Rattle.mx_model.specs.Literals.{IsRead};
+ghost use Rattle.mx_whole_edits.specs.Ready.{IsReady};
 ghost use Rattle.mx_whole_edits.specs.Whole.{IsAccepted};
-ghost use Rattle.mx_world.specs.Prepared.{Prepares, Walks};
-ghost use Rattle.mx_world.specs.Read as spec;
+ghost use Rattle.mx_prepare.specs.Prepared.{Prepares, Walks};
+ghost use Rattle.mx_prepare.specs.Read as spec;
 
-use crate::world::World;
 use mx_apply::values::is_unfit;
 use mx_edit::edit::Edit;
 use mx_edit::refusal::EditRefusal;
@@ -20,6 +20,7 @@ use mx_paths::refusal::PathsRefusal;
 use mx_paths::table::Paths;
 use mx_syntax::stmt::Param;
 use mx_whole_edits::whole::applied;
+use mx_world::world::World;
 use std::alloc::Global;
 use std::marker::Model;
 

@@ -5,7 +5,7 @@ use Rattle.std.specs.List.{filter_map}
 use Rattle.mx_model.specs.Records.{Path, SpaceRecord, ModelRecord}
 use Rattle.mx_model.specs.Layers.{paths_of, id_in, lists_in, base_lists}
 use Rattle.mx_paths.specs.Kept.{IsBuiltAlike}
-use Rattle.mx_world.specs.Shape.{Shape, shape_of}
+use Rattle.mx_prepare.specs.Shape.{Shape, shape_of}
 
 module _ (text other : ModelRecord) (same : shape_of text ≡ shape_of other) where
   pub same_paths : paths_of text ≡ paths_of other

@@ -6,7 +6,7 @@ use Rattle.mx_edit.specs.declared.edit.Edit.TheVariants as edit
 use Rattle.mx_edit.specs.declared.reference.RefValue.{RefValue}
 use Rattle.mx_model.specs.Records.{Name, Path, SpaceRecord, ModelRecord}
 use Rattle.mx_model.specs.Change.{at_space, set_reference, remove_reference, define, without, define_cells, set_allow}
-use Rattle.mx_world.specs.Shape.{shape_of, EditsKeepShape}
+use Rattle.mx_prepare.specs.Shape.{shape_of, EditsKeepShape}
 
 -- a space as its shape sees it
 abbrev bare : SpaceRecord → Path × List Path

@@ -5,9 +5,9 @@ use Rattle.mx_apply.specs.Chain.{CanGoOn}
 use Rattle.mx_apply.proofs.ChainLemmas.{valid_goes_on}
 use Rattle.mx_paths.specs.Names.{IsNamed}
 use Rattle.mx_whole_edits.specs.Whole.{IsAccepted, IsStopped}
-use Rattle.mx_world.proofs.Named.{named_after}
-use Rattle.mx_world.proofs.PrepareLemmas.{walked_all, stopped}
-use Rattle.mx_world.proofs.prepare.prepare.Goals as goal
+use Rattle.mx_prepare.proofs.Named.{named_after}
+use Rattle.mx_prepare.proofs.PrepareLemmas.{walked_all, stopped}
+use Rattle.mx_prepare.proofs.prepare.prepare.Goals as goal
 
 pub applied-requires-clause-fit : goal.applied-requires-clause-fit
 applied-requires-clause-fit c = subst InputsFit (sym c.text.ensures.exact) c.text.ensures.valid.inputs

@@ -1,10 +1,10 @@
 use Rattle.std.proofs.Common.{◌≡◌, not, sym, ◌∙◌, ap, subst}
 use Rattle.std.specs.List.{list_any}
 use Rattle.mx_edit.specs.declared.edit.Edit.TheVariants as edit
-use Rattle.mx_whole_edits.specs.Ready.{IsRead}
-use Rattle.mx_world.specs.Read.{has_unfit_default}
-use Rattle.mx_world.proofs.ReadLemmas.{read_told}
-use Rattle.mx_world.proofs.prepare.is_read.Goals as goal
+use Rattle.mx_model.specs.Literals.{IsRead}
+use Rattle.mx_prepare.specs.Read.{has_unfit_default}
+use Rattle.mx_prepare.proofs.ReadLemmas.{read_told}
+use Rattle.mx_prepare.proofs.prepare.is_read.Goals as goal
 
 pub returns-in-SetCells-clause-told : goal.returns-in-SetCells-clause-told
 returns-in-SetCells-clause-told c = λ holds.

@@ -1,0 +1,5 @@
+pub mod Named
+pub mod PrepareLemmas
+pub mod Shapes
+pub mod KeptShape
+pub mod ReadLemmas

@@ -1,0 +1,4 @@
+//! Edits of worlds: what one makes is prepared, and then put in place without taking memory.
+#![tactic(auto)]
+
+pub mod prepare;
