@@ -24,7 +24,7 @@ pub fn over(text: &ModelText) -> Option<Limit>
     if text.tables().count() > 100 {
         return Some(Limit::Tables);
     }
-    if text.inputs().len() > 1_000_000 {
+    if text.inputs().count() > 1_000_000 {
         return Some(Limit::Inputs);
     }
     return None;

@@ -1,7 +1,7 @@
 //! Edits of a model text: why one is refused by what the text holds, and the text that it makes.
 #![tactic(auto)]
 
-mod bound;
+pub mod bound;
 pub mod counts;
 mod displays;
 pub mod edits;

@@ -2,6 +2,5 @@ pub mod BaseLemmas
 pub mod EditLemmas
 pub mod Free
 pub mod GoneSpaces
-pub mod InputLemmas
 pub mod KindChanges
 pub mod NewSpaces

@@ -34,8 +34,7 @@ pub fn without_global(
     ensures { let globals = without same_name text.now.globals name.now in
         IfOk result (λ t. t ≡ record text.now { globals = globals }) }
 {
-    let mut globals = text.globals().copy(alloc)?;
-    globals.remove(name);
+    let globals = text.globals().without(alloc, name)?;
     text.with_globals(alloc, globals)
 }
 

@@ -4,7 +4,6 @@ ghost use Rattle.mx_value.specs.declared.node.Node.TheVariants as node;
 ghost use Rattle.mx_model.specs.Keys.{node_eq};
 ghost use Rattle.mx_model.specs.Change.{define, without};
 
-use indexmap::IndexMap;
 use mx_list::items::Items;
 use mx_list::shared::Shared;
 use mx_model::text::ModelText;
@@ -20,23 +19,6 @@ pub fn node_of(at: &Addr, name: &Label, args: Items<Value>) -> Result<Node, Allo
     Ok(Node::Cell(at.copy()?, name.copy()?, args))
 }
 
-/// Equal inputs. Their values are shared.
-fn copy_inputs(
-    alloc: Global,
-    inputs: &IndexMap<Node, Shared<Value>>,
-) -> Result<IndexMap<Node, Shared<Value>>, AllocError>
-    ensures { IfOk result (λ copied. copied.entries ≡ inputs.now.entries) }
-{
-    let mut copied = IndexMap::with_capacity(alloc, inputs.len())?;
-    for place in 0..inputs.len() {
-        let Some((node, value)) = inputs.get_index(place) else {
-            unreachable!()
-        };
-        copied.insert(node.copy(alloc)?, value.copy()?)?;
-    }
-    Ok(copied)
-}
-
 /// The text with a value that is put in for a node.
 pub fn with_input(
     alloc: Global,
@@ -47,9 +29,9 @@ pub fn with_input(
     ensures { let inputs = define node_eq text.now.inputs node value.now in
         IfOk result (λ t. t ≡ record text.now { inputs = inputs }) }
 {
-    let mut inputs = copy_inputs(alloc, text.inputs())?;
+    let mut inputs = text.inputs().copy(alloc)?;
     let value = Shared::new(alloc, value.copy(alloc)?)?;
-    inputs.insert(node, value)?;
+    inputs.define(node, value)?;
     text.with_inputs(alloc, inputs)
 }
 
@@ -58,7 +40,6 @@ pub fn without_input(alloc: Global, text: &ModelText, node: &Node) -> Result<Mod
     ensures { let inputs = without node_eq text.now.inputs node.now in
         IfOk result (λ t. t ≡ record text.now { inputs = inputs }) }
 {
-    let mut inputs = copy_inputs(alloc, text.inputs())?;
-    inputs.shift_remove(node);
+    let inputs = text.inputs().without(alloc, node)?;
     text.with_inputs(alloc, inputs)
 }

@@ -12,9 +12,9 @@ ghost use Rattle.mx_changes.specs.Kept.{KeepsOthers};
 
 use mx_c3::space::SpaceId;
 use mx_list::shared::Shared;
+use mx_members::members::Members;
 use mx_model::kind::Kind;
 use mx_model::layers::path_below;
-use mx_model::members::Members;
 use mx_model::space::Space;
 use mx_model::text::ModelText;
 use mx_value::label::Label;
@@ -52,7 +52,7 @@ pub fn kinds_of(
     s: SpaceId,
     space: &Space,
     name: &Label,
-) -> Result<Shared<Members<Kind>>, AllocError>
+) -> Result<Shared<Members<Label, Kind>>, AllocError>
     requires within { s.0 < length text.now.spaces }
     requires others { (old : SpaceRecord) →
         space_of text.now s ≡ Some old → KeepsOthers name.now old space.now }
@@ -68,10 +68,10 @@ pub fn kinds_of(
 /// Kinds in which a name has this kind.
 pub fn define_kind(
     alloc: Global,
-    kinds: &Shared<Members<Kind>>,
+    kinds: &Shared<Members<Label, Kind>>,
     name: &Label,
     kind: Kind,
-) -> Result<Shared<Members<Kind>>, AllocError>
+) -> Result<Shared<Members<Label, Kind>>, AllocError>
     ensures { IfOk result (λ defined.
         (lookup (same_name name.now) kinds.now ≡ Some kind × (defined ≡ kinds.now)) ⊎
         (defined ≡ define same_name kinds.now name.now kind)) }
@@ -87,13 +87,12 @@ pub fn define_kind(
 /// Kinds without a name.
 pub fn remove_kind(
     alloc: Global,
-    kinds: &Shared<Members<Kind>>,
+    kinds: &Shared<Members<Label, Kind>>,
     name: &Label,
-) -> Result<Shared<Members<Kind>>, AllocError>
+) -> Result<Shared<Members<Label, Kind>>, AllocError>
     ensures { IfOk result (λ rest.
         (rest ≡ without same_name kinds.now name.now) × (lookup (same_name name.now) rest ≡ None)) }
 {
-    let mut rest = kinds.get().copy(alloc)?;
-    rest.remove(name);
+    let rest = kinds.get().without(alloc, name)?;
     Shared::new(alloc, rest)
 }

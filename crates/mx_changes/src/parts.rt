@@ -9,7 +9,7 @@ use mx_edit::copies::{copy_formula, copy_params};
 use mx_edit::reference::RefValue;
 use mx_list::list::List;
 use mx_list::shared::Shared;
-use mx_model::members::Members;
+use mx_members::members::Members;
 use mx_model::space::{Cells, Space};
 use mx_syntax::stmt::{Formula, Params};
 use mx_value::label::Label;
@@ -27,7 +27,11 @@ fn share_params(params: &Option<CompiledParams>) -> Result<Option<CompiledParams
 }
 
 /// The space with these cells in place of its own.
-fn with_all_cells(alloc: Global, space: &Space, cells: Members<Cells>) -> Result<Space, AllocError>
+fn with_all_cells(
+    alloc: Global,
+    space: &Space,
+    cells: Members<Label, Cells>,
+) -> Result<Space, AllocError>
     ensures { IfOk result (λ s. s ≡ record space.now { cells = cells }) }
 {
     Ok(Space {
@@ -43,7 +47,7 @@ fn with_all_cells(alloc: Global, space: &Space, cells: Members<Cells>) -> Result
 fn with_all_references(
     alloc: Global,
     space: &Space,
-    references: Members<RefValue>,
+    references: Members<Label, RefValue>,
 ) -> Result<Space, AllocError>
     ensures { IfOk result (λ s. s ≡ record space.now { references = references }) }
 {
@@ -82,8 +86,7 @@ pub fn without_cells(alloc: Global, space: &Space, name: &Label) -> Result<Space
     ensures { let cells = without same_name space.now.cells name.now in
         IfOk result (λ s. s ≡ record space.now { cells = cells }) }
 {
-    let mut cells = space.cells.get().copy(alloc)?;
-    cells.remove(name);
+    let cells = space.cells.get().without(alloc, name)?;
     with_all_cells(alloc, space, cells)
 }
 
@@ -130,8 +133,7 @@ pub fn without_reference(alloc: Global, space: &Space, name: &Label) -> Result<S
     ensures { let references = without same_name space.now.references name.now in
         IfOk result (λ s. s ≡ record space.now { references = references }) }
 {
-    let mut references = space.references.get().copy(alloc)?;
-    references.remove(name);
+    let references = space.references.get().without(alloc, name)?;
     with_all_references(alloc, space, references)
 }
 

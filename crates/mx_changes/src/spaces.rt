@@ -12,9 +12,9 @@ use crate::kinds::{define_kind, remove_kind};
 use crate::parts;
 use mx_list::list::List;
 use mx_list::shared::Shared;
+use mx_members::members::Members;
 use mx_model::kind::Kind;
 use mx_model::layers::path_below;
-use mx_model::members::Members;
 use mx_model::space::Space;
 use mx_model::text::{ModelText, copy_all};
 use mx_value::label::Label;
@@ -45,10 +45,10 @@ pub fn with_bases(
 fn kinds_with_child(
     alloc: Global,
     text: &ModelText,
-    kinds: &[Shared<Members<Kind>>],
+    kinds: &[Shared<Members<Label, Kind>>],
     parent: &Path,
     name: &Label,
-) -> Result<Vec<Shared<Members<Kind>>>, AllocError>
+) -> Result<Vec<Shared<Members<Label, Kind>>>, AllocError>
     requires placed { ArePlaced kinds.now text.now }
     requires held { IsTrue (is_holder text.now parent.now) }
     requires free { name_taken text.now (edit.NewSpace parent.now name.now) ≡ false }
@@ -85,7 +85,7 @@ pub fn with_new_space(
     let mut spaces = copy_all(alloc, text.spaces())?;
     spaces.push(Shared::new(alloc, space)?)?;
     let mut kinds = kinds_with_child(alloc, text, text.kinds(), parent, name)?;
-    kinds.push(Shared::new(alloc, Members::new(alloc))?)?;
+    kinds.push(Shared::new(alloc, Members::new(alloc)?)?)?;
     text.with_spaces(alloc, spaces, kinds)
 }
 
@@ -134,10 +134,10 @@ fn child_name<'a>(path: &'a Path, parent: &Path) -> Option<&'a Label>
 /// The kinds of a space without the child of a path.
 fn kinds_left(
     alloc: Global,
-    kinds: &Shared<Members<Kind>>,
+    kinds: &Shared<Members<Label, Kind>>,
     at: &Path,
     removed: &Path,
-) -> Result<Shared<Members<Kind>>, AllocError>
+) -> Result<Shared<Members<Label, Kind>>, AllocError>
     ensures { IfOk result (λ rest. IsLeft removed.now at.now kinds.now rest) }
 {
     match child_name(removed, at) {
@@ -149,9 +149,9 @@ fn kinds_left(
 /// Kinds without a child of a name, where they have one.
 fn kinds_without_child(
     alloc: Global,
-    kinds: &Shared<Members<Kind>>,
+    kinds: &Shared<Members<Label, Kind>>,
     name: &Label,
-) -> Result<Shared<Members<Kind>>, AllocError>
+) -> Result<Shared<Members<Label, Kind>>, AllocError>
     ensures { IfOk result (λ rest. LosesChild name.now kinds.now rest) }
 {
     match kinds.get().get(name) {

@@ -6,7 +6,7 @@ use Rattle.std.specs.Map.{keys_of}
 use Rattle.std.proofs.lemmas.List.Elements.{filter_more}
 use Rattle.std.proofs.lemmas.List.{take_all, append-nil}
 use Rattle.std.proofs.lemmas.Option.{same_Some, slice_get_within, get_or_from_slice_get}
-use Rattle.indexmap.specs.IndexMap.{insert_entry}
+use Rattle.mx_members.specs.Words.{define}
 use Rattle.mx_value.specs.declared.value.Value.{Value}
 use Rattle.mx_value.specs.declared.node.Node.{Node}
 use Rattle.mx_value.proofs.NodeSames.{node_decides}
@@ -38,10 +38,10 @@ fresh_at (e ∷ es) (suc i) m other d at h =
       | inr r ↦ fresh_at es i m other d.1 at r
     ]
 
-insert_new : (es : List Input) (k : Node) (v : Value) → ((other : Input) → Has es other → node_eq k other.0 ≡ false) → insert_entry node_eq es k v ≡ es ++ (k, v) ∷ []
+insert_new : (es : List Input) (k : Node) (v : Value) → ((other : Input) → Has es other → node_eq k other.0 ≡ false) → define node_eq es k v ≡ es ++ (k, v) ∷ []
 insert_new [] k v fresh = refl
 insert_new (e ∷ es) k v fresh =
-    ap (λ (b : Bool). if b then (e.0, v) ∷ es else e ∷ insert_entry node_eq es k v) (fresh e (inl refl)) ∙
+    ap (λ (b : Bool). if b then (e.0, v) ∷ es else e ∷ define node_eq es k v) (fresh e (inl refl)) ∙
     ap (λ (r : List Input). e ∷ r) (insert_new es k v (λ other h. fresh other (inr h)))
 
 filtered_by : (b : Bool) (e m : Input) (rest es : List Input) → (Has rest m → Has es m) → Has (cond b (e ∷ rest) rest) m → Has (e ∷ es) m
@@ -53,12 +53,12 @@ filtered_has p [] m h = h
 filtered_has p (e ∷ es) m h = filtered_by (p e) e m (filter p es) es (filtered_has p es m) h
 
 -- one input more that passes
-pub keep_more : (p : Input → Bool) (es kept : List Input) (i : ℕ) (k : Node) (v : Value) (after : List Input) → IsDistinct node_eq (keys_of es) → kept ≡ filter p (take i es) → slice_get es i ≡ Some (k, v) → p (k, v) ≡ true → after ≡ insert_entry node_eq kept k v → after ≡ filter p (take (i + 1) es)
+pub keep_more : (p : Input → Bool) (es kept : List Input) (i : ℕ) (k : Node) (v : Value) (after : List Input) → IsDistinct node_eq (keys_of es) → kept ≡ filter p (take i es) → slice_get es i ≡ Some (k, v) → p (k, v) ≡ true → after ≡ define node_eq kept k v → after ≡ filter p (take (i + 1) es)
 keep_more p es kept i k v after d e at passes is =
     let one = get_or_from_slice_get es i (k, v) (k, v) at in
     let more = filter_more p es i (k, v) (slice_get_within es i (k, v) at) in
     let last = ap (λ (m : Input). cond (p m) (m ∷ []) []) one ∙ ap (λ (b : Bool). cond b ((k, v) ∷ []) []) passes in
-    is ∙ ap (λ (c : List Input). insert_entry node_eq c k v) e ∙
+    is ∙ ap (λ (c : List Input). define node_eq c k v) e ∙
     insert_new (filter p (take i es)) k v (λ other h. fresh_at es i (k, v) other d at (filtered_has p (take i es) other h)) ∙
     sym (more ∙ ap (λ (r : List Input). filter p (take i es) ++ r) last)
 
@@ -80,7 +80,7 @@ filter_all p [] all = refl
 filter_all p (e ∷ es) all = filter_by p e es (p e) refl all (filter_all p es)
 
 -- one input more, where it passes
-pub keep_one : (p : Input → Bool) (es kept : List Input) (i : ℕ) (k : Node) (v : Value) (b : Bool) (after : List Input) → IsDistinct node_eq (keys_of es) → kept ≡ filter p (take i es) → slice_get es i ≡ Some (k, v) → b ≡ p (k, v) → after ≡ (if b then insert_entry node_eq kept k v else kept) → after ≡ filter p (take (i + 1) es)
+pub keep_one : (p : Input → Bool) (es kept : List Input) (i : ℕ) (k : Node) (v : Value) (b : Bool) (after : List Input) → IsDistinct node_eq (keys_of es) → kept ≡ filter p (take i es) → slice_get es i ≡ Some (k, v) → b ≡ p (k, v) → after ≡ (if b then define node_eq kept k v else kept) → after ≡ filter p (take (i + 1) es)
 keep_one p es kept i k v true after d e at passes is = keep_more p es kept i k v after d e at (sym passes) is
 keep_one p es kept i k v false after d e at passes is = is ∙ keep_none p es kept i (k, v) e at (sym passes)
 

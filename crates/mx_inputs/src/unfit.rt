@@ -3,13 +3,13 @@ ghost use Rattle.std.specs.Prelude.{◌≡◌, IfOk, if◌then◌else◌};
 ghost use Rattle.std.specs.List.{filter, list_all};
 ghost use Rattle.mx_value.specs.declared.value.Value.{Value as ValueRecord};
 ghost use Rattle.mx_value.specs.declared.node.Node.{Node as NodeRecord};
-ghost use Rattle.indexmap.specs.IndexMap.{insert_entry};
+ghost use Rattle.mx_members.specs.Words.{define};
 ghost use Rattle.mx_model.specs.Keys.{node_eq};
 ghost use Rattle.mx_model.specs.Inputs.{fits, without_unfit};
 
 use crate::fitting::Fitting;
-use indexmap::IndexMap;
 use mx_list::shared::Shared;
+use mx_members::members::Members;
 use mx_model::text::ModelText;
 use mx_value::node::Node;
 use mx_value::value::Value;
@@ -35,15 +35,15 @@ pub fn without_unfit<F: Fitting>(
 /// Whether all inputs fit.
 fn do_all_fit<F: Fitting>(
     alloc: Global,
-    inputs: &IndexMap<Node, Shared<Value>>,
+    inputs: &Members<Node, Shared<Value>>,
     fitting: &F,
 ) -> Result<bool, AllocError>
     requires { F.can_tell fitting.now }
     ensures { let fit = λ (input : NodeRecord × ValueRecord). fits (F.text fitting.now) input.0 in
-        IfOk result (λ told. told ≡ list_all fit inputs.now.entries) }
+        IfOk result (λ told. told ≡ list_all fit inputs.now) }
 {
-    for place in 0..inputs.len() {
-        let Some((node, _)) = inputs.get_index(place) else {
+    for place in 0..inputs.count() {
+        let Some((node, _)) = inputs.at(place) else {
             unreachable!()
         };
         if !fitting.fits(alloc, node)? {
@@ -56,16 +56,16 @@ fn do_all_fit<F: Fitting>(
 /// The inputs that fit, in their order. Their values are shared.
 fn those_that_fit<F: Fitting>(
     alloc: Global,
-    inputs: &IndexMap<Node, Shared<Value>>,
+    inputs: &Members<Node, Shared<Value>>,
     fitting: &F,
-) -> Result<IndexMap<Node, Shared<Value>>, AllocError>
+) -> Result<Members<Node, Shared<Value>>, AllocError>
     requires { F.can_tell fitting.now }
     ensures { let fit = λ (input : NodeRecord × ValueRecord). fits (F.text fitting.now) input.0 in
-        IfOk result (λ kept. kept.entries ≡ filter fit inputs.now.entries) }
+        IfOk result (λ kept. kept ≡ filter fit inputs.now) }
 {
-    let mut kept = IndexMap::new(alloc);
-    for place in 0..inputs.len() {
-        let Some((node, value)) = inputs.get_index(place) else {
+    let mut kept = Members::new(alloc)?;
+    for place in 0..inputs.count() {
+        let Some((node, value)) = inputs.at(place) else {
             unreachable!()
         };
         let fits = fitting.fits(alloc, node)?;
@@ -77,16 +77,16 @@ fn those_that_fit<F: Fitting>(
 /// Keeps one input more, where it fits.
 fn keep(
     alloc: Global,
-    kept: &mut IndexMap<Node, Shared<Value>>,
+    kept: &mut Members<Node, Shared<Value>>,
     fits: bool,
     node: &Node,
     value: &Shared<Value>,
 ) -> Result<(), AllocError>
-    ensures { let more = insert_entry node_eq kept.old.entries node.now value.now in
-        IfOk result (λ _. kept.new.entries ≡ (if fits then more else kept.old.entries)) }
+    ensures { let more = define node_eq kept.old node.now value.now in
+        IfOk result (λ _. kept.new ≡ (if fits then more else kept.old)) }
 {
     if fits {
-        kept.insert(node.copy(alloc)?, value.copy()?)?;
+        kept.define(node.copy(alloc)?, value.copy()?)?;
         return Ok(());
     }
     return Ok(());

@@ -1,19 +1,14 @@
 -- The tables of kinds tell what each space has itself of a name.
-use Rattle.std.proofs.Common.{◌≡◌, ℕ, zero, suc, Bool, true, false, List, [], ◌∷◌, ◌++◌, length, Option, Some, None, Result, Ok, Err, IfOk, slice_get, ◌⊎◌, inl, inr, refl, sym, ◌∙◌, ap, subst}
-use Rattle.std.specs.Prelude.{option_map, option_and_then, is_some, if◌then◌else◌}
+use Rattle.std.proofs.Common.{◌≡◌, ℕ, zero, suc, List, [], ◌∷◌, length, Option, Some, None, Result, Ok, Err, IfOk, slice_get, refl, sym, ◌∙◌, ap, subst}
+use Rattle.std.specs.Prelude.{option_map, option_and_then}
 use Rattle.std.specs.Map.{lookup}
 use Rattle.std.specs.declared.alloc.AllocError.{AllocError}
 use Rattle.std.proofs.lemmas.Option.{same_Some}
 use Rattle.mx_value.specs.Name.{same_name}
-use Rattle.mx_model.specs.Records.{Name, Path, CellsRecord, SpaceRecord, ModelRecord}
-use Rattle.mx_edit.specs.declared.reference.RefValue.{RefValue}
+use Rattle.mx_model.specs.Records.{Name, SpaceRecord, ModelRecord}
 use Rattle.mx_c3.specs.declared.space.SpaceId.{SpaceId}
-use Rattle.mx_model.specs.declared.kind.Kind.{Kind}
-use Rattle.mx_model.specs.declared.kind.Kind.TheVariants as kind
-use Rattle.mx_model.specs.Layers.{id_of}
-use Rattle.mx_model.specs.Binding.{Child, or_child, or_other, own_member}
+use Rattle.mx_model.specs.Binding.{own_member}
 use Rattle.mx_model.specs.Lookup.{kind_of}
-use Rattle.mx_model.specs.Change.{define, without}
 use Rattle.mx_model.specs.Indexed.{Kinds, Tells, TellsAt, TellAll}
 
 -- there are as many tables as spaces

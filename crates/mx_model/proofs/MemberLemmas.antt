@@ -1,8 +1,7 @@
--- The words on members are those that `IndexMap` speaks of, and the ids of spaces are the places of their paths.
-use Rattle.std.proofs.Common.{◌≡◌, ◌∙◌, ℕ, if◌then◌else◌, List, [], ◌∷◌, Option, map, inl, inr, refl, subst, ap, lit<}
+-- The ids of spaces are the places of their paths.
+use Rattle.std.proofs.Common.{◌≡◌, ◌∙◌, ℕ, List, [], ◌∷◌, Option, map, inl, inr, refl, subst, ap, lit<}
 use Rattle.std.specs.Prelude.{position, option_map}
-use Rattle.indexmap.specs.IndexMap.{shift_remove_entry}
-use Rattle.mx_value.specs.Name.{same_name, same_path}
+use Rattle.mx_value.specs.Name.{same_path}
 use Rattle.mx_c3.specs.declared.space.SpaceId.{SpaceId}
 use Rattle.mx_model.specs.Records.{Path, SpaceRecord, beginning}
 use Rattle.mx_model.specs.Parents.{HasParent}
@@ -10,11 +9,6 @@ use Rattle.mx_c3.specs.Lists.{Has}
 use Rattle.mx_model.specs.Layers.{paths_of}
 use Rattle.mx_model.specs.Paths.{split_last}
 use Rattle.mx_model.specs.Indexed.{IsIndexed}
-use Rattle.mx_model.specs.Change.{without}
-
-pub without_same : {X : Type 0} (ms : List (List ℕ × X)) (name : List ℕ) → shift_remove_entry (same_name name) ms ≡ without same_name ms name
-without_same [] name = refl
-without_same {X} (m ∷ ms) name = ap (λ (r : List (List ℕ × X)). if same_name name m.0 then ms else m ∷ r) (without_same ms name)
 
 abbrev made : ℕ → SpaceId
 made n = record { 0 = n }

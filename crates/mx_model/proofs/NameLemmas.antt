@@ -1,10 +1,8 @@
 -- Members by name: what a change under one name leaves under the others.
-use Rattle.std.proofs.Common.{◌≡◌, ℕ, zero, suc, ◌+◌, Bool, true, false, List, [], ◌∷◌, ◌++◌, take, Option, Some, None, slice_get, refl, sym, ◌∙◌, ap, subst, arith}
+use Rattle.std.proofs.Common.{◌≡◌, Bool, true, false, List, [], ◌∷◌, Option, Some, None, refl, sym, ◌∙◌, ap}
 use Rattle.std.specs.Prelude.{if◌then◌else◌}
-use Rattle.std.specs.List.{IsDistinct, AllByRecursion}
-use Rattle.std.specs.Map.{lookup, keys_of}
+use Rattle.std.specs.Map.{lookup}
 use Rattle.std.proofs.lemmas.Option.{same_Some}
-use Rattle.indexmap.specs.IndexMap.{insert_entry}
 use Rattle.mx_value.specs.Name.{same_name}
 use Rattle.mx_value.proofs.Enums.{text_decides}
 use Rattle.mx_syntax.specs.declared.stmt.Formula.{Formula}
@@ -34,11 +32,6 @@ apart_by a b c false e s n = e
 
 pub apart : (a b c : Name) → same_name a c ≡ true → same_name a b ≡ false → same_name b c ≡ false
 apart a b c s n = apart_by a b c (same_name b c) refl s n
-
-fresh_by : (ks : List Name) (first k : Name) (i : ℕ) → AllByRecursion (λ y. same_name first y ≡ false) ks → slice_get ks i ≡ Some k → same_name first k ≡ false
-fresh_by [] first k i a at = absurd (let f : None ≡ Some k = at in cc)
-fresh_by (x ∷ ks) first k zero a at = let P : Name → Type 0 = λ y. same_name first y ≡ false in subst P (same_Some x k at) a.0
-fresh_by (x ∷ ks) first k (suc i) a at = fresh_by ks first k i a.1 at
 
 module _ {X : Type 0} where
   abbrev chosen : Bool → Option X → Option X → Option X
@@ -88,43 +81,6 @@ module _ {X : Type 0} where
   pub without_other : (name other : Name) (ms : List (Name × X)) → same_name name other ≡ false → lookup (same_name other) (without same_name ms name) ≡ lookup (same_name other) ms
   without_other name other [] n = refl
   without_other name other (m ∷ ms) n = without_by name other m ms (same_name name m.0) refl n (without_other name other ms n)
-
-  -- ---- a copy, member by member
-
-  key_at : (es : List (Name × X)) (i : ℕ) (k : Name) (v : X) → slice_get es i ≡ Some (k, v) → slice_get (keys_of es) i ≡ Some k
-  key_at [] i k v at = absurd (let f : None ≡ Some (k, v) = at in cc)
-  key_at (e ∷ es) zero k v at = ap (λ (m : Name × X). Some m.0) (same_Some e (k, v) at)
-  key_at (e ∷ es) (suc i) k v at = key_at es i k v at
-
-  -- a member is not among those before it
-  pub fresh_at : (es : List (Name × X)) (i : ℕ) (k : Name) (v : X) → IsDistinct same_name (keys_of es) → slice_get es i ≡ Some (k, v) → lookup (same_name k) (take i es) ≡ None
-  unfolding IsDistinct
-  fresh_at [] i k v d at = absurd (let f : None ≡ Some (k, v) = at in cc)
-  fresh_at (e ∷ es) zero k v d at = refl
-  fresh_at (e ∷ es) (suc i) k v d at =
-      let no = other_way e.0 k (fresh_by (keys_of es) e.0 k i d.0 (key_at es i k v at)) in
-      passed k e (take i es) no ∙ fresh_at es i k v d.1 at
-
-  insert_by : (e : Name × X) (es : List (Name × X)) (k : Name) (v : X) (b : Bool) → same_name k e.0 ≡ b → lookup (same_name k) (e ∷ es) ≡ None → (lookup (same_name k) es ≡ None → insert_entry same_name es k v ≡ es ++ (k, v) ∷ []) → insert_entry same_name (e ∷ es) k v ≡ e ∷ (es ++ (k, v) ∷ [])
-  insert_by e es k v true y n rest = absurd (let f : Some e.1 ≡ None = sym (taken k e es y) ∙ n in cc)
-  insert_by e es k v false y n rest =
-      ap (λ b. if b then (e.0, v) ∷ es else e ∷ insert_entry same_name es k v) y ∙ ap (λ (r : List (Name × X)). e ∷ r) (rest (sym (passed k e es y) ∙ n))
-
-  pub insert_fresh : (es : List (Name × X)) (k : Name) (v : X) → lookup (same_name k) es ≡ None → insert_entry same_name es k v ≡ es ++ (k, v) ∷ []
-  insert_fresh [] k v n = refl
-  insert_fresh (e ∷ es) k v n = insert_by e es k v (same_name k e.0) refl n (λ m. insert_fresh es k v m)
-
-  pub take_one : (es : List (Name × X)) (i : ℕ) (m : Name × X) → slice_get es i ≡ Some m → take i es ++ m ∷ [] ≡ take (suc i) es
-  take_one [] i m at = absurd (let f : None ≡ Some m = at in cc)
-  take_one (e ∷ es) zero m at = ap (λ (x : Name × X). x ∷ []) (sym (same_Some e m at))
-  take_one (e ∷ es) (suc i) m at = ap (λ (r : List (Name × X)). e ∷ r) (take_one es i m at)
-
-  -- one member more is copied
-  pub copy_more : (es copied : List (Name × X)) (i : ℕ) (k : Name) (v : X) (k' : Name) (v' : X) (after : List (Name × X)) → IsDistinct same_name (keys_of es) → copied ≡ take i es → slice_get es i ≡ Some (k, v) → k' ≡ k → v' ≡ v → after ≡ insert_entry same_name copied k' v' → after ≡ take (i + 1) es
-  copy_more es copied i k v k' v' after d e at same_k same_v is =
-      let next : suc i ≡ i + 1 = omega arith in
-      is ∙ ap (λ (q : Name). insert_entry same_name copied q v') same_k ∙ ap (insert_entry same_name copied k) same_v ∙
-      ap (λ (c : List (Name × X)). insert_entry same_name c k v) e ∙ insert_fresh (take i es) k v (fresh_at es i k v d at) ∙ take_one es i (k, v) at ∙ ap (λ n. take n es) next
 
 -- ---- cells
 

@@ -1,10 +1,10 @@
 -- One space in the place of another of the same path.
-use Rattle.std.proofs.Common.{◌≡◌, ℕ, zero, suc, ◌<◌, ◌^◌, Bool, true, false, List, [], ◌∷◌, ◌++◌, map, length, set, get_or, Option, Some, None, slice_get, inl, inr, refl, sym, ◌∙◌, ap, subst, arith}
+use Rattle.std.proofs.Common.{◌≡◌, ℕ, zero, suc, ◌<◌, ◌^◌, Bool, true, false, List, [], ◌∷◌, ◌++◌, map, length, set, get_or, Option, Some, None, slice_get, inl, inr, refl, sym, ◌∙◌, ap, subst}
 use Rattle.std.specs.Prelude.{IsTrue, is_some, position, option_map, if◌then◌else◌}
 use Rattle.std.specs.List.{filter_map}
 use Rattle.std.specs.Map.{lookup}
-use Rattle.std.proofs.lemmas.Option.{same_Some, slice_get-map, slice_get-get_or, slice_get_within}
-use Rattle.std.proofs.lemmas.List.{length-set, set-get_or}
+use Rattle.std.proofs.lemmas.Option.{same_Some, slice_get-map, slice_get-get_or}
+use Rattle.std.proofs.lemmas.List.{length-set}
 use Rattle.mx_value.specs.Name.{same_name, same_path}
 use Rattle.mx_value.proofs.NodeSames.{path_decides}
 use Rattle.mx_c3.specs.declared.space.SpaceId.{SpaceId}
@@ -23,7 +23,6 @@ use Rattle.mx_model.specs.Parents.{HasParent}
 use Rattle.mx_model.specs.Paths.{split_last}
 use Rattle.mx_model.specs.Indexed.{Kinds, Tells, TellAll, ArePlaced, IsIndexed}
 use Rattle.mx_model.proofs.Filtered.{place_has, has_map}
-use Rattle.mx_model.proofs.KindLemmas.{tables_many, tells_at}
 use Rattle.mx_model.proofs.Places.{id_at}
 
 abbrev made : ℕ → SpaceId

@@ -11,21 +11,12 @@ use Rattle.mx_syntax.specs.declared.stmt.Param.{Param}
 use Rattle.mx_edit.specs.declared.reference.RefValue.{RefValue}
 use Rattle.mx_edit.specs.declared.edit.Edit.{Edit}
 use Rattle.mx_edit.specs.declared.edit.Edit.TheVariants as edit
+pub use Rattle.mx_members.specs.Words.{define, without}
 use Rattle.mx_model.specs.Records.{Name, Path, CellsRecord, SpaceRecord, ModelRecord, empty_space}
 use Rattle.mx_model.specs.Keys.{node_eq}
 use Rattle.mx_model.specs.Inputs.{cells_params, path_of}
 
 -- ---- members by key, in order of first definition
-
--- the value of a key, at its place where the key is there and else at the end
-abbrev pub define : {K X : Type 0} → (K → K → Bool) → List (K × X) → K → X → List (K × X)
-define same [] key x = (key, x) ∷ []
-define same (m ∷ ms) key x = if same key m.0 then (m.0, x) ∷ ms else m ∷ define same ms key x
-
--- without the first entry of a key
-abbrev pub without : {K X : Type 0} → (K → K → Bool) → List (K × X) → K → List (K × X)
-without same [] key = []
-without same (m ∷ ms) key = if same key m.0 then ms else m ∷ without same ms key
 
 -- cells that are there keep their setting; new ones do not allow None
 abbrev pub define_cells : List (Name × CellsRecord) → Name → Formula → List (Name × CellsRecord)

@@ -8,14 +8,14 @@ ghost use Rattle.mx_model.specs.Indexed.{Tells, ArePlaced};
 
 use crate::beside::{lists_of, paths_of};
 use crate::kind::Kind;
-use crate::members::Members;
 use crate::space::Space;
 use crate::text::{ModelText, copy_all};
-use indexmap::IndexMap;
 use mx_c3::space::SpaceId;
 use mx_edit::reference::RefValue;
 use mx_edit::table::Table;
 use mx_list::shared::Shared;
+use mx_members::members::Members;
+use mx_value::label::Label;
 use mx_value::node::Node;
 use mx_value::value::Value;
 use std::alloc::{AllocError, Global};
@@ -27,7 +27,7 @@ impl ModelText {
         alloc: Global,
         s: SpaceId,
         space: Space,
-        kinds: Shared<Members<Kind>>,
+        kinds: Shared<Members<Label, Kind>>,
     ) -> Result<ModelText, AllocError>
         requires within { s.0 < length self.now.spaces }
         requires stays { (old : SpaceRecord) →
@@ -58,7 +58,7 @@ impl ModelText {
         &self,
         alloc: Global,
         spaces: Vec<Shared<Space>>,
-        kinds: Vec<Shared<Members<Kind>>>,
+        kinds: Vec<Shared<Members<Label, Kind>>>,
     ) -> Result<ModelText, AllocError>
         requires { ArePlaced kinds.items (record self.now { spaces = spaces.items }) }
         ensures { IfOk result (λ t. t ≡ record self.now { spaces = spaces.items }) }
@@ -80,7 +80,7 @@ impl ModelText {
     pub fn with_globals(
         &self,
         alloc: Global,
-        globals: Members<RefValue>,
+        globals: Members<Label, RefValue>,
     ) -> Result<ModelText, AllocError>
         ensures { IfOk result (λ t. t ≡ record self.now { globals = globals }) }
     {
@@ -101,7 +101,7 @@ impl ModelText {
     pub fn with_tables(
         &self,
         alloc: Global,
-        tables: Members<Table>,
+        tables: Members<Label, Table>,
     ) -> Result<ModelText, AllocError>
         ensures { IfOk result (λ t. t ≡ record self.now { tables = tables }) }
     {
@@ -122,9 +122,9 @@ impl ModelText {
     pub fn with_inputs(
         &self,
         alloc: Global,
-        inputs: IndexMap<Node, Shared<Value>>,
+        inputs: Members<Node, Shared<Value>>,
     ) -> Result<ModelText, AllocError>
-        ensures { IfOk result (λ t. t ≡ record self.now { inputs = inputs.entries }) }
+        ensures { IfOk result (λ t. t ≡ record self.now { inputs = inputs }) }
     {
         let spaces = copy_all(alloc, self.spaces.as_slice())?;
         let kinds = copy_all(alloc, self.kinds.as_slice())?;

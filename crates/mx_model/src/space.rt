@@ -5,11 +5,11 @@ ghost use Rattle.std.specs.Map.{lookup};
 ghost use Rattle.mx_value.specs.Name.{same_name};
 ghost use Rattle.mx_model.specs.Readers.{cells_of, name_at, or_false};
 
-use crate::members::Members;
 use mx_code::compiled::{Compiled, CompiledParams};
 use mx_edit::reference::RefValue;
 use mx_list::list::List;
 use mx_list::shared::Shared;
+use mx_members::members::Members;
 use mx_value::label::Label;
 use mx_value::node::Path;
 use std::alloc::{AllocError, Global};
@@ -42,8 +42,8 @@ pub struct Space {
     pub path: Path,
     pub bases: List<Path>,
     pub params: Option<CompiledParams>,
-    pub cells: Shared<Members<Cells>>,
-    pub references: Shared<Members<RefValue>>,
+    pub cells: Shared<Members<Label, Cells>>,
+    pub references: Shared<Members<Label, RefValue>>,
 }
 
 impl Model for Space {
@@ -70,8 +70,8 @@ impl Space {
             path,
             bases,
             params: None,
-            cells: Shared::new(alloc, Members::new(alloc))?,
-            references: Shared::new(alloc, Members::new(alloc))?,
+            cells: Shared::new(alloc, Members::new(alloc)?)?,
+            references: Shared::new(alloc, Members::new(alloc)?)?,
         })
     }
 
@@ -115,13 +115,13 @@ impl Space {
     pub fn cells_at(&self, place: u32) -> Option<&Label>
         ensures { option_copied result ≡ name_at self.now.cells place }
     {
-        self.cells.get().name_at(place as usize)
+        self.cells.get().key_at(place as usize)
     }
 
     /// The name of the reference at a place, from 0.
     pub fn reference_at(&self, place: u32) -> Option<&Label>
         ensures { option_copied result ≡ name_at self.now.references place }
     {
-        self.references.get().name_at(place as usize)
+        self.references.get().key_at(place as usize)
     }
 }

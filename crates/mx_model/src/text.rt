@@ -10,9 +10,8 @@ ghost use Rattle.mx_model.specs.Indexed.{TellsAt, ArePlaced};
 ghost use Rattle.mx_model.specs.Readers.{path_in, formula_in, allows_in, reference_in, params_in, name_at, cells_at, reference_at};
 
 use crate::kind::Kind;
-use crate::members::Members;
 use crate::space::Space;
-use indexmap::{IndexMap, IndexSet};
+use indexmap::IndexSet;
 use mx_c3::lists::{BaseLists, Order};
 use mx_c3::space::SpaceId;
 use mx_code::compiled::{Compiled, CompiledParams};
@@ -20,6 +19,7 @@ use mx_edit::reference::RefValue;
 use mx_edit::table::Table;
 use mx_list::list::List;
 use mx_list::shared::Shared;
+use mx_members::members::Members;
 use mx_syntax::stmt::{Formula, Params};
 use mx_value::label::Label;
 use mx_value::node::{Node, Path};
@@ -34,12 +34,12 @@ pub struct ModelText {
     pub(crate) paths: Shared<IndexSet<Path>>,
     pub(crate) spaces: Vec<Shared<Space>>,
     /// What each space has itself of each name, by its place.
-    pub(crate) kinds: Vec<Shared<Members<Kind>>>,
+    pub(crate) kinds: Vec<Shared<Members<Label, Kind>>>,
     /// The bases of each space by its place.
     pub(crate) lists: Shared<BaseLists>,
-    pub(crate) globals: Shared<Members<RefValue>>,
-    pub(crate) inputs: Shared<IndexMap<Node, Shared<Value>>>,
-    pub(crate) tables: Shared<Members<Table>>,
+    pub(crate) globals: Shared<Members<Label, RefValue>>,
+    pub(crate) inputs: Shared<Members<Node, Shared<Value>>>,
+    pub(crate) tables: Shared<Members<Label, Table>>,
 }
 
 impl Model for ModelText {
@@ -56,9 +56,9 @@ impl Model for ModelText {
 
     ghost coded = { Prim.hlevel (codes, value.the_row.coded, node.the_row.coded, expr.the_row.coded, stmt.the_row.coded, ref_value.the_row.coded) };
 
-    ghost view = { λ t. record { spaces = t.spaces.items; globals = t.globals; inputs = t.inputs.entries; tables = t.tables } };
+    ghost view = { λ t. record { spaces = t.spaces.items; globals = t.globals; inputs = t.inputs; tables = t.tables } };
 
-    ghost invariant = { λ t. IsIndexed t.paths.keys t.lists t.kinds.items (record { spaces = t.spaces.items; globals = t.globals; inputs = t.inputs.entries; tables = t.tables }) };
+    ghost invariant = { λ t. IsIndexed t.paths.keys t.lists t.kinds.items (record { spaces = t.spaces.items; globals = t.globals; inputs = t.inputs; tables = t.tables }) };
 }
 
 impl ModelText {
@@ -76,9 +76,9 @@ impl ModelText {
             spaces,
             kinds,
             lists: Shared::new(alloc, lists)?,
-            globals: Shared::new(alloc, Members::new(alloc))?,
-            inputs: Shared::new(alloc, IndexMap::new(alloc))?,
-            tables: Shared::new(alloc, Members::new(alloc))?,
+            globals: Shared::new(alloc, Members::new(alloc)?)?,
+            inputs: Shared::new(alloc, Members::new(alloc)?)?,
+            tables: Shared::new(alloc, Members::new(alloc)?)?,
         })
     }
 
@@ -245,22 +245,21 @@ impl ModelText {
     pub fn global_at(&self, place: u32) -> Option<&Label>
         ensures { option_copied result ≡ name_at self.now.globals place }
     {
-        self.globals.get().name_at(place as usize)
+        self.globals.get().key_at(place as usize)
     }
 
     /// The name of a table by place, from 0.
     pub fn table_at(&self, place: u32) -> Option<&Label>
         ensures { option_copied result ≡ name_at self.now.tables place }
     {
-        self.tables.get().name_at(place as usize)
+        self.tables.get().key_at(place as usize)
     }
 
     /// The node of an input by place, from 0.
     pub fn input_at(&self, place: u32) -> Option<&Node>
         ensures { option_copied result ≡ option_map (λ i. i.0) (slice_get self.now.inputs place) }
     {
-        let (node, _) = self.inputs.get().get_index(place as usize)?;
-        Some(node)
+        self.inputs.get().key_at(place as usize)
     }
 
     /// The defined spaces, in order of creation.
@@ -271,35 +270,35 @@ impl ModelText {
     }
 
     /// What each space has itself of each name, by its place.
-    pub fn kinds(&self) -> &[Shared<Members<Kind>>]
+    pub fn kinds(&self) -> &[Shared<Members<Label, Kind>>]
         ensures { ArePlaced result.now self.now }
     {
         self.kinds.as_slice()
     }
 
     /// The references of the model.
-    pub fn globals(&self) -> &Members<RefValue>
+    pub fn globals(&self) -> &Members<Label, RefValue>
         ensures { result.now ≡ self.now.globals }
     {
         self.globals.get()
     }
 
-    /// The inputs, by hash.
-    pub fn inputs(&self) -> &IndexMap<Node, Shared<Value>>
-        ensures { result.now.entries ≡ self.now.inputs }
+    /// The inputs.
+    pub fn inputs(&self) -> &Members<Node, Shared<Value>>
+        ensures { result.now ≡ self.now.inputs }
     {
         self.inputs.get()
     }
 
     /// The tables.
-    pub fn tables(&self) -> &Members<Table>
+    pub fn tables(&self) -> &Members<Label, Table>
         ensures { result.now ≡ self.now.tables }
     {
         self.tables.get()
     }
 
     /// What a space has itself of each name.
-    pub fn kinds_at(&self, s: SpaceId) -> Result<Shared<Members<Kind>>, AllocError>
+    pub fn kinds_at(&self, s: SpaceId) -> Result<Shared<Members<Label, Kind>>, AllocError>
         requires { s.0 < length self.now.spaces }
         ensures { IfOk result (λ kinds. TellsAt self.now s kinds) }
     {
@@ -368,11 +367,11 @@ fn one_space(alloc: Global, path: Path) -> Result<Vec<Shared<Space>>, AllocError
 }
 
 /// The kinds of one space without members.
-fn one_table(alloc: Global) -> Result<Vec<Shared<Members<Kind>>>, AllocError>
+fn one_table(alloc: Global) -> Result<Vec<Shared<Members<Label, Kind>>>, AllocError>
     ensures { IfOk result (λ kinds. kinds.items ≡ [] ∷ []) }
 {
     let mut kinds = Vec::new(alloc);
-    kinds.push(Shared::new(alloc, Members::new(alloc))?)?;
+    kinds.push(Shared::new(alloc, Members::new(alloc)?)?)?;
     Ok(kinds)
 }
 

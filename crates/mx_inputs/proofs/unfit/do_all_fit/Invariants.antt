@@ -6,4 +6,4 @@ use Rattle.mx_model.specs.Inputs.{fits}
 use Rattle.mx_inputs.proofs.unfit.do_all_fit.Given as goal
 
 abbrev pub invariant-loop-place : goal.invariant-loop-place
-invariant-loop-place g l = list_all (λ (input : Node × Value). fits (g.F.Fitting.text l.fitting) input.0) (take l.place l.inputs.entries) ≡ true
+invariant-loop-place g l = list_all (λ (input : Node × Value). fits (g.F.Fitting.text l.fitting) input.0) (take l.place l.inputs) ≡ true

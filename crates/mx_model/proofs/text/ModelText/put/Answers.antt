@@ -32,6 +32,6 @@ returns c path change id made =
     let index = subst P c.self.view_is c.self.invariant in
     let spaces = c.in_ok-spaces.ensures ∙ c.as_slice.ensures.value ∙ ap (λ (t : ModelRecord). t.spaces) c.self.view_is in
     let globals = c.in_ok-copy-3.ensures ∙ ap (λ (t : ModelRecord). t.globals) c.self.view_is in
-    let inputs = ap (λ m. m.entries) c.in_ok-copy-4.ensures ∙ ap (λ (t : ModelRecord). t.inputs) c.self.view_is in
+    let inputs = c.in_ok-copy-4.ensures ∙ ap (λ (t : ModelRecord). t.inputs) c.self.view_is in
     let tables = c.in_ok-copy-5.ensures ∙ ap (λ (t : ModelRecord). t.tables) c.self.view_is in
     put_changed text _ path change c.args.s c.args.space c.in_ok-spaces-2.field-0 c.in_ok-spaces.spaces.items index.placed.once id c.requires.within made spaces c.in_ok-spaces-2.ensures refl globals inputs tables

@@ -1,0 +1,5 @@
+//! Members by key, whose copies share what they are made of.
+#![tactic(auto)]
+
+pub mod members;
+pub mod share;

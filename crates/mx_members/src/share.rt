@@ -1,0 +1,46 @@
+//! What is copied at once.
+ghost use Rattle.std.specs.Prelude.{◌≡◌, IfOk};
+
+use mx_edit::reference::RefValue;
+use mx_edit::table::Table;
+use mx_list::shared::Shared;
+use mx_value::label::Label;
+use mx_value::node::Node;
+use std::alloc::{AllocError, Global};
+
+/// What is copied at once: a copy shares what it is made of.
+pub trait Share: Drop {
+    /// An equal value.
+    fn share(&self, alloc: Global) -> Result<Self, AllocError>
+        ensures { IfOk result (λ c. c ≡ self.now) };
+}
+
+impl Share for Label {
+    fn share(&self, _alloc: Global) -> Result<Label, AllocError> {
+        self.copy()
+    }
+}
+
+impl Share for Node {
+    fn share(&self, alloc: Global) -> Result<Node, AllocError> {
+        self.copy(alloc)
+    }
+}
+
+impl Share for RefValue {
+    fn share(&self, _alloc: Global) -> Result<RefValue, AllocError> {
+        self.copy()
+    }
+}
+
+impl Share for Table {
+    fn share(&self, _alloc: Global) -> Result<Table, AllocError> {
+        self.copy()
+    }
+}
+
+impl<T: Drop> Share for Shared<T> {
+    fn share(&self, _alloc: Global) -> Result<Shared<T>, AllocError> {
+        self.copy()
+    }
+}
