@@ -81,7 +81,7 @@ module _ (before after : ModelRecord) where
 
     -- ---- they are all
 
-    one_is : (n m : Node) (b : Bool) → test n ≡ b → Has (cond b (n ∷ []) []) m → test m ≡ true
+    pub one_is : (n m : Node) (b : Bool) → test n ≡ b → Has (cond b (n ∷ []) []) m → test m ≡ true
     one_is n m true e h = elim h [ inl is ↦ subst (λ (x : Node). test x ≡ true) is e | inr r ↦ absurd r ]
     one_is n m false e h = absurd h
 
