@@ -14,7 +14,7 @@ use Rattle.mx_model.specs.Apply.{changed, Apply, IsRefused, HasRing, IsOver, IsS
 use Rattle.mx_paths.specs.Names.{IsNamed}
 use Rattle.mx_paths.proofs.PathOrder.{First, Same, Second, ordered}
 use Rattle.mx_paths.proofs.Statics.{static_names}
-use Rattle.mx_world.proofs.Named.{named_after}
+use Rattle.mx_prepare.proofs.Named.{named_after}
 
 -- what is told of it
 abbrev pub told : Result ModelRecord EditRefusal → Result ModelRecord Text

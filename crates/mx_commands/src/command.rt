@@ -1,5 +1,6 @@
 //! The answer to one command.
 ghost use Rattle.std.specs.Prelude.{◌≡◌, [], OnOk};
+ghost use Rattle.mx_proper_commands.specs.Laws.{IsProperCommand};
 ghost use Rattle.mx_commands.specs.Step.{Step, command_at, CarriesOut, IsReadCommand};
 
 use crate::changes::edit;
@@ -28,6 +29,7 @@ pub fn answer<L: Ledger>(
         OnOk result (Step engine.old command block.new.items engine.new) }
 {
     mx_read_edits::laws::laws();
+    mx_proper_commands::laws::laws();
     block.clear();
     match read_command(alloc, &WORDS, text) {
         Ok(command) => {
@@ -51,6 +53,7 @@ fn carry_out<L: Ledger>(
 ) -> Result<(), AllocError>
     requires empty { block.old.items ≡ [] }
     requires read { IsReadCommand command }
+    requires proper { IsProperCommand command }
     ensures { OnOk result (CarriesOut engine.old command block.new.items engine.new) }
 {
     match command {

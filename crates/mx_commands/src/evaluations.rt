@@ -1,5 +1,6 @@
 //! Values and precedents.
 ghost use Rattle.std.specs.Prelude.{◌≡◌, [], OnOk};
+ghost use Rattle.mx_state.specs.Proper.{IsProper};
 ghost use Rattle.mx_commands.specs.Step.{TellsValue, TellsPrecedents};
 
 use mx_engine::engine::Engine;
@@ -16,7 +17,8 @@ pub(crate) fn evaluate<L: Ledger>(
     node: &Node,
     steps: &mut Steps<L>,
 ) -> Result<(), AllocError>
-    requires { block.old.items ≡ [] }
+    requires empty { block.old.items ≡ [] }
+    requires proper { IsProper node.now }
     ensures { OnOk result (TellsValue engine.old node.now block.new.items engine.new) }
 {
     mx_state::laws::laws();
@@ -39,7 +41,8 @@ pub(crate) fn precedents<L: Ledger>(
     node: &Node,
     steps: &mut Steps<L>,
 ) -> Result<(), AllocError>
-    requires { block.old.items ≡ [] }
+    requires empty { block.old.items ≡ [] }
+    requires proper { IsProper node.now }
     ensures { OnOk result (TellsPrecedents engine.old node.now block.new.items engine.new) }
 {
     match engine.precedents(node, steps) {

@@ -6,6 +6,7 @@ use Rattle.mx_entries.specs.Entries.{IsKept}
 use Rattle.mx_machine.specs.States.{state_of}
 use Rattle.mx_state.specs.Model.{model_of}
 use Rattle.mx_state.specs.State.{State, IsRightState}
+use Rattle.mx_engine.specs.Proper.{IsProperState}
 
 -- how many nodes a chain may have at first
 abbrev pub first_limit : ℕ
@@ -19,3 +20,8 @@ first_state = record { text = beginning; held = []; limit = first_limit }
 pub record IsSound (text : ModelRecord) (memory : Memory) (limit : ℕ) : Type 0 where
   pub right : IsRightState (state_of text memory limit)
   pub kept : IsKept (model_of text) memory
+
+-- What is true of each engine. It is sound, its text has small literals, and each held node is one that may be handed in.
+pub record IsEngine (text : ModelRecord) (memory : Memory) (limit : ℕ) : Type 0 where
+  pub sound : IsSound text memory limit
+  pub proper : IsProperState (state_of text memory limit)

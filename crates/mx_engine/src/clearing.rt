@@ -1,7 +1,7 @@
 //! Clearings, and other worlds.
 ghost use Rattle.std.specs.Prelude.{◌≡◌, ◌+◌, [], length};
 ghost use Rattle.mx_state.specs.Changes.{Clearing};
-ghost use Rattle.mx_engine.specs.Proper.{IsProperState};
+ghost use Rattle.mx_proper.specs.Texts.{IsSmallText};
 ghost use Rattle.mx_engine.specs.Scopes.{DropsScope};
 
 use crate::engine::Engine;
@@ -16,7 +16,6 @@ impl Engine {
     pub fn clear(&mut self, scope: &Scope) -> u32
         ensures clears { Clearing self.old scope.now self.new }
         ensures dropped { result + length self.new.held ≡ length self.old.held }
-        ensures proper { IsProperState self.old → IsProperState self.new }
     {
         mx_state::laws::laws();
         mx_entries::laws::laws();
@@ -25,6 +24,7 @@ impl Engine {
 
     /// Puts another world in the place of the engine's own. Nothing is held then, and the limit stays. Takes no memory.
     pub fn replace(&mut self, world: World)
+        requires { IsSmallText world }
         ensures { self.new ≡ record self.old { text = world; held = [] } }
     {
         mx_state::laws::laws();

@@ -4,7 +4,6 @@ ghost use Rattle.mx_model.specs.Literals.{IsRead};
 ghost use Rattle.mx_state.specs.Changes.{Edits};
 ghost use Rattle.mx_proper.specs.Texts.{IsSmallEdit};
 ghost use Rattle.mx_engine.specs.Edited.{HasEdited};
-ghost use Rattle.mx_engine.specs.Proper.{IsProperState};
 ghost use Rattle.mx_engine.specs.Refused.{IsRefusedBy};
 
 use crate::engine::Engine;
@@ -12,7 +11,7 @@ use mx_edit::edit::Edit;
 use mx_edit::refusal::EditRefusal;
 use mx_memo::Memo;
 use mx_prepare::prepare::{commit, prepare};
-use mx_retain::inputs::changed_inputs;
+use mx_retain::inputs::changed_by;
 use mx_retain::retain::keep_unchanged;
 use mx_world::world::World;
 use std::alloc::Global;
@@ -21,12 +20,12 @@ impl Engine {
     /// Changes the text, and tells how many held nodes are dropped: those that looked up what is changed, and all that reach
     /// one of them. A refused edit changes nothing. All memory is taken before anything changes.
     pub fn edit(&mut self, edit: &Edit) -> Result<u32, EditRefusal>
-        requires { IsRead edit.now }
+        requires read { IsRead edit.now }
+        requires small { IsSmallEdit edit.now }
         ensures accepted { OnOk result (Edits self.old edit.now self.new) }
         ensures dropped { IfOk result (λ n. n + length self.new.held ≡ length self.old.held) }
         ensures refused { OnErr result (self.new ≡ self.old) }
         ensures exact { IsRefusedBy self.old.text edit.now result }
-        ensures proper { IsSmallEdit edit.now → IsProperState self.old → IsProperState self.new }
     {
         change(self.alloc, edit, &mut self.world, &mut self.memo)
     }
@@ -54,7 +53,7 @@ fn change(
     };
     let next = prepared.world();
     let _ = next.text();
-    let Ok(inputs) = changed_inputs(alloc, world, next) else {
+    let Ok(inputs) = changed_by(alloc, world, next, edit) else {
         return Err(EditRefusal::NoMemory);
     };
     let dropped = keep_unchanged(world, next, inputs.as_slice(), memo);

@@ -5,6 +5,7 @@ ghost use Rattle.mx_answers.specs.Held.{nodes_of};
 ghost use Rattle.mx_state.specs.Evaluations.{HasBoundForm};
 ghost use Rattle.mx_state.specs.State.{IsRightState};
 ghost use Rattle.mx_engine.specs.Engine.{first_state};
+ghost use Rattle.mx_engine.specs.Proper.{IsProperState};
 
 use crate::holds::holds;
 use mx_machine::bound::bound;
@@ -18,7 +19,7 @@ use std::marker::Model;
 /// How many nodes a chain may have at first.
 const FIRST_LIMIT: usize = 5_000;
 
-/// A world with what is held for it. Contracts see the state, which is right after each call.
+/// A world with what is held for it. Contracts see the state, which is right and proper after each call.
 #[derive(Drop)]
 pub struct Engine {
     pub(crate) alloc: Global,
@@ -38,7 +39,7 @@ impl Model for Engine {
     ghost use Rattle.mx_edit.specs.contracts.reference.RefValue as ref_value;
     ghost use Rattle.mx_machine.specs.States.{state_of};
     ghost use Rattle.mx_state.specs.State.{State};
-    ghost use Rattle.mx_engine.specs.Engine.{IsSound};
+    ghost use Rattle.mx_engine.specs.Engine.{IsEngine};
 
     ghost Value = { State };
 
@@ -46,7 +47,7 @@ impl Model for Engine {
 
     ghost view = { λ e. state_of e.world e.memo e.limit };
 
-    ghost invariant = { λ e. IsSound e.world e.memo e.limit };
+    ghost invariant = { λ e. IsEngine e.world e.memo e.limit };
 }
 
 impl Engine {
@@ -68,10 +69,12 @@ impl Engine {
         });
     }
 
-    /// The world. With it comes what is true of each engine: its state is right.
+    /// The world. With it comes what is true of each engine: its state is right, its text has small literals, and its held nodes
+    /// are proper.
     pub fn world(&self) -> &World
         ensures exact { result.now ≡ self.now.text }
         ensures right { IsRightState self.now }
+        ensures proper { IsProperState self.now }
     {
         &self.world
     }

@@ -4,7 +4,6 @@ ghost use Rattle.mx_machine.specs.States.{state_of};
 ghost use Rattle.mx_state.specs.Evaluations.{Evaluates, HasPrecedents};
 ghost use Rattle.mx_state.specs.Proper.{IsProper};
 ghost use Rattle.mx_engine.specs.Engine.{IsSound};
-ghost use Rattle.mx_engine.specs.Proper.{IsProperState};
 
 use crate::engine::Engine;
 use crate::gaps::{close_gaps, keep_first};
@@ -28,8 +27,8 @@ impl Engine {
         node: &Node,
         steps: &mut Steps<L>,
     ) -> Result<Value, EvalRefusal>
+        requires { IsProper node.now }
         ensures evaluates { Evaluates self.old node.now result (steps.new - steps.old) self.new }
-        ensures proper { IsProper node.now → IsProperState self.old → IsProperState self.new }
         ensures ticks { steps.old ≤ steps.new }
     {
         let request = Request {
@@ -46,9 +45,9 @@ impl Engine {
         node: &Node,
         steps: &mut Steps<L>,
     ) -> Result<Reads, EvalRefusal>
+        requires { IsProper node.now }
         ensures precedents { let ticks = steps.new - steps.old in
             HasPrecedents self.old node.now result ticks self.new }
-        ensures proper { IsProper node.now → IsProperState self.old → IsProperState self.new }
         ensures ticks { steps.old ≤ steps.new }
     {
         let request = Request {

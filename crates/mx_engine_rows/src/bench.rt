@@ -1,4 +1,7 @@
 //! What rows are carried out on.
+ghost use Rattle.mx_engine_rows.specs.Rows.{IsFit, IsFitCommand};
+
+use crate::apart::Apart;
 use crate::changes::{change, change_apart, clear, replace, set_limit};
 use crate::evaluations::{evaluate, precedents, ticks};
 use crate::reading::{Deed, NoRow, read_row};
@@ -8,7 +11,6 @@ use mx_print::append::push;
 use mx_script::Command;
 use mx_text::form::push_form_refusal;
 use mx_turns::steps::Steps;
-use mx_world::world::World;
 use std::alloc::{AllocError, Global};
 use std::sync::ledger::Ledger;
 
@@ -21,7 +23,7 @@ pub struct Bench {
     pub alloc: Global,
     pub engine: Engine,
     pub limit: u32,
-    pub apart: World,
+    pub apart: Apart,
 }
 
 impl Bench {
@@ -30,7 +32,7 @@ impl Bench {
             alloc,
             engine: Engine::new(alloc)?,
             limit: FIRST_LIMIT,
-            apart: World::new(alloc)?,
+            apart: Apart::new(alloc)?,
         })
     }
 }
@@ -58,7 +60,9 @@ fn act<L: Ledger>(
     deed: Deed,
     steps: &mut Steps<L>,
     out: &mut Vec<u8>,
-) -> Result<(), AllocError> {
+) -> Result<(), AllocError>
+    requires { IsFit deed }
+{
     match deed {
         Deed::Command(command) => obey(bench, command, steps, out),
         Deed::Ticks(node) => ticks(bench, &node, steps, out),
@@ -76,7 +80,9 @@ fn obey<L: Ledger>(
     command: Command,
     steps: &mut Steps<L>,
     out: &mut Vec<u8>,
-) -> Result<(), AllocError> {
+) -> Result<(), AllocError>
+    requires { IsFitCommand command }
+{
     match command {
         Command::Edit(edit) => change(&mut bench.engine, &edit, out),
         Command::Eval(node) => evaluate(&mut bench.engine, &node, steps, out),

@@ -1,19 +1,19 @@
 //! Rows that change an engine.
+ghost use Rattle.mx_engine_rows.specs.Rows.{IsFitEdit};
+
+use crate::apart::Apart;
 use crate::bench::Bench;
 use mx_edit::edit::Edit;
 use mx_edit::scope::Scope;
 use mx_engine::engine::Engine;
-use mx_prepare::prepare::{commit, is_read, prepare};
 use mx_print::append::{push, push_number};
 use mx_text::blocks::{push_accepted, push_cleared_block, push_refused, push_refused_edit};
-use mx_world::world::World;
 use std::alloc::{AllocError, Global};
 
 /// Makes an edit. The answer is `ok`, and how many nodes were dropped, where there are some.
-pub fn change(engine: &mut Engine, edit: &Edit, out: &mut Vec<u8>) -> Result<(), AllocError> {
-    if !is_read(edit) {
-        return push(out, b"not read\n");
-    }
+pub fn change(engine: &mut Engine, edit: &Edit, out: &mut Vec<u8>) -> Result<(), AllocError>
+    requires { IsFitEdit edit.now }
+{
     match engine.edit(edit) {
         Ok(dropped) => push_dropped(out, dropped),
         Err(refusal) => push_refused_edit(out, &refusal),
@@ -32,27 +32,23 @@ fn push_dropped(out: &mut Vec<u8>, dropped: u32) -> Result<(), AllocError> {
 /// Makes an edit of the world that stands apart.
 pub fn change_apart(
     alloc: Global,
-    apart: &mut World,
+    apart: &mut Apart,
     edit: &Edit,
     out: &mut Vec<u8>,
-) -> Result<(), AllocError> {
-    if !is_read(edit) {
-        return push(out, b"not read\n");
-    }
-    match prepare(alloc, apart, edit) {
-        Ok(prepared) => {
-            commit(prepared, apart);
-            push_accepted(out)
-        }
+) -> Result<(), AllocError>
+    requires { IsFitEdit edit.now }
+{
+    match apart.change(alloc, edit) {
+        Ok(()) => push_accepted(out),
         Err(refusal) => push_refused_edit(out, &refusal),
     }
 }
 
 /// Puts the world that stands apart into the engine, and a new one in its place.
 pub fn replace(bench: &mut Bench, out: &mut Vec<u8>) -> Result<(), AllocError> {
-    let next = World::new(bench.alloc)?;
-    let world = std::mem::replace(&mut bench.apart, next);
-    bench.engine.replace(world);
+    let next = Apart::new(bench.alloc)?;
+    let apart = std::mem::replace(&mut bench.apart, next);
+    bench.engine.replace(apart.into_world());
     push_accepted(out)
 }
 

@@ -1,5 +1,6 @@
 //! Rows that evaluate a node.
 ghost use Rattle.std.specs.Prelude.{◌≡◌, ◌-◌, IfOk};
+ghost use Rattle.mx_state.specs.Proper.{IsProper};
 
 use crate::bench::Bench;
 use mx_engine::engine::Engine;
@@ -27,6 +28,7 @@ fn tell<L: Ledger>(
     node: &Node,
     steps: &mut Steps<L>,
 ) -> Result<Told, EvalRefusal>
+    requires { IsProper node.now }
     ensures { IfOk result (λ told. told.runs ≡ steps.new - steps.old) }
 {
     mx_state::laws::laws();
@@ -46,7 +48,9 @@ pub fn evaluate<L: Ledger>(
     node: &Node,
     steps: &mut Steps<L>,
     out: &mut Vec<u8>,
-) -> Result<(), AllocError> {
+) -> Result<(), AllocError>
+    requires { IsProper node.now }
+{
     match tell(engine, node, steps) {
         Ok(told) => push_value_block(out, &told.value, told.runs),
         Err(refusal) => push_refusal_block(out, &refusal),
@@ -59,7 +63,9 @@ pub fn precedents<L: Ledger>(
     node: &Node,
     steps: &mut Steps<L>,
     out: &mut Vec<u8>,
-) -> Result<(), AllocError> {
+) -> Result<(), AllocError>
+    requires { IsProper node.now }
+{
     match bench.engine.precedents(node, steps) {
         Ok(reads) => push_reads_block(bench.alloc, out, reads.as_slice()),
         Err(refusal) => push_refusal_block(out, &refusal),
@@ -73,7 +79,9 @@ pub fn ticks<L: Ledger>(
     node: &Node,
     steps: &mut Steps<L>,
     out: &mut Vec<u8>,
-) -> Result<(), AllocError> {
+) -> Result<(), AllocError>
+    requires { IsProper node.now }
+{
     let before = bench.engine.held_count();
     match tell(&mut bench.engine, node, steps) {
         Ok(told) => return push_value_block(out, &told.value, told.runs),
@@ -102,7 +110,9 @@ fn push_runs(out: &mut Vec<u8>, runs: u32) -> Result<(), AllocError> {
 
 /// How many runs of a node without a value wait for one another at most: the least limit with which its evaluation is not too deep.
 /// After the evaluation those are the nodes that it reaches and that are not held.
-fn waiting<L: Ledger>(bench: &mut Bench, node: &Node, steps: &mut Steps<L>) -> u32 {
+fn waiting<L: Ledger>(bench: &mut Bench, node: &Node, steps: &mut Steps<L>) -> u32
+    requires { IsProper node.now }
+{
     let mut least = bench.limit;
     for limit in 1..bench.limit {
         if is_deep_enough(&mut bench.engine, limit, node, steps) {
@@ -120,7 +130,9 @@ fn is_deep_enough<L: Ledger>(
     limit: u32,
     node: &Node,
     steps: &mut Steps<L>,
-) -> bool {
+) -> bool
+    requires { IsProper node.now }
+{
     let _ = engine.set_limit(limit);
     !matches!(engine.eval(node, steps), Err(EvalRefusal::TooDeep(_)))
 }

@@ -3,6 +3,7 @@
 //! engine's own call, or one of the words that this program has beside them. Each row is answered by one or more lines.
 #![tactic(auto)]
 
+mod apart;
 mod bench;
 mod changes;
 mod evaluations;

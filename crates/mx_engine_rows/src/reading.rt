@@ -1,4 +1,8 @@
 //! What rows say.
+ghost use Rattle.std.specs.Prelude.{IfOk};
+ghost use Rattle.mx_state.specs.Proper.{IsProper};
+ghost use Rattle.mx_engine_rows.specs.Rows.{IsFit, IsFitCommand, IsFitEdit};
+
 use crate::key::{first_word, key};
 use crate::table::table;
 use mx_edit::edit::Edit;
@@ -54,7 +58,9 @@ impl<T: Drop> From<AllocFailed<T>> for NoRow {
 }
 
 /// What a row says.
-pub fn read_row(alloc: Global, row: &[u8]) -> Result<Deed, NoRow> {
+pub fn read_row(alloc: Global, row: &[u8]) -> Result<Deed, NoRow>
+    ensures { IfOk result IsFit }
+{
     let (word, rest) = first_word(row);
     if word == b"ticks".as_slice() {
         return Ok(Deed::Ticks(node(alloc, rest)?));
@@ -72,7 +78,9 @@ pub fn read_row(alloc: Global, row: &[u8]) -> Result<Deed, NoRow> {
 }
 
 /// The same for the rows of whole worlds and the commands of scripts.
-fn read_world_row(alloc: Global, row: &[u8]) -> Result<Deed, NoRow> {
+fn read_world_row(alloc: Global, row: &[u8]) -> Result<Deed, NoRow>
+    ensures { IfOk result IsFit }
+{
     let (word, rest) = first_word(row);
     if word == b"apart".as_slice() {
         return Ok(Deed::Apart(edit(alloc, rest)?));
@@ -90,7 +98,10 @@ fn read_world_row(alloc: Global, row: &[u8]) -> Result<Deed, NoRow> {
 }
 
 /// The node that a text says.
-pub fn node(alloc: Global, text: &[u8]) -> Result<Node, NoRow> {
+pub fn node(alloc: Global, text: &[u8]) -> Result<Node, NoRow>
+    ensures { IfOk result IsProper }
+{
+    mx_proper_sources::laws::laws();
     match parse_node(alloc, text) {
         Ok(node) => Ok(node),
         Err(_) => Err(NoRow::Part),
@@ -107,7 +118,11 @@ fn nodes(alloc: Global, text: &[u8]) -> Result<Vec<Node>, NoRow> {
 }
 
 /// The command that a text says.
-fn command(alloc: Global, text: &[u8]) -> Result<Command, NoRow> {
+fn command(alloc: Global, text: &[u8]) -> Result<Command, NoRow>
+    ensures { IfOk result IsFitCommand }
+{
+    mx_read_edits::laws::laws();
+    mx_proper_commands::laws::laws();
     match read_command(alloc, &WORDS, text) {
         Ok(command) => Ok(command),
         Err(refusal) => Err(NoRow::Form(refusal)),
@@ -115,7 +130,9 @@ fn command(alloc: Global, text: &[u8]) -> Result<Command, NoRow> {
 }
 
 /// The edit that a text says.
-fn edit(alloc: Global, text: &[u8]) -> Result<Edit, NoRow> {
+fn edit(alloc: Global, text: &[u8]) -> Result<Edit, NoRow>
+    ensures { IfOk result IsFitEdit }
+{
     match command(alloc, text)? {
         Command::Edit(edit) => Ok(edit),
         _ => Err(NoRow::Part),

@@ -1,5 +1,6 @@
 //! The tables of rows.
-ghost use Rattle.std.specs.Prelude.{◌≤◌, length};
+ghost use Rattle.std.specs.Prelude.{◌≤◌, length, IfOk};
+ghost use Rattle.mx_engine_rows.specs.Rows.{IsFitEdit};
 
 use crate::reading::NoRow;
 use mx_edit::edit::Edit;
@@ -12,7 +13,9 @@ use mx_words::text::word_length;
 use std::alloc::Global;
 
 /// `NAME KEYS COLUMN ..; KEY NUMBER ..; ..`: a table under a name, whose columns and rows are parted by `;`.
-pub fn table(alloc: Global, text: &[u8]) -> Result<Edit, NoRow> {
+pub fn table(alloc: Global, text: &[u8]) -> Result<Edit, NoRow>
+    ensures { IfOk result IsFitEdit }
+{
     let (name, behind) = text.split_at(word_length(text));
     let (head, records) = behind.split_at(head_length(behind));
     let name = label(alloc, name)?;
@@ -61,7 +64,10 @@ fn set_table(
     name: Label,
     columns: Vec<Label>,
     records: (Vec<i64>, Vec<Items<Value>>),
-) -> Result<Edit, NoRow> {
+) -> Result<Edit, NoRow>
+    ensures { IfOk result IsFitEdit }
+{
+    mx_proper::laws::laws();
     let (keys, rows) = records;
     if keys.len() != rows.len() {
         return Err(NoRow::Part);

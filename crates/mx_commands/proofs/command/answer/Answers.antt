@@ -1,11 +1,15 @@
 use Rattle.std.proofs.Common.{◌≡◌, refl}
 use Rattle.mx_words.specs.declared.command.FormRefusal.TheVariants.{NoMemory}
+use Rattle.mx_words.specs.Words.{every_word}
 use Rattle.mx_commands.specs.Step.{refused, carried}
 use Rattle.mx_commands.proofs.EditLemmas.{read_command}
 use Rattle.mx_commands.proofs.command.answer.Goals as goal
 
 pub carry_out-requires-clause-read : goal.carry_out-requires-clause-read
 carry_out-requires-clause-read g c = read_command c.laws.ensures.edits_are_read c.args.text.now c.in-Ok.command (c.in-Ok.ensures.found (λ e. absurd cc))
+
+pub carry_out-requires-clause-proper : goal.carry_out-requires-clause-proper
+carry_out-requires-clause-proper g c = c.laws-2.ensures every_word c.args.text.now c.in-Ok.command (c.in-Ok.ensures.found (λ e. absurd cc))
 
 pub returns-in-Err : goal.returns-in-Err
 returns-in-Err g c =

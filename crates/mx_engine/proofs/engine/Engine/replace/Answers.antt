@@ -4,12 +4,18 @@ use Rattle.mx_entries.specs.Entries.{entries_of}
 use Rattle.mx_state.specs.State.{State}
 use Rattle.mx_engine.proofs.Emptied.{all_dropped}
 use Rattle.mx_engine.proofs.Kept.{sound_empty}
+use Rattle.mx_engine.proofs.Proper.{proper_empty}
 use Rattle.mx_engine.proofs.engine.Engine.replace.Goals as goal
 
 pub invariant_of-self : goal.invariant_of-self
 invariant_of-self c =
-    sound_empty c.laws.ensures.begins_right c.args.world c.clear_all.new.memo c.self.inside.limit c.text.ensures.valid c.self.invariant.right.limit
-    (all_dropped c.self.inside.memo.held c.clear_all.new.memo.held c.clear_all.ensures.drops) (c.clear_all.ensures.begun ∙ c.self.invariant.kept.idle)
+    let none = all_dropped c.self.inside.memo.held c.clear_all.new.memo.held c.clear_all.ensures.drops in
+    record {
+      sound =
+      sound_empty c.laws.ensures.begins_right c.args.world c.clear_all.new.memo c.self.inside.limit c.text.ensures.valid c.self.invariant.sound.right.limit
+      none (c.clear_all.ensures.begun ∙ c.self.invariant.sound.kept.idle);
+      proper = proper_empty c.args.world c.clear_all.new.memo c.self.inside.limit none c.requires;
+    }
 
 pub returns : goal.returns
 returns c =
