@@ -298,9 +298,10 @@ module _ {K X : Type 0} (eq : K → K → Bool) (laws : IsEquivalence eq) where
   distinct_append : (xs ys : List (K × X)) → IsDistinct eq (keys_of xs) → IsDistinct eq (keys_of ys) → Apart xs ys → IsDistinct eq (keys_of (xs ++ ys))
   unfolding IsDistinct
   distinct_append [] ys d f apart = f
-  distinct_append (e ∷ xs) ys d f apart =
-      (all_append e.0 xs ys d.0 (none_all e.0 ys (apart e.0 e.1 (taken e.0 e xs (laws.refl e.0)))),
-      distinct_append xs ys d.1 f (λ k x at. apart_rest_by e xs ys apart k x (eq k e.0) refl at))
+  distinct_append (e ∷ xs) ys d f apart = (
+    all_append e.0 xs ys d.0 (none_all e.0 ys (apart e.0 e.1 (taken e.0 e xs (laws.refl e.0)))),
+    distinct_append xs ys d.1 f (λ k x at. apart_rest_by e xs ys apart k x (eq k e.0) refl at),
+  )
 
   some_base : (changed base added : List (K × X)) → IsSplit eq base changed added → (k : K) (x : X) (o : Option X) → lookup (eq k) base ≡ o → option_map (λ y. or_own (lookup (eq k) changed) y) o ≡ Some x → lookup (eq k) added ≡ None
   some_base changed base added split k x None e at = absurd (let f : None ≡ Some x = at in cc)

@@ -113,6 +113,7 @@ module _ (text made : ModelRecord) (told : ChangesAreTold) (n : Node) (others : 
       subst (λ (xs : List Node). Has xs m) (sym (ap (λ (b : Bool). cond b (n ∷ []) []) passes)) (inl is)
 
   pub one_told : (nodes : List Node) → nodes ≡ one_changed text made n → AreChanged (is_changed text made) nodes
-  one_told nodes is m =
-      (λ h. one_is text made told n m (test n) refl (subst (λ (xs : List Node). Has xs m) is h),
-      λ t. subst (λ (xs : List Node). Has xs m) (sym is) (has_one m t (only_by m (node_eq n m) refl t)))
+  one_told nodes is m = (
+    λ h. one_is text made told n m (test n) refl (subst (λ (xs : List Node). Has xs m) is h),
+    λ t. subst (λ (xs : List Node). Has xs m) (sym is) (has_one m t (only_by m (node_eq n m) refl t)),
+  )

@@ -14,8 +14,8 @@ invariant_of-self c =
     record {
       sound = done.sound;
       proper =
-      after_clearing (state_of c.self.inside.world c.self.inside.memo c.self.inside.limit) (state_of c.self.inside.world c.clear_in.new.memo c.self.inside.limit) c.args.scope.now
-      done.clearing c.self.invariant.proper;
+          after_clearing (state_of c.self.inside.world c.self.inside.memo c.self.inside.limit) (state_of c.self.inside.world c.clear_in.new.memo c.self.inside.limit) c.args.scope.now
+          done.clearing c.self.invariant.proper;
     }
 
 pub returns-clause-clears : goal.returns-clause-clears

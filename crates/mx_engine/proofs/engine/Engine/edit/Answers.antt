@@ -5,11 +5,11 @@ use Rattle.mx_engine.proofs.engine.Engine.edit.Goals as goal
 pub invariant_of-self : goal.invariant_of-self
 invariant_of-self c = record {
   sound =
-  still_sound c.self.inside.world c.change.new.world c.self.inside.memo c.change.new.memo c.args.edit.now c.self.inside.limit c.self.invariant.sound
-  c.change.result c.change.ensures.accepted c.change.ensures.text c.change.ensures.held;
+      still_sound c.self.inside.world c.change.new.world c.self.inside.memo c.change.new.memo c.args.edit.now c.self.inside.limit c.self.invariant.sound
+      c.change.result c.change.ensures.accepted c.change.ensures.text c.change.ensures.held;
   proper =
-  proper_told c.self.inside.world c.change.new.world c.self.inside.memo c.change.new.memo c.args.edit.now c.self.inside.limit c.self.invariant.sound
-  c.change.result c.change.ensures.accepted c.change.ensures.text c.change.ensures.held c.requires.small c.self.invariant.proper;
+      proper_told c.self.inside.world c.change.new.world c.self.inside.memo c.change.new.memo c.args.edit.now c.self.inside.limit c.self.invariant.sound
+      c.change.result c.change.ensures.accepted c.change.ensures.text c.change.ensures.held c.requires.small c.self.invariant.proper;
 }
 
 pub returns-clause-accepted : goal.returns-clause-accepted

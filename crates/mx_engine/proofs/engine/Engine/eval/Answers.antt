@@ -12,7 +12,7 @@ pub invariant_of-self : goal.invariant_of-self
 invariant_of-self g c = record {
   sound = c.evaluate.ensures.sound;
   proper = after_evaluation (state_of c.self.inside.world c.self.inside.memo c.self.inside.limit) (state_of c.self.inside.world c.evaluate.new.memo c.self.inside.limit) c.args.node.now
-  c.evaluate.result (c.evaluate.new.steps - c.args.steps.now) c.self.invariant.sound.right.valid c.requires c.evaluate.ensures.evaluates c.self.invariant.proper;
+      c.evaluate.result (c.evaluate.new.steps - c.args.steps.now) c.self.invariant.sound.right.valid c.requires c.evaluate.ensures.evaluates c.self.invariant.proper;
 }
 
 pub returns-clause-evaluates : goal.returns-clause-evaluates

@@ -12,7 +12,7 @@ pub invariant_of-self : goal.invariant_of-self
 invariant_of-self g c = record {
   sound = c.read.ensures.sound;
   proper = after_precedents (state_of c.self.inside.world c.self.inside.memo c.self.inside.limit) (state_of c.self.inside.world c.read.new.memo c.self.inside.limit) c.args.node.now
-  c.read.result (c.read.new.steps - c.args.steps.now) c.self.invariant.sound.right.valid c.requires c.read.ensures.precedents c.self.invariant.proper;
+      c.read.result (c.read.new.steps - c.args.steps.now) c.self.invariant.sound.right.valid c.requires c.read.ensures.precedents c.self.invariant.proper;
 }
 
 pub returns-clause-precedents : goal.returns-clause-precedents

@@ -12,8 +12,8 @@ invariant_of-self c =
     let none = all_dropped c.self.inside.memo.held c.clear_all.new.memo.held c.clear_all.ensures.drops in
     record {
       sound =
-      sound_empty c.laws.ensures.begins_right c.args.world c.clear_all.new.memo c.self.inside.limit c.text.ensures.valid c.self.invariant.sound.right.limit
-      none (c.clear_all.ensures.begun ∙ c.self.invariant.sound.kept.idle);
+          sound_empty c.laws.ensures.begins_right c.args.world c.clear_all.new.memo c.self.inside.limit c.text.ensures.valid c.self.invariant.sound.right.limit
+          none (c.clear_all.ensures.begun ∙ c.self.invariant.sound.kept.idle);
       proper = proper_empty c.args.world c.clear_all.new.memo c.self.inside.limit none c.requires;
     }
 
