@@ -1,2 +1,3 @@
-pub mod Split
+pub mod Chunks
+pub mod Places
 pub mod Words

@@ -1,5 +1,6 @@
 //! Members by key, whose copies share what they are made of.
 #![tactic(auto)]
 
+pub mod chunks;
 pub mod members;
 pub mod share;

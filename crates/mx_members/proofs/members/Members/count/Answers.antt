@@ -1,11 +1,18 @@
-use Rattle.std.proofs.Common.{List, subst}
+use Rattle.std.proofs.Common.{◌++◌, ◌∙◌, subst}
 use Rattle.std.specs.List.{IsDistinct}
-use Rattle.std.specs.Map.{keys_of}
-use Rattle.mx_members.proofs.SplitLemmas.{all_distinct}
+use Rattle.mx_members.proofs.MemberLemmas.{keys_are, count_is}
 use Rattle.mx_members.proofs.members.Members.count.Goals as goal
+
+pub returns-clause-all : goal.returns-clause-all
+returns-clause-all g c =
+    let in_it = c.self.inside in
+    let ks = in_it.base.keys ++ in_it.middle.keys ++ in_it.top.keys in
+    let ms = in_it.members in
+    c.len.ensures ∙ count_is ks ms c.args.self.now c.self.view_is c.self.invariant.1
 
 pub returns-clause-distinct : goal.returns-clause-distinct
 returns-clause-distinct g c =
-    let inside = c.self.inside in
-    subst (λ (es : List (g.row.K.Denot × g.row.X.Denot)). IsDistinct g.K.PartialEq.eq (keys_of es)) c.self.view_is
-    (all_distinct g.K.PartialEq.eq g.met.K.Eq.laws inside.base.entries inside.changed.entries inside.added.entries c.self.invariant)
+    let in_it = c.self.inside in
+    let ks = in_it.base.keys ++ in_it.middle.keys ++ in_it.top.keys in
+    let ms = in_it.members in
+    subst (IsDistinct g.K.PartialEq.eq) (keys_are ks ms c.args.self.now c.self.view_is c.self.invariant.1) c.self.invariant.0

@@ -1,25 +1,42 @@
-use Rattle.std.proofs.Common.{◌∙◌, sym, ap, List}
-use Rattle.std.specs.Prelude.{is_some}
-use Rattle.std.specs.Map.{lookup}
-use Rattle.indexmap.specs.IndexMap.{insert_entry}
-use Rattle.mx_members.proofs.SplitLemmas.{define_same, defined_again, defined_beside, split_beside}
+use Rattle.std.proofs.Common.{◌∷◌, [], ◌++◌, ◌∙◌, length, sym, ap, arith}
+use Rattle.std.proofs.lemmas.List.{length-append}
+use Rattle.mx_members.specs.Places.{place}
+use Rattle.mx_members.proofs.MemberLemmas.{keys_are, there, redefined, appended, key_added, distinct_added}
 use Rattle.mx_members.proofs.members.Members.define.Goals as goal
 
-pub returns-then-contains_key-clause-defined : goal.returns-then-contains_key-clause-defined
-returns-then-contains_key-clause-defined g c =
-    let inside = c.self.inside in
-    defined_again g.K.PartialEq.eq g.met.K.Eq.laws inside.changed.entries c.insert.new.self.entries c.args.key c.args.member c.in_ok-insert.ensures.updates.0 inside.base.entries inside.added.entries c.self.invariant (ap (λ m. is_some (lookup (g.K.PartialEq.eq c.args.key) m.entries)) (sym c.get.ensures) ∙ sym c.contains_key.ensures ∙ c.if-contains_key.true)
-    ∙ ap (λ (es : List (g.row.K.Denot × g.row.X.Denot)). insert_entry g.K.PartialEq.eq es c.args.key c.args.member) c.self.view_is
-    ∙ define_same g.K.PartialEq.eq c.args.self.now c.args.key c.args.member
+pub set-requires : goal.set-requires
+set-requires g c =
+    let in_it = c.self.inside in
+    let ks = in_it.base.keys ++ in_it.middle.keys ++ in_it.top.keys in
+    let ms = in_it.members in
+    there ks ms c.args.self.now c.self.view_is c.self.invariant.1 (g.K.PartialEq.eq c.args.key) c.in-Some.at c.in-Some.ensures
+
+pub returns-in-Some-clause-defined : goal.returns-in-Some-clause-defined
+returns-in-Some-clause-defined g c =
+    let in_it = c.self.inside in
+    let ks = in_it.base.keys ++ in_it.middle.keys ++ in_it.top.keys in
+    let ms = in_it.members in
+    redefined g.K.PartialEq.eq c.args.key ks ms c.args.self.now c.self.view_is c.self.invariant.1 c.args.member c.in-Some.at c.set.new.self c.in-Some.ensures c.in_ok-set.ensures.ok
 
 pub invariant_of-self-2 : goal.invariant_of-self-2
 invariant_of-self-2 g c =
-    let inside = c.self.inside in
-    split_beside g.K.PartialEq.eq g.met.K.Eq.laws inside.base.entries inside.changed.entries inside.added.entries c.insert-2.new.self.entries c.args.key c.args.member c.self.invariant c.in_ok-insert-2.ensures.updates.0 c.in_ok-insert-2.ensures.unique (ap (λ m. is_some (lookup (g.K.PartialEq.eq c.args.key) m.entries)) (sym c.get.ensures) ∙ sym c.contains_key.ensures ∙ c.if-contains_key.false)
+    let in_it = c.self.inside in
+    let ks = in_it.base.keys ++ in_it.middle.keys ++ in_it.top.keys in
+    let ms = in_it.members in
+    let eq = g.K.PartialEq.eq in
+    let none = c.in_default.ensures ∙ ap (λ l. place (eq c.args.key) l) (sym (keys_are ks ms c.args.self.now c.self.view_is c.self.invariant.1)) in
+    let keys = key_added eq g.met.K.Eq.laws (in_it.base.keys ++ in_it.middle.keys) in_it.top.keys c.reserve.new.self.keys c.insert.new.self.keys c.args.key none c.in_ok-reserve.ensures.keys c.in_ok-insert.ensures.keys in
+    let more = ap (λ l. length l) keys ∙ length-append ks (c.args.key ∷ []) in
+    let members = ap (λ l. length l) c.in_ok-push.ensures.ok ∙ length-append ms (c.args.member ∷ []) in
+    let all = c.self.invariant.1 in
+    (distinct_added eq g.met.K.Eq.laws ks (in_it.base.keys ++ in_it.middle.keys ++ c.insert.new.self.keys) c.args.key c.self.invariant.0 none keys, omega arith)
 
 pub returns-clause-defined : goal.returns-clause-defined
 returns-clause-defined g c =
-    let inside = c.self.inside in
-    defined_beside g.K.PartialEq.eq g.met.K.Eq.laws inside.base.entries inside.changed.entries inside.added.entries c.insert-2.new.self.entries c.args.key c.args.member c.in_ok-insert-2.ensures.entries (ap (λ m. is_some (lookup (g.K.PartialEq.eq c.args.key) m.entries)) (sym c.get.ensures) ∙ sym c.contains_key.ensures ∙ c.if-contains_key.false)
-    ∙ ap (λ (es : List (g.row.K.Denot × g.row.X.Denot)). insert_entry g.K.PartialEq.eq es c.args.key c.args.member) c.self.view_is
-    ∙ define_same g.K.PartialEq.eq c.args.self.now c.args.key c.args.member
+    let in_it = c.self.inside in
+    let ks = in_it.base.keys ++ in_it.middle.keys ++ in_it.top.keys in
+    let ms = in_it.members in
+    let eq = g.K.PartialEq.eq in
+    let none = c.in_default.ensures ∙ ap (λ l. place (eq c.args.key) l) (sym (keys_are ks ms c.args.self.now c.self.view_is c.self.invariant.1)) in
+    let keys = key_added eq g.met.K.Eq.laws (in_it.base.keys ++ in_it.middle.keys) in_it.top.keys c.reserve.new.self.keys c.insert.new.self.keys c.args.key none c.in_ok-reserve.ensures.keys c.in_ok-insert.ensures.keys in
+    appended eq c.args.key ks ms c.args.self.now c.self.view_is c.self.invariant.1 c.args.member (in_it.base.keys ++ in_it.middle.keys ++ c.insert.new.self.keys) c.push.new.self c.in_default.ensures keys c.in_ok-push.ensures.ok
