@@ -1,5 +1,5 @@
 -- References of a space, at a path that is not the empty one of the model.
-use Rattle.std.proofs.Common.{◌≡◌, List, [], ◌∷◌, refl}
+use Rattle.std.proofs.Common.{◌≡◌, [], ◌∷◌, refl}
 use Rattle.mx_value.specs.Name.{same_name}
 use Rattle.mx_edit.specs.declared.reference.RefValue.{RefValue}
 use Rattle.mx_model.specs.Records.{Name, Path, SpaceRecord, ModelRecord}

@@ -1,8 +1,9 @@
 -- The steps of the tests of values, of bases and of the spaces that use a removed one.
-use Rattle.std.proofs.Common.{◌≡◌, ℕ, ◌+◌, ◌<◌, Bool, true, false, List, [], ◌∷◌, length, drop, get_or, map, Some, refl, sym, ◌∙◌, ap}
+use Rattle.std.proofs.Common.{◌≡◌, ℕ, ◌+◌, ◌<◌, Bool, true, false, List, [], ◌∷◌, length, drop, get_or, slice_get, map, Some, refl, sym, ◌∙◌, ap}
 use Rattle.std.specs.Prelude.{codes, ◌||◌, ◌&&◌, not, if◌then◌else◌}
 use Rattle.std.specs.List.{list_any}
 use Rattle.std.proofs.lemmas.List.{drop_more}
+use Rattle.std.proofs.lemmas.Option.{get_or_from_slice_get, slice_get_within}
 use Rattle.mx_value.specs.Name.{same_path}
 use Rattle.mx_print.specs.Texts.{Text, separated}
 use Rattle.mx_apply.proofs.LengthLemmas.{separated_from, separated_length}
@@ -25,17 +26,17 @@ double_found paths i path within is other = double_step paths i path within is �
 
 -- ---- a space that uses a removed one
 
-user_step : (removed : Path) (spaces : List SpaceRecord) (i : ℕ) (s : SpaceRecord) → i < length spaces → s ≡ get_or spaces i s → first_user removed (drop i spaces) ≡ (if uses removed s then Some s.path else first_user removed (drop (i + 1) spaces))
-user_step removed spaces i s within is =
-    ap (first_user removed) (drop_more spaces i s within ∙ ap (λ (z : SpaceRecord). z ∷ drop (i + 1) spaces) (sym is))
+user_step : (removed : Path) (spaces : List SpaceRecord) (i : ℕ) (s : SpaceRecord) → slice_get spaces i ≡ Some s → first_user removed (drop i spaces) ≡ (if uses removed s then Some s.path else first_user removed (drop (i + 1) spaces))
+user_step removed spaces i s at =
+    ap (first_user removed) (drop_more spaces i s (slice_get_within spaces i s at) ∙ ap (λ (z : SpaceRecord). z ∷ drop (i + 1) spaces) (get_or_from_slice_get spaces i s s at))
 
-pub user_passed : (removed : Path) (spaces : List SpaceRecord) (i : ℕ) (s : SpaceRecord) → i < length spaces → s ≡ get_or spaces i s → uses removed s ≡ false → first_user removed (drop i spaces) ≡ first_user removed (drop (i + 1) spaces)
-user_passed removed spaces i s within is other =
-    user_step removed spaces i s within is ∙ ap (λ (b : Bool). if b then Some s.path else first_user removed (drop (i + 1) spaces)) other
+pub user_passed : (removed : Path) (spaces : List SpaceRecord) (i : ℕ) (s : SpaceRecord) → slice_get spaces i ≡ Some s → uses removed s ≡ false → first_user removed (drop i spaces) ≡ first_user removed (drop (i + 1) spaces)
+user_passed removed spaces i s at other =
+    user_step removed spaces i s at ∙ ap (λ (b : Bool). if b then Some s.path else first_user removed (drop (i + 1) spaces)) other
 
-pub user_found : (removed : Path) (spaces : List SpaceRecord) (i : ℕ) (s : SpaceRecord) → i < length spaces → s ≡ get_or spaces i s → uses removed s ≡ true → first_user removed (drop i spaces) ≡ Some s.path
-user_found removed spaces i s within is so =
-    user_step removed spaces i s within is ∙ ap (λ (b : Bool). if b then Some s.path else first_user removed (drop (i + 1) spaces)) so
+pub user_found : (removed : Path) (spaces : List SpaceRecord) (i : ℕ) (s : SpaceRecord) → slice_get spaces i ≡ Some s → uses removed s ≡ true → first_user removed (drop i spaces) ≡ Some s.path
+user_found removed spaces i s at so =
+    user_step removed spaces i s at ∙ ap (λ (b : Bool). if b then Some s.path else first_user removed (drop (i + 1) spaces)) so
 
 pub uses_by : (removed : Path) (s : SpaceRecord) (bases : List Path) (found : Bool) → is_within removed s.path ≡ false → bases ≡ s.bases → found ≡ list_any (is_within removed) bases → found ≡ uses removed s
 uses_by removed s bases found stays b f =

@@ -1,11 +1,8 @@
 //! Numbers of a model text that may not pass their greatest.
-ghost use Rattle.std.specs.Prelude.{◌≡◌, ◌+◌, length, map, sum, nat_lt};
-ghost use Rattle.mx_model.specs.Records.{SpaceRecord};
-ghost use Rattle.mx_model.specs.Counts.{over};
+ghost use Rattle.std.specs.Prelude.{◌≡◌, ◌+◌, length, nat_lt};
+ghost use Rattle.mx_model.specs.Counts.{over, reference_total};
 
 use mx_edit::refusal::Limit;
-use mx_list::shared::Shared;
-use mx_model::space::Space;
 use mx_model::text::ModelText;
 
 /// The first number of a text that passes its greatest, of its spaces, cells, references, tables and inputs in this order.
@@ -15,7 +12,7 @@ pub fn over(text: &ModelText) -> Option<Limit>
     if text.spaces().len() > 4_000 {
         return Some(Limit::Spaces);
     }
-    if are_more_cells(text.spaces(), 10_000) {
+    if text.spaces().cell_count() > 10_000 {
         return Some(Limit::Cells);
     }
     if are_more_references(text, 20_000) {
@@ -30,46 +27,13 @@ pub fn over(text: &ModelText) -> Option<Limit>
     return None;
 }
 
-/// Whether the spaces have more cells than so many.
-fn are_more_cells(spaces: &[Shared<Space>], most: usize) -> bool
-    ensures { let cells = sum (map (λ (s : SpaceRecord). length s.cells) spaces.now) in
-        result ≡ nat_lt most cells }
-{
-    let mut left = most;
-    for space in spaces {
-        let count = space.get().cells.get().count();
-        if count > left {
-            return true;
-        }
-        left -= count;
-    }
-    false
-}
-
 /// Whether the model and the spaces have more references than so many.
 fn are_more_references(text: &ModelText, most: usize) -> bool
-    ensures { let owned = sum (map (λ (s : SpaceRecord). length s.references) text.now.spaces) in
-        result ≡ nat_lt most (length text.now.globals + owned) }
+    ensures { result ≡ nat_lt most (length text.now.globals + reference_total text.now.spaces) }
 {
     let globals = text.globals().count();
     if globals > most {
         return true;
     }
-    are_more_owned(text.spaces(), most - globals)
-}
-
-/// Whether the spaces have more references than so many.
-fn are_more_owned(spaces: &[Shared<Space>], most: usize) -> bool
-    ensures { let owned = sum (map (λ (s : SpaceRecord). length s.references) spaces.now) in
-        result ≡ nat_lt most owned }
-{
-    let mut left = most;
-    for space in spaces {
-        let count = space.get().references.get().count();
-        if count > left {
-            return true;
-        }
-        left -= count;
-    }
-    false
+    text.spaces().reference_count() > most - globals
 }

@@ -23,9 +23,9 @@ use mx_edit::edit::Edit;
 use mx_edit::reference::RefValue;
 use mx_edit::refusal::EditRefusal;
 use mx_list::items::Items;
-use mx_list::shared::Shared;
 use mx_model::address::path_of;
 use mx_model::space::Space;
+use mx_model::spaces::Spaces;
 use mx_model::text::ModelText;
 use mx_syntax::bind::{BindRefusal, bind};
 use mx_value::copies::copy_items;
@@ -321,10 +321,13 @@ fn uses(removed: &Path, space: &Space) -> bool
 }
 
 /// The path of the first space that stays and has a removed one as base.
-fn first_user<'a>(removed: &Path, spaces: &'a [Shared<Space>]) -> Option<&'a Path>
+fn first_user<'a>(removed: &Path, spaces: &'a Spaces) -> Option<&'a Path>
     ensures { option_copied result ≡ first_user removed.now spaces.now }
 {
-    for space in spaces {
+    for place in 0..spaces.len() {
+        let Some(space) = spaces.get(place) else {
+            unreachable!()
+        };
         if uses(removed, space.get()) {
             return Some(space.get().path());
         }

@@ -58,7 +58,9 @@ pub fn kinds_of(
         space_of text.now s ≡ Some old → KeepsOthers name.now old space.now }
     ensures { IfOk result (λ kinds. Tells text.now space.now kinds) }
 {
-    let kinds = &text.kinds()[s.0 as usize];
+    let Some(kinds) = text.kinds().get(s.0 as usize) else {
+        unreachable!()
+    };
     match own_kind(alloc, text, space, name)? {
         Some(kind) => return define_kind(alloc, kinds, name, kind),
         None => return remove_kind(alloc, kinds, name),

@@ -12,11 +12,13 @@ use crate::kinds::{define_kind, remove_kind};
 use crate::parts;
 use mx_list::list::List;
 use mx_list::shared::Shared;
+use mx_members::chunks::Chunks;
 use mx_members::members::Members;
 use mx_model::kind::Kind;
 use mx_model::layers::path_below;
 use mx_model::space::Space;
-use mx_model::text::{ModelText, copy_all};
+use mx_model::spaces::Spaces;
+use mx_model::text::ModelText;
 use mx_value::label::Label;
 use mx_value::node::Path;
 use std::alloc::{AllocError, Global};
@@ -35,9 +37,9 @@ pub fn with_bases(
         unreachable!()
     };
     let space = parts::with_bases(text.space(s), bases)?;
-    let mut spaces = copy_all(alloc, text.spaces())?;
-    spaces[s.0 as usize] = Shared::new(alloc, space)?;
-    let kinds = copy_all(alloc, text.kinds())?;
+    let mut spaces = text.spaces().copy(alloc)?;
+    spaces.set(alloc, s.0 as usize, Shared::new(alloc, space)?)?;
+    let kinds = text.kinds().copy(alloc)?;
     text.with_spaces(alloc, spaces, kinds)
 }
 
@@ -45,24 +47,27 @@ pub fn with_bases(
 fn kinds_with_child(
     alloc: Global,
     text: &ModelText,
-    kinds: &[Shared<Members<Label, Kind>>],
+    kinds: &Chunks<Shared<Members<Label, Kind>>>,
     parent: &Path,
     name: &Label,
-) -> Result<Vec<Shared<Members<Label, Kind>>>, AllocError>
+) -> Result<Chunks<Shared<Members<Label, Kind>>>, AllocError>
     requires placed { ArePlaced kinds.now text.now }
     requires held { IsTrue (is_holder text.now parent.now) }
     requires free { name_taken text.now (edit.NewSpace parent.now name.now) ≡ false }
     ensures { let changed = change text.now (edit.NewSpace parent.now name.now) in
-        IfOk result (λ kinds. TellAll changed text.now.spaces kinds.items) }
+        IfOk result (λ kinds. TellAll changed text.now.spaces kinds) }
 {
     match text.id_of(parent) {
         Some(s) => {
-            let table = define_kind(alloc, &kinds[s.0 as usize], name, Kind::Child)?;
-            let mut tables = copy_all(alloc, kinds)?;
-            tables[s.0 as usize] = table;
+            let Some(own) = kinds.get(s.0 as usize) else {
+                unreachable!()
+            };
+            let table = define_kind(alloc, own, name, Kind::Child)?;
+            let mut tables = kinds.copy(alloc)?;
+            tables.set(alloc, s.0 as usize, table)?;
             return Ok(tables);
         }
-        None => return copy_all(alloc, kinds),
+        None => return kinds.copy(alloc),
     }
 }
 
@@ -82,10 +87,10 @@ pub fn with_new_space(
     }
     let path = path_below(alloc, parent.as_slice(), name)?;
     let space = Space::new(alloc, path, List::empty(alloc)?)?;
-    let mut spaces = copy_all(alloc, text.spaces())?;
-    spaces.push(Shared::new(alloc, space)?)?;
+    let mut spaces = text.spaces().copy(alloc)?;
+    spaces.push(alloc, Shared::new(alloc, space)?)?;
     let mut kinds = kinds_with_child(alloc, text, text.kinds(), parent, name)?;
-    kinds.push(Shared::new(alloc, Members::new(alloc)?)?)?;
+    kinds.push(alloc, Shared::new(alloc, Members::new(alloc)?)?)?;
     text.with_spaces(alloc, spaces, kinds)
 }
 
@@ -95,14 +100,19 @@ pub fn without_space(alloc: Global, text: &ModelText, path: &Path) -> Result<Mod
 {
     let all = text.spaces();
     let tables = text.kinds();
-    let mut spaces = Vec::new(alloc);
-    let mut kinds = Vec::new(alloc);
+    let mut spaces = Spaces::new(alloc);
+    let mut kinds = Chunks::new(alloc);
     for place in 0..all.len() {
-        let space = &all[place];
+        let Some(space) = all.get(place) else {
+            unreachable!()
+        };
+        let Some(table) = tables.get(place) else {
+            unreachable!()
+        };
         let at = space.get().path();
         if !is_within(path, at) {
-            spaces.push(space.copy()?)?;
-            kinds.push(kinds_left(alloc, &tables[place], at, path)?)?;
+            spaces.push(alloc, space.copy()?)?;
+            kinds.push(alloc, kinds_left(alloc, table, at, path)?)?;
         }
     }
     text.with_spaces(alloc, spaces, kinds)

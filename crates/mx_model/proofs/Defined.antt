@@ -1,9 +1,9 @@
 -- Which paths are defined in a text and in another one, and how a path ends.
-use Rattle.std.proofs.Common.{◌≡◌, ℕ, zero, suc, ◌+◌, ◌-◌, ◌<◌, ◌≤◌, Bool, true, false, ◌||◌, List, [], ◌∷◌, ◌++◌, length, take, get_or, slice_get, Option, Some, None, refl, sym, ◌∙◌, ap, subst, arith, inl, inr}
+use Rattle.std.proofs.Common.{◌≡◌, ℕ, zero, suc, ◌+◌, ◌-◌, ◌<◌, ◌≤◌, Bool, true, false, ◌||◌, List, [], ◌∷◌, ◌++◌, length, map, take, get_or, slice_get, Option, Some, None, refl, sym, ◌∙◌, ap, subst, arith, inl, inr}
 use Rattle.std.specs.Prelude.{IsTrue, is_some, if◌then◌else◌}
 use Rattle.std.specs.List.{list_any}
 use Rattle.std.specs.Map.{lookup}
-use Rattle.std.proofs.lemmas.List.{take_all, take_more}
+use Rattle.std.proofs.lemmas.List.{take_all, take_more, map-append}
 use Rattle.std.proofs.lemmas.Option.{same_Some}
 use Rattle.mx_value.specs.Name.{same_name, same_path}
 use Rattle.mx_value.proofs.NodeSames.{path_decides}
@@ -119,10 +119,16 @@ any_fresh (x ∷ xs) (suc i) k d at =
     let no = fresh_by k x xs (same_path k x) refl d.0 (place_has xs i k at) in
     ap (λ (b : Bool). b || list_any (same_path k) (take i xs)) no ∙ any_fresh xs i k d.1 at
 
-take_one : (ks : List Path) (i : ℕ) (k : Path) → slice_get ks i ≡ Some k → take i ks ++ k ∷ [] ≡ take (suc i) ks
+take_one : {X : Type 0} (ks : List X) (i : ℕ) (k : X) → slice_get ks i ≡ Some k → take i ks ++ k ∷ [] ≡ take (suc i) ks
 take_one [] i k at = absurd (let f : None ≡ Some k = at in cc)
-take_one (x ∷ xs) zero k at = ap (λ (z : Path). z ∷ []) (sym (same_Some x k at))
-take_one (x ∷ xs) (suc i) k at = ap (λ (r : List Path). x ∷ r) (take_one xs i k at)
+take_one {X} (x ∷ xs) zero k at = ap (λ (z : X). z ∷ []) (sym (same_Some x k at))
+take_one {X} (x ∷ xs) (suc i) k at = ap (λ (r : List X). x ∷ r) (take_one xs i k at)
+
+-- what the first items give, with one more
+pub gives_more : {X Y : Type 0} (f : X → Y) (xs : List X) (i : ℕ) (x : X) (before after : List Y) (y : Y) → slice_get xs i ≡ Some x → before ≡ map f (take i xs) → y ≡ f x → after ≡ before ++ y ∷ [] → after ≡ map f (take (i + 1) xs)
+gives_more {X} {Y} f xs i x before after y at e same is =
+    let next : suc i ≡ i + 1 = omega arith in
+    is ∙ ap (λ (ys : List Y). ys ++ y ∷ []) e ∙ ap (λ (z : Y). map f (take i xs) ++ z ∷ []) same ∙ sym (map-append f (take i xs) (x ∷ [])) ∙ ap (map f) (take_one xs i x at ∙ ap (λ n. take n xs) next)
 
 pub path_more : (ks keys : List Path) (i : ℕ) (k k' : Path) (after : List Path) → Distinct ks → keys ≡ take i ks → slice_get ks i ≡ Some k → k' ≡ k → after ≡ insert_key same_path keys k' → after ≡ take (i + 1) ks
 path_more ks keys i k k' after d e at same is =

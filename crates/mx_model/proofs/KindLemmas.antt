@@ -1,5 +1,5 @@
 -- The tables of kinds tell what each space has itself of a name.
-use Rattle.std.proofs.Common.{◌≡◌, ℕ, zero, suc, List, [], ◌∷◌, length, Option, Some, None, Result, Ok, Err, IfOk, slice_get, refl, sym, ◌∙◌, ap, subst}
+use Rattle.std.proofs.Common.{◌≡◌, ℕ, zero, suc, ◌<◌, List, [], ◌∷◌, length, Option, Some, None, Result, Ok, Err, IfOk, slice_get, refl, sym, ◌∙◌, ap, subst, arith}
 use Rattle.std.specs.Prelude.{option_map, option_and_then}
 use Rattle.std.specs.Map.{lookup}
 use Rattle.std.specs.declared.alloc.AllocError.{AllocError}
@@ -17,6 +17,14 @@ tables_many text [] [] t = refl
 tables_many text [] (k ∷ ks) t = absurd t
 tables_many text (s ∷ ss) [] t = absurd t
 tables_many text (s ∷ ss) (k ∷ ks) t = ap suc (tables_many text ss ks t.1)
+
+-- the place of a space has a table
+pub table_there : (text : ModelRecord) (spaces : List SpaceRecord) (tables : List Kinds) (n : ℕ) → TellAll text spaces tables → n < length spaces → slice_get tables n ≡ None → ⊥
+table_there text [] [] n t within e = omega arith
+table_there text [] (k ∷ ks) n t within e = t
+table_there text (s ∷ ss) [] n t within e = t
+table_there text (s ∷ ss) (k ∷ ks) zero t within e = let f : Some k ≡ None = e in cc
+table_there text (s ∷ ss) (k ∷ ks) (suc n) t within e = table_there text ss ks n t.1 (omega arith) e
 
 -- the table of a place tells the space of that place
 pub told_at : (text : ModelRecord) (spaces : List SpaceRecord) (tables : List Kinds) (n : ℕ) (kinds : Kinds) (name : Name) → TellAll text spaces tables → slice_get tables n ≡ Some kinds → lookup (same_name name) kinds ≡ option_map kind_of (option_and_then (own_member text name) (slice_get spaces n))

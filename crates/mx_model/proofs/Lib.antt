@@ -11,3 +11,4 @@ pub mod Places
 mod SmallModels
 pub mod SoundLemmas
 pub mod SpaceLemmas
+mod Totals

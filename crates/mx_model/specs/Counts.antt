@@ -4,10 +4,18 @@ use Rattle.mx_edit.specs.declared.refusal.Limit.{Limit}
 use Rattle.mx_edit.specs.declared.refusal.Limit.TheVariants as limit
 use Rattle.mx_model.specs.Records.{SpaceRecord, ModelRecord}
 
+-- how many cells these spaces have in all
+abbrev pub cell_total : List SpaceRecord → ℕ
+cell_total spaces = sum (map (λ (s : SpaceRecord). length s.cells) spaces)
+
+-- how many references they have in all
+abbrev pub reference_total : List SpaceRecord → ℕ
+reference_total spaces = sum (map (λ (s : SpaceRecord). length s.references) spaces)
+
 abbrev pub count_of : ModelRecord → Limit → ℕ
 count_of text limit.Spaces = length text.spaces
-count_of text limit.Cells = sum (map (λ (s : SpaceRecord). length s.cells) text.spaces)
-count_of text limit.Refs = length text.globals + sum (map (λ (s : SpaceRecord). length s.references) text.spaces)
+count_of text limit.Cells = cell_total text.spaces
+count_of text limit.Refs = length text.globals + reference_total text.spaces
 count_of text limit.Tables = length text.tables
 count_of text limit.Inputs = length text.inputs
 -- these are met by the walk

@@ -16,6 +16,9 @@ path_in text s = option_map (λ (space : SpaceRecord). space.path) (space_of tex
 abbrev pub cells_of : SpaceRecord → Name → Option CellsRecord
 cells_of space name = lookup (same_name name) space.cells
 
+abbrev pub cells_in : ModelRecord → SpaceId → Name → Option CellsRecord
+cells_in text s name = option_and_then (λ (space : SpaceRecord). cells_of space name) (space_of text s)
+
 abbrev pub formula_in : ModelRecord → SpaceId → Name → Option Formula
 formula_in text s name = option_and_then (λ (space : SpaceRecord). option_map (λ (c : CellsRecord). c.formula) (cells_of space name)) (space_of text s)
 

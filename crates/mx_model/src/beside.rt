@@ -5,24 +5,23 @@ ghost use Rattle.mx_c3.specs.Lists.{Distinct};
 ghost use Rattle.mx_model.specs.Records.{SpaceRecord};
 ghost use Rattle.mx_model.specs.Layers.{id_in, lists_in};
 
-use crate::space::Space;
+use crate::spaces::Spaces;
 use indexmap::IndexSet;
 use mx_c3::lists::{BaseLists, Order};
 use mx_c3::space::SpaceId;
-use mx_list::shared::Shared;
 use mx_value::node::Path;
 use std::alloc::{AllocError, Global};
 
 /// The paths of spaces, by hash.
-pub(crate) fn paths_of(
-    alloc: Global,
-    spaces: &[Shared<Space>],
-) -> Result<IndexSet<Path>, AllocError>
+pub(crate) fn paths_of(alloc: Global, spaces: &Spaces) -> Result<IndexSet<Path>, AllocError>
     requires { Distinct (map (λ (s : SpaceRecord). s.path) spaces.now) }
     ensures { IfOk result (λ paths. paths.keys ≡ map (λ (s : SpaceRecord). s.path) spaces.now) }
 {
     let mut paths = IndexSet::with_capacity(alloc, spaces.len())?;
-    for space in spaces {
+    for place in 0..spaces.len() {
+        let Some(space) = spaces.get(place) else {
+            unreachable!()
+        };
         paths.insert(space.get().path().copy()?)?;
     }
     Ok(paths)
@@ -31,14 +30,17 @@ pub(crate) fn paths_of(
 /// The bases of spaces, each by its place among these paths.
 pub(crate) fn lists_of(
     alloc: Global,
-    spaces: &[Shared<Space>],
+    spaces: &Spaces,
     paths: &IndexSet<Path>,
 ) -> Result<BaseLists, AllocError>
     requires { length paths.now.keys < 2 ^ 32 }
     ensures { IfOk result (λ lists. lists ≡ lists_in paths.now.keys spaces.now) }
 {
     let mut lists = BaseLists::new(alloc);
-    for space in spaces {
+    for place in 0..spaces.len() {
+        let Some(space) = spaces.get(place) else {
+            unreachable!()
+        };
         lists.push(ids_of(alloc, space.get().bases.as_slice(), paths)?)?;
     }
     Ok(lists)

@@ -11,4 +11,5 @@ pub mod lookup;
 mod replace;
 mod share;
 pub mod space;
+pub mod spaces;
 pub mod text;

@@ -9,11 +9,13 @@ ghost use Rattle.mx_model.specs.Indexed.{Tells, ArePlaced};
 use crate::beside::{lists_of, paths_of};
 use crate::kind::Kind;
 use crate::space::Space;
-use crate::text::{ModelText, copy_all};
+use crate::spaces::Spaces;
+use crate::text::ModelText;
 use mx_c3::space::SpaceId;
 use mx_edit::reference::RefValue;
 use mx_edit::table::Table;
 use mx_list::shared::Shared;
+use mx_members::chunks::Chunks;
 use mx_members::members::Members;
 use mx_value::label::Label;
 use mx_value::node::Node;
@@ -38,10 +40,10 @@ impl ModelText {
             ((old : SpaceRecord) → space_of self.now s ≡ Some old → space ≡ change old) →
             IfOk result (λ t. t ≡ at_space self.now path change) }
     {
-        let mut spaces = copy_all(alloc, self.spaces.as_slice())?;
-        spaces[s.0 as usize] = Shared::new(alloc, space)?;
-        let mut tables = copy_all(alloc, self.kinds.as_slice())?;
-        tables[s.0 as usize] = kinds;
+        let mut spaces = self.spaces.copy(alloc)?;
+        spaces.set(alloc, s.0 as usize, Shared::new(alloc, space)?)?;
+        let mut tables = self.kinds.copy(alloc)?;
+        tables.set(alloc, s.0 as usize, kinds)?;
         Ok(ModelText {
             paths: self.paths.copy()?,
             spaces,
@@ -57,11 +59,11 @@ impl ModelText {
     pub fn with_spaces(
         &self,
         alloc: Global,
-        spaces: Vec<Shared<Space>>,
-        kinds: Vec<Shared<Members<Label, Kind>>>,
+        spaces: Spaces,
+        kinds: Chunks<Shared<Members<Label, Kind>>>,
     ) -> Result<ModelText, AllocError>
-        requires { ArePlaced kinds.items (record self.now { spaces = spaces.items }) }
-        ensures { IfOk result (λ t. t ≡ record self.now { spaces = spaces.items }) }
+        requires { ArePlaced kinds (record self.now { spaces = spaces }) }
+        ensures { IfOk result (λ t. t ≡ record self.now { spaces = spaces }) }
     {
         let paths = paths_of(alloc, &spaces)?;
         let lists = lists_of(alloc, &spaces, &paths)?;
@@ -84,8 +86,8 @@ impl ModelText {
     ) -> Result<ModelText, AllocError>
         ensures { IfOk result (λ t. t ≡ record self.now { globals = globals }) }
     {
-        let spaces = copy_all(alloc, self.spaces.as_slice())?;
-        let kinds = copy_all(alloc, self.kinds.as_slice())?;
+        let spaces = self.spaces.copy(alloc)?;
+        let kinds = self.kinds.copy(alloc)?;
         Ok(ModelText {
             paths: self.paths.copy()?,
             spaces,
@@ -105,8 +107,8 @@ impl ModelText {
     ) -> Result<ModelText, AllocError>
         ensures { IfOk result (λ t. t ≡ record self.now { tables = tables }) }
     {
-        let spaces = copy_all(alloc, self.spaces.as_slice())?;
-        let kinds = copy_all(alloc, self.kinds.as_slice())?;
+        let spaces = self.spaces.copy(alloc)?;
+        let kinds = self.kinds.copy(alloc)?;
         Ok(ModelText {
             paths: self.paths.copy()?,
             spaces,
@@ -126,8 +128,8 @@ impl ModelText {
     ) -> Result<ModelText, AllocError>
         ensures { IfOk result (λ t. t ≡ record self.now { inputs = inputs }) }
     {
-        let spaces = copy_all(alloc, self.spaces.as_slice())?;
-        let kinds = copy_all(alloc, self.kinds.as_slice())?;
+        let spaces = self.spaces.copy(alloc)?;
+        let kinds = self.kinds.copy(alloc)?;
         Ok(ModelText {
             paths: self.paths.copy()?,
             spaces,

@@ -7,18 +7,20 @@ ghost use Rattle.mx_model.specs.Layers.{id_of, space_of, base_lists};
 ghost use Rattle.mx_model.specs.Keys.{input_of};
 ghost use Rattle.mx_model.specs.Lookup.{kind_in};
 ghost use Rattle.mx_model.specs.Indexed.{TellsAt, ArePlaced};
-ghost use Rattle.mx_model.specs.Readers.{path_in, formula_in, allows_in, reference_in, params_in, name_at, cells_at, reference_at};
+ghost use Rattle.mx_model.specs.Readers.{path_in, cells_in, formula_in, allows_in, reference_in, params_in, name_at, cells_at, reference_at};
 
 use crate::kind::Kind;
-use crate::space::Space;
+use crate::space::{Cells, Space};
+use crate::spaces::Spaces;
 use indexmap::IndexSet;
 use mx_c3::lists::{BaseLists, Order};
 use mx_c3::space::SpaceId;
-use mx_code::compiled::{Compiled, CompiledParams};
+use mx_code::compiled::CompiledParams;
 use mx_edit::reference::RefValue;
 use mx_edit::table::Table;
 use mx_list::list::List;
 use mx_list::shared::Shared;
+use mx_members::chunks::Chunks;
 use mx_members::members::Members;
 use mx_syntax::stmt::{Formula, Params};
 use mx_value::label::Label;
@@ -32,9 +34,9 @@ use std::marker::Model;
 pub struct ModelText {
     /// The paths of the spaces, in order of creation, by hash.
     pub(crate) paths: Shared<IndexSet<Path>>,
-    pub(crate) spaces: Vec<Shared<Space>>,
+    pub(crate) spaces: Spaces,
     /// What each space has itself of each name, by its place.
-    pub(crate) kinds: Vec<Shared<Members<Label, Kind>>>,
+    pub(crate) kinds: Chunks<Shared<Members<Label, Kind>>>,
     /// The bases of each space by its place.
     pub(crate) lists: Shared<BaseLists>,
     pub(crate) globals: Shared<Members<Label, RefValue>>,
@@ -56,9 +58,9 @@ impl Model for ModelText {
 
     ghost coded = { Prim.hlevel (codes, value.the_row.coded, node.the_row.coded, expr.the_row.coded, stmt.the_row.coded, ref_value.the_row.coded) };
 
-    ghost view = { λ t. record { spaces = t.spaces.items; globals = t.globals; inputs = t.inputs; tables = t.tables } };
+    ghost view = { λ t. record { spaces = t.spaces; globals = t.globals; inputs = t.inputs; tables = t.tables } };
 
-    ghost invariant = { λ t. IsIndexed t.paths.keys t.lists t.kinds.items (record { spaces = t.spaces.items; globals = t.globals; inputs = t.inputs; tables = t.tables }) };
+    ghost invariant = { λ t. IsIndexed t.paths.keys t.lists t.kinds (record { spaces = t.spaces; globals = t.globals; inputs = t.inputs; tables = t.tables }) };
 }
 
 impl ModelText {
@@ -104,7 +106,10 @@ impl ModelText {
         requires { s.0 < length self.now.spaces }
         ensures { space_of self.now s ≡ Some result.now }
     {
-        self.spaces[s.0 as usize].get()
+        let Some(space) = self.spaces.get(s.0 as usize) else {
+            unreachable!()
+        };
+        space.get()
     }
 
     /// The path of a defined space.
@@ -141,15 +146,12 @@ impl ModelText {
         }
     }
 
-    /// The same with its code.
-    pub fn compiled(&self, s: SpaceId, name: &Label) -> Option<&Compiled>
+    /// A space's own cells, with their formula's code and setting.
+    pub fn cells(&self, s: SpaceId, name: &Label) -> Option<&Cells>
         requires { s.0 < length self.now.spaces }
-        ensures { option_copied result ≡ formula_in self.now s name.now }
+        ensures { option_copied result ≡ cells_in self.now s name.now }
     {
-        match self.space(s).cells(name) {
-            Some(cells) => Some(&cells.formula),
-            None => None,
-        }
+        self.space(s).cells(name)
     }
 
     /// Whether the formula of a space's own cells may give None. False where there are no such cells.
@@ -184,7 +186,10 @@ impl ModelText {
         requires { s.0 < length self.now.spaces }
         ensures { result ≡ kind_in self.now s name.now }
     {
-        self.kinds[s.0 as usize].get().get(name).copied()
+        let Some(kinds) = self.kinds.get(s.0 as usize) else {
+            unreachable!()
+        };
+        kinds.get().get(name).copied()
     }
 
     /// An own reference of a space.
@@ -263,17 +268,17 @@ impl ModelText {
     }
 
     /// The defined spaces, in order of creation.
-    pub fn spaces(&self) -> &[Shared<Space>]
+    pub fn spaces(&self) -> &Spaces
         ensures { result.now ≡ self.now.spaces }
     {
-        self.spaces.as_slice()
+        &self.spaces
     }
 
     /// What each space has itself of each name, by its place.
-    pub fn kinds(&self) -> &[Shared<Members<Label, Kind>>]
+    pub fn kinds(&self) -> &Chunks<Shared<Members<Label, Kind>>>
         ensures { ArePlaced result.now self.now }
     {
-        self.kinds.as_slice()
+        &self.kinds
     }
 
     /// The references of the model.
@@ -302,15 +307,18 @@ impl ModelText {
         requires { s.0 < length self.now.spaces }
         ensures { IfOk result (λ kinds. TellsAt self.now s kinds) }
     {
-        self.kinds[s.0 as usize].copy()
+        let Some(kinds) = self.kinds.get(s.0 as usize) else {
+            unreachable!()
+        };
+        kinds.copy()
     }
 
     /// An equal text, which shares all that it holds.
     pub fn copy(&self, alloc: Global) -> Result<ModelText, AllocError>
         ensures { IfOk result (λ t. t ≡ self.now) }
     {
-        let spaces = copy_all(alloc, self.spaces.as_slice())?;
-        let kinds = copy_all(alloc, self.kinds.as_slice())?;
+        let spaces = self.spaces.copy(alloc)?;
+        let kinds = self.kinds.copy(alloc)?;
         let inputs = self.inputs.copy()?;
         Ok(ModelText {
             paths: self.paths.copy()?,
@@ -322,17 +330,6 @@ impl ModelText {
             tables: self.tables.copy()?,
         })
     }
-}
-
-/// The same items, shared.
-pub fn copy_all<T: Drop>(alloc: Global, items: &[Shared<T>]) -> Result<Vec<Shared<T>>, AllocError>
-    ensures { IfOk result (λ copies. copies.items ≡ items.now) }
-{
-    let mut copies = Vec::new(alloc);
-    for item in items {
-        copies.push(item.copy()?)?;
-    }
-    Ok(copies)
 }
 
 /// The path of the space Main.
@@ -357,21 +354,21 @@ fn one_path(alloc: Global, path: Path) -> Result<IndexSet<Path>, AllocError>
 }
 
 /// The empty space of a path alone.
-fn one_space(alloc: Global, path: Path) -> Result<Vec<Shared<Space>>, AllocError>
-    ensures { IfOk result (λ spaces. spaces.items ≡ empty_space path ∷ []) }
+fn one_space(alloc: Global, path: Path) -> Result<Spaces, AllocError>
+    ensures { IfOk result (λ spaces. spaces ≡ empty_space path ∷ []) }
 {
-    let mut spaces = Vec::new(alloc);
+    let mut spaces = Spaces::new(alloc);
     let space = Space::new(alloc, path, List::empty(alloc)?)?;
-    spaces.push(Shared::new(alloc, space)?)?;
+    spaces.push(alloc, Shared::new(alloc, space)?)?;
     Ok(spaces)
 }
 
 /// The kinds of one space without members.
-fn one_table(alloc: Global) -> Result<Vec<Shared<Members<Label, Kind>>>, AllocError>
-    ensures { IfOk result (λ kinds. kinds.items ≡ [] ∷ []) }
+fn one_table(alloc: Global) -> Result<Chunks<Shared<Members<Label, Kind>>>, AllocError>
+    ensures { IfOk result (λ kinds. kinds ≡ [] ∷ []) }
 {
-    let mut kinds = Vec::new(alloc);
-    kinds.push(Shared::new(alloc, Members::new(alloc)?)?)?;
+    let mut kinds = Chunks::new(alloc);
+    kinds.push(alloc, Shared::new(alloc, Members::new(alloc)?)?)?;
     Ok(kinds)
 }
 

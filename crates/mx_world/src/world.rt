@@ -238,11 +238,11 @@ fn cells_of<'a>(text: &'a ModelText, owner: SpaceId, name: &Label) -> BoundCells
     requires of_kind { kind_in text.now owner name.now ≡ Some kind.Cells }
     ensures { found.Formula result.formula.now result.allow_none ≡ formula_of (member_in text.now owner name.now) }
 {
-    let Some(formula) = text.compiled(owner, name) else {
+    let Some(cells) = text.cells(owner, name) else {
         unreachable!()
     };
     BoundCells {
-        formula,
-        allow_none: text.allows_none(owner, name),
+        formula: &cells.formula,
+        allow_none: cells.allow_none,
     }
 }

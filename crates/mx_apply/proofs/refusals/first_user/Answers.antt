@@ -6,13 +6,13 @@ use Rattle.mx_apply.proofs.refusals.first_user.Goals as goal
 
 pub returns-then-uses : goal.returns-then-uses
 returns-then-uses c =
-    let s = c.space-item.result in
-    let so = sym (c.uses.ensures ∙ ap (uses c.args.removed.now) c.get.ensures) ∙ c.if-uses.true in
+    let s = c.in-Some.space.now in
+    let so = sym (c.uses.ensures ∙ ap (uses c.args.removed.now) c.get-in-loop-place.ensures) ∙ c.if-uses.true in
     ap (λ (p : Path). Some p) (c.path.ensures ∙ ap (λ (z : SpaceRecord). z.path) c.get-then-uses.ensures) ∙
-    sym (c.loop-space.invariant ∙ user_found c.args.removed.now c.args.spaces.now c.loop-space.space-index s c.loop-space-test.true c.space-item.is so)
+    sym (c.loop-place.invariant ∙ user_found c.args.removed.now c.args.spaces.now c.loop-place.place s (sym c.in-Some.ensures) so)
 
-pub loop-space-preserved : goal.loop-space-preserved
-loop-space-preserved c =
-    let s = c.space-item.result in
-    let other = sym (c.uses.ensures ∙ ap (uses c.args.removed.now) c.get.ensures) ∙ c.if-uses.false in
-    c.loop-space.invariant ∙ user_passed c.args.removed.now c.args.spaces.now c.loop-space.space-index s c.loop-space-test.true c.space-item.is other
+pub loop-place-preserved : goal.loop-place-preserved
+loop-place-preserved c =
+    let s = c.in-Some.space.now in
+    let other = sym (c.uses.ensures ∙ ap (uses c.args.removed.now) c.get-in-loop-place.ensures) ∙ c.if-uses.false in
+    c.loop-place.invariant ∙ user_passed c.args.removed.now c.args.spaces.now c.loop-place.place s (sym c.in-Some.ensures) other

@@ -2,5 +2,5 @@ use Rattle.std.proofs.Common.{◌≡◌, take}
 use Rattle.mx_model.specs.Layers.{lists_in}
 use Rattle.mx_model.proofs.beside.lists_of.Given as goal
 
-abbrev pub invariant-loop-space : goal.invariant-loop-space
-invariant-loop-space l = l.lists ≡ lists_in l.paths.keys (take l.space-index l.spaces)
+abbrev pub invariant-loop-place : goal.invariant-loop-place
+invariant-loop-place l = l.lists ≡ lists_in l.paths.keys (take l.place l.spaces)

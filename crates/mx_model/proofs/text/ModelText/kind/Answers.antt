@@ -1,29 +1,21 @@
-use Rattle.std.proofs.Common.{◌≡◌, ◌∙◌, ap, sym, subst, length, arith}
+use Rattle.std.proofs.Common.{◌∙◌, ap, sym, subst}
 use Rattle.std.specs.Map.{lookup}
-use Rattle.std.proofs.lemmas.Option.{slice_get_read}
 use Rattle.mx_value.specs.Name.{same_name}
 use Rattle.mx_model.specs.Records.{ModelRecord}
 use Rattle.mx_model.specs.Indexed.{Kinds, TellAll}
-use Rattle.mx_model.proofs.KindLemmas.{tables_many, told_at}
+use Rattle.mx_model.proofs.KindLemmas.{told_at, table_there}
 use Rattle.mx_model.proofs.text.ModelText.kind.Goals as goal
 
-pub index-requires : goal.index-requires
-index-requires c =
-    let tables = c.self.inside.kinds.items in
-    let text = c.args.self.now in
-    let P : ModelRecord → Type 0 = λ t. TellAll t t.spaces tables in
-    let many : length tables ≡ length text.spaces = tables_many text text.spaces tables (subst P c.self.view_is c.self.invariant.placed.kinds) in
-    omega arith
+pub unreachable-requires : goal.unreachable-requires
+unreachable-requires c =
+    let P : ModelRecord → Type 0 = λ t. TellAll t t.spaces c.self.inside.kinds in
+    table_there c.args.self.now c.args.self.now.spaces c.self.inside.kinds c.args.s.0 (subst P c.self.view_is c.self.invariant.placed.kinds) c.requires (sym c.in_default.ensures)
 
 pub returns : goal.returns
 returns c =
-    let tables = c.self.inside.kinds.items in
     let text = c.args.self.now in
     let name = c.args.name.now in
-    let n = c.args.s.0 in
-    let table = c.index.result.now in
-    let P : ModelRecord → Type 0 = λ t. TellAll t t.spaces tables in
+    let P : ModelRecord → Type 0 = λ t. TellAll t t.spaces c.self.inside.kinds in
     let tell = subst P c.self.view_is c.self.invariant.placed.kinds in
-    let many : length tables ≡ length text.spaces = tables_many text text.spaces tables tell in
-    let at = slice_get_read tables (length text.spaces) n table (sym many) c.requires c.index.ensures in
-    c.copied.ensures ∙ c.get-2.ensures ∙ ap (λ (k : Kinds). lookup (same_name name) k) c.get.ensures ∙ told_at text text.spaces tables n table name tell at
+    c.copied.ensures ∙ c.get-3.ensures ∙ ap (λ (k : Kinds). lookup (same_name name) k) c.get-2.ensures ∙
+    told_at text text.spaces c.self.inside.kinds c.args.s.0 c.in-Some.kinds.now name tell (sym c.in-Some.ensures)
