@@ -18,7 +18,7 @@ use Rattle.mx_round_trip.proofs.Literals.{within_again}
 
 module _ {A : Type 0} (R : ℕ → Spelling A) (F : ℕ → Bool) (text : A → List ℕ) (again : (levels : ℕ) (u : List Word) (x : A) → AreSaid u → R levels u x → Again F (R levels) u x (text x)) where
   -- from what the line spells to what its printed text does
-  line_back : (levels : ℕ) (ws line : List Word) (x : A) → ws ≡ line ++ Symbol End ∷ [] → AreSaid ws → Shallow 64 unopened ws → Line (R levels) line x → length (text x) ≤ 65536 → SpellsIn (λ l. Line (R l)) (text x) x
+  pub line_back : (levels : ℕ) (ws line : List Word) (x : A) → ws ≡ line ++ Symbol End ∷ [] → AreSaid ws → Shallow 64 unopened ws → Line (R levels) line x → length (text x) ≤ 65536 → SpellsIn (λ l. Line (R l)) (text x) x
   line_back levels ws _ x parts are shallow (Line.line {u} h) short =
       let given : ws ≡ u ++ Symbol Newline ∷ Symbol End ∷ [] = parts ∙ append_assoc u (Symbol Newline ∷ []) (Symbol End ∷ []) in
       let said_u : AreSaid u = (said_split u (Symbol Newline ∷ Symbol End ∷ []) (subst AreSaid given are)).0 in

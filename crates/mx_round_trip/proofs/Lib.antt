@@ -43,3 +43,4 @@ pub mod Addresses
 pub mod Nodes
 pub mod Weights
 pub mod Proper
+pub mod PlainValues

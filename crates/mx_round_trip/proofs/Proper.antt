@@ -71,22 +71,22 @@ text_atom t = record {
   flat = ap nesting_of (sym (value.rolls-Text t)) ∙ fold-roll-Value _ _ _ _ _ _ (Value-F.Text t);
 }
 
-abbrev all_plain : List Value → Bool
+abbrev pub all_plain : List Value → Bool
 all_plain xs = list_all (λ (p : Bool). p) (map is_plain xs)
 
 abbrev sizes : List Value → ℕ
 sizes xs = sum (map size_of xs)
 
-abbrev deepest : List Value → ℕ
+abbrev pub deepest : List Value → ℕ
 deepest xs = greatest (map nesting_of xs)
 
-plain_tup : (xs : List Value) → is_plain (value.Tup xs) ≡ all_plain xs
+pub plain_tup : (xs : List Value) → is_plain (value.Tup xs) ≡ all_plain xs
 plain_tup xs = ap is_plain (sym (value.rolls-Tup xs)) ∙ fold-roll-Value _ _ _ _ _ _ (Value-F.Tup xs)
 
 size_tup : (xs : List Value) → size_of (value.Tup xs) ≡ 1 + sizes xs
 size_tup xs = ap size_of (sym (value.rolls-Tup xs)) ∙ fold-roll-Value _ _ _ _ _ _ (Value-F.Tup xs)
 
-nesting_tup : (xs : List Value) → nesting_of (value.Tup xs) ≡ 1 + deepest xs
+pub nesting_tup : (xs : List Value) → nesting_of (value.Tup xs) ≡ 1 + deepest xs
 nesting_tup xs = ap nesting_of (sym (value.rolls-Tup xs)) ∙ fold-roll-Value _ _ _ _ _ _ (Value-F.Tup xs)
 
 abbrev address_size : List Segment → ℕ
@@ -107,7 +107,7 @@ sum_more n ns = sum_by-cons (λ (x : ℕ). x) n ns
 sizes_more : (x : Value) (xs : List Value) → sizes (x ∷ xs) ≡ size_of x + sizes xs
 sizes_more x xs = sum_more (size_of x) (map size_of xs)
 
-both_true : (a b : Bool) → a ≡ true → b ≡ true → (a && b) ≡ true
+pub both_true : (a b : Bool) → a ≡ true → b ≡ true → (a && b) ≡ true
 both_true true true g h = refl
 both_true true false g h = absurd cc
 both_true false true g h = absurd cc
@@ -124,11 +124,11 @@ arguments (x ∷ xs) plain small low =
 -- ---- literals
 
 -- What a literal is, by its tokens: no larger than what they say, and no deeper nested than the brackets that they open.
-record Measured (u : List Word) (x : Value) : Type 0 where
-  plain : is_plain x ≡ true
-  size : size_of x ≤ weights u
-  closed : IsClosed u
-  nesting : (d : ℕ) (n : Open) → Shallow d n u → open_count n + nesting_of x ≤ d
+pub record Measured (u : List Word) (x : Value) : Type 0 where
+  pub plain : is_plain x ≡ true
+  pub size : size_of x ≤ weights u
+  pub closed : IsClosed u
+  pub nesting : (d : ℕ) (n : Open) → Shallow d n u → open_count n + nesting_of x ≤ d
 
 record AllMeasured (u : List Word) (xs : List Value) : Type 0 where
   plain : all_plain xs ≡ true
@@ -207,7 +207,7 @@ module _ (In : Spelling Value) (inner : (u : List Word) (x : Value) → In u x �
   literal_measured _ _ Literal.empty = empty_measured
   literal_measured _ _ (Literal.tuple {u} {v} {x} {xs} h k) = tuple_measured u v x xs (inner u x h) (listed_measured v xs k)
 
-within_measured : (levels : ℕ) (u : List Word) (x : Value) → Within Literal levels u x → Measured u x
+pub within_measured : (levels : ℕ) (u : List Word) (x : Value) → Within Literal levels u x → Measured u x
 within_measured zero u x h = absurd h
 within_measured (suc levels) u x h = literal_measured (Within Literal levels) (within_measured levels) u x h
 

@@ -38,6 +38,10 @@ pub said_split : (us ws : List Word) → AreSaid (us ++ ws) → AreSaid us × Ar
 said_split [] ws h = (tt, h)
 said_split (u ∷ us) ws h = let more = said_split us ws h.1 in ((h.0, more.0), more.1)
 
+pub said_join : (us ws : List Word) → AreSaid us → AreSaid ws → AreSaid (us ++ ws)
+said_join [] ws g h = h
+said_join (u ∷ us) ws g h = (g.0, said_join us ws g.1 h)
+
 said_by : (k : TokenKind) (text : List ℕ) → IsSpelled k text → (k ≡ kind.Fix → IsDecimal text) → IsSaid (word_by k text)
 said_by kind.Name text spelled decimal = spelled
 said_by kind.Keyword text spelled decimal = tt

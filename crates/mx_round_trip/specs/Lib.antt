@@ -1,3 +1,4 @@
 pub mod ParsedLines
 pub mod ReadBack
 pub mod Proper
+pub mod PlainValues

@@ -19,6 +19,7 @@ ghost use Rattle.mx_parse.specs.FormulaLimits.{formula_limits, params_limits};
 ghost use Rattle.mx_grammar.specs.Limits.{AnswersWithin};
 ghost use Rattle.mx_grammar.specs.Spelling.{SpellsIn};
 ghost use Rattle.mx_round_trip.specs.Proper.{IsProper};
+ghost use Rattle.mx_round_trip.specs.PlainValues.{PlainValuesReadBack, SpelledValuesAreLiterals};
 ghost use Rattle.mx_round_trip.specs.ReadBack.{ReadsBack, ReadsBackWithin, GivenAgain};
 ghost use Rattle.mx_round_trip.specs.ParsedLines.{HasItsLines};
 
@@ -27,6 +28,17 @@ use mx_print::line::line_laws;
 /// The printed text of a literal spells it again, unless it is longer than a source may be.
 pub fn literals_read_back()
     ensures { (source : List ℕ) (v : Value) → ReadsBack literal_text source v (value_text v) }
+{}
+
+/// The printed text of each value that has a literal spells it, unless it is longer than a source may be.
+pub fn plain_values_read_back()
+    ensures { PlainValuesReadBack }
+{}
+
+/// A value that a source spells is plain, with numbers in range and printable texts, and within the limit on nesting: the premises
+/// of the law above are no more than is needed.
+pub fn spelled_values_are_literals()
+    ensures { SpelledValuesAreLiterals }
 {}
 
 /// The printed text of an address spells it again, unless it is longer than a source may be.
