@@ -1,13 +1,15 @@
 #!/usr/bin/env python3
 """How long edits of model texts take, with their commands read: the program of mx_model_rows over generated scripts.
 
-    tools/model_bench.py        after `rt run` in crates/mx_model_rows has built the program
+    tools/model_bench.py            after `rt run` in crates/mx_model_rows has built the program
+    tools/model_bench.py --edges    the two limits that take too long for the gate: 4,000 spaces and 1,000,000 inputs
 
 Each line gives the seconds of a workload's edits: the time of its script less that of the part that only sets it up. The best of
-three runs counts.
+three runs counts. An edge is right where exactly the last edit is refused, for its limit.
 """
 import os
 import subprocess
+import sys
 import time
 
 HERE = os.path.dirname(os.path.abspath(__file__))
@@ -27,6 +29,21 @@ def seconds(lines):
     return best
 
 
+def edge(name, lines):
+    """Whether all edits but the last are accepted, and the last is refused."""
+    out = subprocess.run([PROGRAM], input="\n".join(lines) + "\n", capture_output=True, text=True, check=True).stdout
+    answers = out.splitlines()
+    is_right = answers.count("ok") == len(lines) - 1 and answers[-1] == f"refused: TooMany {name}"
+    print(f"{name}: {'right' if is_right else 'WRONG'} ({len(lines) - 1:,} accepted, then: {answers[-1]})", flush=True)
+    return is_right
+
+
+def edges():
+    spaces = [f"space s{i}" for i in range(4000)]
+    inputs = ["cells c(t) = t"] + [f"input c({n}) = 1" for n in range(1_000_001)]
+    return [edge("Spaces", spaces), edge("Inputs", inputs)]
+
+
 def main():
     spaces = [f"space s{i}" for i in range(1000)]
     cells = [f"cells s{i}.c{n}(t) = {n}" for n in range(10) for i in range(1000)]
@@ -40,7 +57,11 @@ def main():
     print(f"2,000 spaces with a base each: {seconds(spaces[:50] + based) - seconds(spaces[:50]):.2f} s", flush=True)
     inputs = ["cells c(t) = t"] + [f"input c({n}) = 1" for n in range(10000)]
     print(f"10,000 inputs: {seconds(inputs):.2f} s", flush=True)
+    inputs = ["cells c(t) = t"] + [f"input c({n}) = 1" for n in range(100000)]
+    print(f"100,000 inputs: {seconds(inputs):.2f} s", flush=True)
 
 
 if __name__ == "__main__":
+    if sys.argv[1:] == ["--edges"]:
+        sys.exit(0 if all(edges()) else 1)
     main()

@@ -47,7 +47,7 @@ key input S.c(1) | missing
 # an input of an item space, and of cells that take other arguments
 space S | ok
 params S(x) | ok
-cells S.c(t) = t | ok
+cells S.c(t) = x * t | ok
 input S[2].c(1) = 5 | refused: ItemAddress
 input S.c() = 5 | refused: WrongCount
 input S.c(1, 2) = 5 | refused: WrongCount
@@ -59,10 +59,11 @@ cells S.c(t, u) = u * t | ok
 key input S.c(2) | missing
 uninput S.c(2, 3) | refused: BadValue
 # None is no input
-cells n() = 2 | ok
-input n() = None | refused: BadValue
+cells n() = None | ok
+key cells Main n | formula () = None
 allow n | ok
-key cells Main n | formula () = 2 | none allowed
+input n() = None | refused: BadValue
+key cells Main n | formula () = None | none allowed
 cells n() = 1 | ok
 key cells Main n | formula () = 1 | none allowed
 disallow n | ok
@@ -128,12 +129,13 @@ space S | ok
 space T | ok
 global r = 1 | ok
 ref T.r = 2 | ok
-cells S.c() = d() + 1 | ok
+cells S.c() = r + 1 | ok
+cells S.d() = 5 | ok
 key name S r | missing
 key global r | ref 1 of the model
 key name T r | ref 2 of T
 key name S c | cells
-key cells S c | formula () = d() + 1
+key cells S c | formula () = r + 1
 key params S | missing
 key exists S | there
 key input S.c() | missing
@@ -143,7 +145,11 @@ key name S r | ref 2 of T
 key global r | ref 1 of the model
 key name T r | ref 2 of T
 key name S c | cells
+key cells S c | formula () = r + 1
 key params S | missing
+key exists S | there
+key input S.c() | missing
+key table r | missing
 # a child that cells of an earlier layer hide stays a path
 space A | ok
 space A.x | ok
@@ -210,6 +216,30 @@ def limits():
                 rows.append(f"space L{i} | ok")
             rows += [f"space L{i}.{child} | ok", f"bases L{i}.{child}: L{i - 1} | ok"]
     rows += ["space L13 | ok", "space L13.X | ok", "bases L13.X: L12 | refused: TooMany Paths", "order L13.X | order L13.X"]
+    return rows + long_texts()
+
+
+def long_texts():
+    """Texts have 60,000 bytes at most."""
+
+    def text(length):
+        return f'"{"a" * (length - 2)}"'
+
+    rows = ["# the length of the text of a reference's value", "space S | ok"]
+    rows += [f"ref S.r = {text(60001)} | refused: BadValue", "key name S r | missing", f"ref S.r = {text(60000)} | ok"]
+    node = "S.c(1)"
+    rows += ["# the length of the texts of an input's node and value together", "space S | ok", "cells S.c(t) = t | ok"]
+    rows += [f"input {node} = {text(60001 - len(node))} | refused: BadValue", f"key input {node} | missing"]
+    rows.append(f"input {node} = {text(60000 - len(node))} | ok")
+    rows.append("# the length of the text of a list of bases")
+    paths = [".".join(["b" * 64] * count) for count in range(1, 65)]
+    rows += [f"space {path} | ok" for path in paths]
+    bases = [paths[count - 1] for count in (*range(64, 48, -1), 18)]
+    room = 60000 - len(", ".join(bases + [""]))
+    rows += [f"space {'c' * room} | ok", f"space {'d' * (room + 1)} | ok", "space S | ok"]
+    rows += [f"bases S: {', '.join(bases + ['d' * (room + 1)])} | refused: BadValue", "order S | order S"]
+    rows.append(f"bases S: {', '.join(bases + ['c' * room])} | ok")
+    rows += ["# the nesting of a value", f"global r = {'(' * 64}{')' + ',)' * 63} | ok"]
     return rows
 
 
