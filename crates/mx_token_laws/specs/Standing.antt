@@ -1,0 +1,129 @@
+-- Where tokens stand in a source, said of its bytes and of the tokens alone.
+use Rattle.std.specs.Prelude.{◌≡◌, ◌≢◌, ℕ, ◌+◌, ◌<◌, ◌≤◌, Bool, true, false, ◌==◌, List, [], ◌∷◌, ◌++◌, length, take, drop, Option, None, Some, ◌⊎◌}
+use Rattle.std.specs.List.{AllPass}
+use Rattle.mx_lex.specs.Bytes.{is_printable, is_escaped, continues_name, first_passes}
+use Rattle.mx_lex.specs.Spans.{is_glued, begins_with_one, long_marks}
+use Rattle.mx_lex.specs.Heads.{ends_here, brackets_behind, empty_token}
+use Rattle.mx_lex.specs.Lines.{is_blank}
+use Rattle.mx_lex.specs.Laws.{IsSpelled}
+use Rattle.mx_lex.specs.declared.Token.{Token}
+use Rattle.mx_lex.specs.declared.TokenKind.{TokenKind}
+use Rattle.mx_lex.specs.declared.TokenKind.TheVariants.{Name, Keyword, Int, Fix, Text, Mark, Newline, Indent, Dedent, End}
+
+-- ---- what stands between tokens
+
+abbrev pub AreSpaces : List ℕ → Type 0
+AreSpaces bytes = AllPass (λ b. b == 32) bytes
+
+-- Spaces, line ends and comments. A comment goes on to the end of its line, or of the source. The first are the bytes behind.
+pub data IsGap (behind : List ℕ) : List ℕ → Type 0 where
+  none : IsGap behind []
+  space : (bs : List ℕ) → IsGap behind bs → IsGap behind (32 ∷ bs)
+  line_end : (bs : List ℕ) → IsGap behind bs → IsGap behind (10 ∷ bs)
+  comment : (text bs : List ℕ) → AllPass is_printable text → ends_here (bs ++ behind) ≡ true → IsGap behind bs → IsGap behind (35 ∷ text ++ bs)
+
+-- ---- how far a token reaches
+
+abbrev pub IsVisible : TokenKind → Type 0
+IsVisible Newline = ⊥
+IsVisible Indent = ⊥
+IsVisible Dedent = ⊥
+IsVisible End = ⊥
+IsVisible _ = Unit {0}
+
+-- between the quotes of a text: behind a `\` that escapes stands `\` or a quote, and all quotes of its own kind are escaped
+abbrev pub IsQuoted : ℕ → Bool → List ℕ → Type 0
+IsQuoted quote escaped [] = escaped ≡ false
+IsQuoted quote true (b ∷ bs) = (is_escaped b ≡ true) × IsQuoted quote false bs
+IsQuoted quote false (b ∷ bs) = ((b ≡ 92) × IsQuoted quote true bs) ⊎ ((b ≢ 92) × (b ≢ quote) × IsQuoted quote false bs)
+
+pub record IsClosedOnce (text : List ℕ) : Type 0 where
+  pub quote : ℕ
+  pub inner : List ℕ
+  pub parts : text ≡ quote ∷ inner ++ quote ∷ []
+  pub quoted : IsQuoted quote false inner
+
+-- no longer token of its kind stands at the front of these bytes
+abbrev pub IsLongest : TokenKind → ℕ → List ℕ → Type 0
+IsLongest Name len bytes = first_passes continues_name (drop len bytes) ≡ false
+IsLongest Keyword len bytes = first_passes continues_name (drop len bytes) ≡ false
+IsLongest Int len bytes = is_glued (drop len bytes) ≡ false
+IsLongest Fix len bytes = is_glued (drop len bytes) ≡ false
+IsLongest Text len bytes = IsClosedOnce (take len bytes)
+IsLongest Mark len bytes = len ≡ 1 → begins_with_one long_marks bytes ≡ false
+IsLongest _ len bytes = ⊥
+
+-- a name, number, text or mark of so many bytes stands at the front of these bytes
+pub record IsToken (kind : TokenKind) (len : ℕ) (bytes : List ℕ) : Type 0 where
+  pub visible : IsVisible kind
+  pub some : 0 < len
+  pub within : len ≤ length bytes
+  pub spelled : IsSpelled kind (take len bytes)
+  pub longest : IsLongest kind len bytes
+
+-- ---- lines
+
+-- what the tokens so far say of those that come
+pub record Behind : Type 0 where
+  -- a line of tokens has begun, and its NEWLINE is still to come
+  pub inside : Bool
+  -- some line has begun
+  pub begun : Bool
+  -- how many brackets are open
+  pub brackets : ℕ
+  -- the indents of the blocks that are open, the innermost first, and that of the source
+  pub levels : List ℕ
+  -- the indent of the line that begins, where an INDENT or DEDENT stands directly before
+  pub found : Option ℕ
+
+abbrev pub beginning : Behind
+beginning = record { inside = false; begun = false; brackets = 0; levels = 0 ∷ []; found = None }
+
+-- brackets behind the token that begins these bytes; never below 0
+abbrev pub brackets_from : List ℕ → ℕ → ℕ
+brackets_from [] count = count
+brackets_from (b ∷ bs) count = brackets_behind b count
+
+abbrev pub in_line : Behind → List ℕ → Behind
+in_line behind bytes = record { inside = true; begun = true; brackets = brackets_from bytes behind.brackets; levels = behind.levels; found = None }
+
+pub record EndsLine (bytes : List ℕ) : Type 0 where
+  pub front : List ℕ
+  pub is : bytes ≡ front ++ 10 ∷ []
+
+-- a line begins behind these bytes, which stand at this place: the first of the source, or one behind a line end
+abbrev pub BeginsLine : ℕ → List ℕ → Type 0
+BeginsLine place bytes = ((place ≡ 0) × (bytes ≡ [])) ⊎ EndsLine bytes
+
+-- so many spaces stand between the beginning of the line and what comes
+pub record IsIndent (place : ℕ) (gap : List ℕ) (indent : ℕ) : Type 0 where
+  pub lines : List ℕ
+  pub spaces : List ℕ
+  pub parts : gap ≡ lines ++ spaces
+  pub begins : BeginsLine place lines
+  pub are_spaces : AreSpaces spaces
+  pub count : length spaces ≡ indent
+
+-- the indent of the line that begins behind the gap
+abbrev pub HasIndent : Behind → ℕ → List ℕ → ℕ → Type 0
+HasIndent behind place gap indent = ((behind.found ≡ Some indent) × (gap ≡ [])) ⊎ ((behind.found ≡ None) × IsIndent place gap indent)
+
+-- What may follow, behind a gap, at the front of these bytes: a token of this kind and length. Last comes what is then said.
+pub data Follows (behind : Behind) (place : ℕ) (gap bytes : List ℕ) : TokenKind → ℕ → Behind → Type 0 where
+  -- a further token of a line; a line end in the gap needs an open bracket
+  goes_on : (kind : TokenKind) (len : ℕ) → behind.inside ≡ true → (behind.brackets ≡ 0 → AreSpaces gap) → IsToken kind len bytes → Follows behind place gap bytes kind len (in_line behind bytes)
+  -- the first of a line, whose indent is that of the innermost block
+  begins : (kind : TokenKind) (len indent : ℕ) (below : List ℕ) → behind.inside ≡ false → HasIndent behind place gap indent → behind.levels ≡ indent ∷ below → IsToken kind len bytes → Follows behind place gap bytes kind len (in_line behind bytes)
+  -- NEWLINE stands at the first line end or comment with no bracket open, or at the end of the source
+  newline : behind.inside ≡ true → (behind.brackets ≡ 0 → AreSpaces gap) → is_blank bytes ≡ true → (bytes ≡ []) ⊎ (behind.brackets ≡ 0) → Follows behind place gap bytes Newline 0 (record behind { inside = false })
+  -- an indent that grows opens a block
+  indent : (indent top : ℕ) (below : List ℕ) → behind.inside ≡ false → behind.begun ≡ true → HasIndent behind place gap indent → behind.levels ≡ top ∷ below → top < indent → is_blank bytes ≡ false → Follows behind place gap bytes Indent 0 (record behind { levels = indent ∷ behind.levels; found = Some indent })
+  -- one that falls closes each block with a greater one
+  dedent : (indent top : ℕ) (below : List ℕ) → behind.inside ≡ false → HasIndent behind place gap indent → behind.levels ≡ top ∷ below → indent < top → is_blank bytes ≡ false → Follows behind place gap bytes Dedent 0 (record behind { levels = below; found = Some indent })
+  -- the end of the source closes all
+  closes : (top : ℕ) (below : List ℕ) → behind.inside ≡ false → behind.levels ≡ top ∷ below → 0 < top → bytes ≡ [] → Follows behind place gap bytes Dedent 0 (record behind { levels = below })
+
+-- The tokens of these bytes, which stand at this place: gaps and tokens in turn, and END behind the last gap.
+pub data IsRead : Behind → ℕ → List ℕ → List Token → Type 0 where
+  ended : (behind : Behind) (place : ℕ) (gap : List ℕ) → behind.inside ≡ false → behind.levels ≡ 0 ∷ [] → IsGap [] gap → IsRead behind place gap (empty_token End (place + length gap) ∷ [])
+  token : (behind next : Behind) (place past : ℕ) (all gap bytes : List ℕ) (t : Token) (tokens : List Token) → all ≡ gap ++ bytes → t.at ≡ place + length gap → past ≡ t.at + t.len → IsGap bytes gap → Follows behind place gap bytes t.kind t.len next → IsRead next past (drop t.len bytes) tokens → IsRead behind place all (t ∷ tokens)
