@@ -1,5 +1,5 @@
 -- The INDENT or DEDENTs that a line's indent gives, and the first token of the line behind them.
-use Rattle.std.proofs.Common.{◌≡◌, ℕ, ◌+◌, ◌<◌, List, [], ◌∷◌, ◌++◌, true, false, ltb, ◌==◌, length, drop, refl, sym, ap, ◌∙◌, subst, ⊎_elim, inl, Some, Ok, Err, arith}
+use Rattle.std.proofs.Common.{None, ◌≡◌, ℕ, ◌+◌, ◌<◌, List, [], ◌∷◌, ◌++◌, true, false, ltb, ◌==◌, length, drop, refl, sym, ap, ◌∙◌, subst, ⊎_elim, inl, inr, Some, Ok, Err, arith}
 use Rattle.std.proofs.lemmas.Bool.{false≢true, eqb-true, ltb-true}
 use Rattle.mx_lex.specs.Heads.{empty_token, is_inside}
 use Rattle.mx_lex.specs.Lines.{Levels, Indented, given_before, dedented, indented, line_indented, is_blank}
@@ -9,7 +9,7 @@ use Rattle.mx_lex.specs.declared.LexRefusal.TheVariants.{BadIndent}
 use Rattle.mx_lex.specs.declared.line.Phase.{Phase}
 use Rattle.mx_lex.specs.declared.line.Phase.TheVariants.{BeforeFirst, AtStart, Inside}
 use Rattle.mx_lex.proofs.Cases.{chosen}
-use Rattle.mx_token_laws.specs.Standing.{IsGap, IsToken, Behind, in_line, HasIndent, Follows, IsRead}
+use Rattle.mx_token_laws.specs.Standing.{IsGap, IsToken, is_solid, Behind, in_line, IsIndent, HasIndent, Follows, IsRead}
 
 -- the indents of open blocks fall to that of the source
 abbrev pub AreFalling : List ℕ → Type 0
@@ -38,7 +38,7 @@ pub record First (behind : Behind) (place at indent : ℕ) (gap bytes : List ℕ
   pub out : behind.inside ≡ false
   pub has : HasIndent behind place gap indent
   pub is_gap : IsGap bytes gap
-  pub solid : is_blank bytes ≡ false
+  pub solid : is_solid bytes ≡ true
   pub token : IsToken t.kind t.len bytes
   pub stands : t.at ≡ at
   pub position : at ≡ place + length gap
@@ -115,9 +115,9 @@ falls_on line indent at (top ∷ below) levels falling e =
         subst (λ (l : Levels). AreFalling l.stack) whole (h later is)
 
 -- what the indent of a line gives stands in front of its first token
-pub opened_reads : (phase : Phase) (behind : Behind) (place at line indent : ℕ) (gap bytes : List ℕ) (t : Token) (levels : Levels) → First behind place at indent gap bytes t → HasBegun phase behind → AreFalling behind.levels → is_inside phase ≡ false → line_indented phase at line indent behind.levels ≡ Ok levels → Opens behind place gap bytes levels t
-opened_reads Inside behind place at line indent gap bytes t levels h begun falling out e = absurd (false≢true (sym out))
-opened_reads BeforeFirst behind place at line indent gap bytes t levels h begun falling out e =
+pub opened_reads : (phase : Phase) (behind : Behind) (place at line indent : ℕ) (gap bytes : List ℕ) (t : Token) (levels : Levels) → First behind place at indent gap bytes t → behind.found ≡ None → HasBegun phase behind → AreFalling behind.levels → is_inside phase ≡ false → line_indented phase at line indent behind.levels ≡ Ok levels → Opens behind place gap bytes levels t
+opened_reads Inside behind place at line indent gap bytes t levels h fresh begun falling out e = absurd (false≢true (sym out))
+opened_reads BeforeFirst behind place at line indent gap bytes t levels h fresh begun falling out e =
     ⊎_elim
     (λ same.
     let unchanged = given_is (unchanged_levels behind.levels) levels same.1 in
@@ -126,8 +126,12 @@ opened_reads BeforeFirst behind place at line indent gap bytes t levels h begun 
     (record { falling = falling; reads = λ tokens rest. first_reads behind place at indent [] gap bytes t tokens h open_below rest }))
     (λ none. absurd (let f : Err (BadIndent line) ≡ Ok levels = none.1 in cc))
     (chosen (indent == 0) _ _ (Ok levels) e)
-opened_reads AtStart behind place at line indent gap bytes t levels h begun falling out e = at_start behind.levels refl falling e
+opened_reads AtStart behind place at line indent gap bytes t levels h fresh begun falling out e = at_start behind.levels refl falling e
   where
+    indent_here : HasIndent behind place gap indent → IsIndent place gap indent
+    indent_here (inl found) = absurd (let f : None ≡ Some indent = sym fresh ∙ found.0 in cc)
+    indent_here (inr here) = here.1
+
     at_start : (stack : List ℕ) → behind.levels ≡ stack → AreFalling stack → indented at line indent stack ≡ Ok levels → Opens behind place gap bytes levels t
     at_start [] is h2 e2 = absurd h2
     at_start (top ∷ below) is h2 e2 =
@@ -147,5 +151,5 @@ opened_reads AtStart behind place at line indent gap bytes t levels h begun fall
               falling = (less, h2);
               reads = λ tokens rest.
                   let after = first_reads next (at + 0) at indent behind.levels [] bytes t tokens (behind_block behind next place at indent gap bytes t h h.out refl) refl (subst (λ s. ReadsBehind behind s bytes t tokens) stack rest) in
-                  IsRead.token behind next place (at + 0) (gap ++ bytes) gap bytes (empty_token Indent at) (t ∷ tokens) refl h.position refl h.is_gap (Follows.indent indent top below h.out begun h.has is less h.solid) after;
+                  IsRead.token behind next place (at + 0) (gap ++ bytes) gap bytes (empty_token Indent at) (t ∷ tokens) refl h.position refl h.is_gap (Follows.indent indent top below h.out begun fresh (indent_here h.has) is less h.solid) after;
             })

@@ -1,10 +1,11 @@
 -- Each name, number, text and mark is the longest that stands where it does.
-use Rattle.std.proofs.Common.{◌≡◌, ℕ, ◌+◌, ◌-◌, suc, List, [], ◌∷◌, ◌++◌, Bool, true, false, ◌==◌, not, ◌&&◌, length, take, drop, refl, ap, ◌∙◌, subst, Result, Ok, Err, inl, inr, arith}
+use Rattle.std.proofs.Common.{◌≡◌, ℕ, ◌+◌, ◌-◌, suc, List, [], ◌∷◌, ◌++◌, Bool, true, false, ◌==◌, not, ◌&&◌, length, take, drop, length-take-le, refl, ap, ◌∙◌, subst, Result, Ok, Err, inl, inr, arith}
 use Rattle.std.specs.Prelude.{IfOk}
 use Rattle.std.specs.List.{prefix_len}
 use Rattle.std.specs.Char.{is_ascii_digit}
 use Rattle.std.proofs.lemmas.List.{drop-drop}
-use Rattle.std.proofs.lemmas.Bool.{and_parts, not-true, eqb-true, eqb-false}
+use Rattle.std.proofs.Math.Seq.{take-add}
+use Rattle.std.proofs.lemmas.Bool.{false≢true, and_parts, not-true, eqb-true, eqb-false}
 use Rattle.mx_lex.specs.Bytes.{begins_name, continues_name, is_printable, is_quote, is_escaped, first_passes}
 use Rattle.mx_lex.specs.Spans.{Found, found, is_keyword, name_at, is_glued, is_int, is_fix, number_at, text_end, text_until, text_at, long_marks, short_marks, begins_with_one, mark_at, span_at}
 use Rattle.mx_lex.specs.declared.TokenKind.TheVariants.{Name, Keyword, Int, Fix, Mark}
@@ -12,7 +13,8 @@ use Rattle.mx_lex.specs.declared.LexRefusal.{LexRefusal}
 use Rattle.mx_lex.specs.declared.LexRefusal.TheVariants.{BadByte, BadNumber}
 use Rattle.mx_lex.specs.declared.spans.Span.{Span}
 use Rattle.mx_lex.proofs.Cases.{both}
-use Rattle.mx_lex.proofs.SpanBounds.{EndsWithin, text_end_within}
+use Rattle.mx_lex.proofs.Digits.{front_passes}
+use Rattle.mx_lex.proofs.SpanBounds.{EndsWithin, text_end_within, front_within}
 use Rattle.mx_token_laws.specs.Standing.{IsQuoted, IsLongest}
 use Rattle.mx_token_laws.proofs.Gaps.{front_stops}
 
@@ -25,17 +27,38 @@ name_longest bytes =
     let len = prefix_len continues_name bytes in
     both (λ kind. IsLongest kind len bytes) (is_keyword (take len bytes)) Keyword Name (λ _. front_stops continues_name bytes) (λ _. front_stops continues_name bytes)
 
-number_longest : (at : ℕ) (bytes : List ℕ) → FoundLongest bytes (number_at at bytes)
+-- a point and decimals behind the whole part
+with_point : (whole decimals : ℕ) (bytes : List ℕ) → first_passes (λ b. b == 46) (drop whole bytes) ≡ true → take (whole + 1 + decimals) bytes ≡ take whole bytes ++ 46 ∷ take decimals (drop 1 (drop whole bytes))
+with_point whole decimals bytes point =
+    let regroup : whole + 1 + decimals ≡ whole + suc decimals = omega arith in
+    ap (λ n. take n bytes) regroup ∙ take-add whole (suc decimals) bytes ∙ ap (λ l. take whole bytes ++ l) (from_point (drop whole bytes) point)
+  where
+    from_point : (behind : List ℕ) → first_passes (λ b. b == 46) behind ≡ true → take (suc decimals) behind ≡ 46 ∷ take decimals (drop 1 behind)
+    from_point [] h = absurd (false≢true h)
+    from_point (b ∷ bs) h = ap (λ c. c ∷ take decimals bs) (eqb-true b 46 h)
+
+number_longest : (at : ℕ) (bytes : List ℕ) → first_passes is_ascii_digit bytes ≡ true → FoundLongest bytes (number_at at bytes)
 unfolding number_at
-number_longest at bytes =
+number_longest at bytes h =
+    let front = front_within is_ascii_digit bytes h in
+    let long = length-take-le (prefix_len is_ascii_digit bytes) bytes front.within in
     let whole = prefix_len is_ascii_digit bytes in
     let behind = drop whole bytes in
     let after = drop 1 behind in
     let decimals = prefix_len is_ascii_digit after in
     let far : drop decimals after ≡ drop (whole + 1 + decimals) bytes = ap (drop decimals) (drop-drop 1 whole bytes) ∙ drop-drop decimals (whole + 1) bytes in
     both (FoundLongest bytes) (first_passes (λ b. b == 46) behind) _ _
-    (λ _. both (FoundLongest bytes) (is_fix (take whole bytes) (take decimals after) (drop decimals after)) (found Fix (whole + 1 + decimals)) (Err (BadNumber at))
-    (λ is. subst (λ l. is_glued l ≡ false) far (not-true (is_glued (drop decimals after)) (and_parts _ (not (is_glued (drop decimals after))) is).1)) (λ _. tt))
+    (λ point. both (FoundLongest bytes) (is_fix (take whole bytes) (take decimals after) (drop decimals after)) (found Fix (whole + 1 + decimals)) (Err (BadNumber at))
+    (λ is. (
+      record {
+        digits = take whole bytes;
+        decimals = take decimals after;
+        parts = with_point whole decimals bytes point;
+        some = omega (arith, long, front.some);
+        are_digits = front_passes is_ascii_digit bytes;
+        are_decimals = front_passes is_ascii_digit after;
+      },
+      subst (λ l. is_glued l ≡ false) far (not-true (is_glued (drop decimals after)) (and_parts _ (not (is_glued (drop decimals after))) is).1))) (λ _. tt))
     (λ _. both (FoundLongest bytes) (is_int (take whole bytes) behind) (found Int whole) (Err (BadNumber at))
     (λ is. not-true (is_glued behind) (and_parts _ (not (is_glued behind)) is).1) (λ _. tt))
 
@@ -98,7 +121,7 @@ span_longest : (at : ℕ) (bytes : List ℕ) → FoundLongest bytes (span_at at 
 unfolding span_at
 span_longest at bytes =
     both (FoundLongest bytes) (first_passes begins_name bytes) (name_at bytes) _ (λ _. name_longest bytes)
-    (λ _. both (FoundLongest bytes) (first_passes is_ascii_digit bytes) (number_at at bytes) _ (λ _. number_longest at bytes)
+    (λ _. both (FoundLongest bytes) (first_passes is_ascii_digit bytes) (number_at at bytes) _ (λ h. number_longest at bytes h)
     (λ _. both (FoundLongest bytes) (first_passes (λ b. b == 46) bytes && first_passes is_ascii_digit (drop 1 bytes)) (Err (BadNumber at)) _ (λ _. tt)
     (λ _. both (FoundLongest bytes) (first_passes is_quote bytes) (text_at at bytes) (mark_at at bytes) (λ _. text_longest at bytes) (λ _. mark_longest at bytes))))
 

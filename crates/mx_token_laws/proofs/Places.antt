@@ -1,5 +1,5 @@
 -- The lexer's steps read a source as it stands.
-use Rattle.std.proofs.Common.{◌≡◌, ℕ, ◌+◌, ◌≤◌, List, [], ◌∷◌, ◌++◌, suc, Bool, true, false, cond, ◌==◌, ◌&&◌, ◌||◌, length, take, drop, refl, sym, ap, ◌∙◌, subst, ◌⊎◌, ⊎_elim, inl, inr, append_assoc, append-nil, None, Some, Result, Ok, Err, arith, length-append, length-take-le, take-append-drop}
+use Rattle.std.proofs.Common.{◌≡◌, ℕ, ◌+◌, ◌≤◌, List, [], ◌∷◌, ◌++◌, suc, Bool, true, false, cond, not, ◌==◌, ◌&&◌, ◌||◌, length, take, drop, refl, sym, ap, ◌∙◌, subst, ◌⊎◌, ⊎_elim, inl, inr, append_assoc, append-nil, None, Some, Result, Ok, Err, arith, length-append, length-take-le, take-append-drop}
 use Rattle.std.specs.Prelude.{IfOk, option_to_list}
 use Rattle.std.specs.List.{prefix_len, AllPass}
 use Rattle.std.proofs.lemmas.Bool.{false≢true, and_parts, eqb-true}
@@ -23,7 +23,7 @@ use Rattle.mx_lex.proofs.Cases.{both, chosen}
 use Rattle.mx_lex.proofs.Digits.{front_passes}
 use Rattle.mx_lex.proofs.SpanBounds.{FoundWithin, span_within}
 use Rattle.mx_lex.proofs.Spelled.{IsPlain, span_is_spelled}
-use Rattle.mx_token_laws.specs.Standing.{AreSpaces, IsGap, IsVisible, IsToken, Behind, in_line, BeginsLine, IsIndent, Follows, IsRead}
+use Rattle.mx_token_laws.specs.Standing.{AreSpaces, IsGap, IsVisible, IsToken, is_solid, Behind, in_line, BeginsLine, IsIndent, Follows, IsRead}
 use Rattle.mx_token_laws.proofs.Dedents.{AreFalling, HasBegun, ReadsBehind, opened_reads, unchanged_levels, given_is}
 use Rattle.mx_token_laws.proofs.Gaps.{gap_append, comment_gap}
 use Rattle.mx_token_laws.proofs.Longest.{span_is_longest}
@@ -168,8 +168,8 @@ inside_line BeforeFirst at line indent stack levels inside e = absurd (false≢t
 inside_line AtStart at line indent stack levels inside e = absurd (false≢true inside)
 inside_line Inside at line indent stack levels inside e = given_is (unchanged_levels stack) levels e
 
-token_passes : (behind : Behind) (place : ℕ) (gap : List ℕ) (b : ℕ) (bs : List ℕ) (at indent len : ℕ) (kind : TokenKind) (reading : Reading) (levels : Levels) → AgreeHere behind place gap (b ∷ bs) at indent reading → is_blank (b ∷ bs) ≡ false → IsToken kind len (b ∷ bs) → line_indented reading.line.phase at reading.line.number indent reading.stack ≡ Ok levels → Passes behind place gap (b ∷ bs) (levels.given ++ record { kind = kind; at = at; len = len } ∷ []) len at (record { line = record reading.line { phase = Inside; brackets = brackets_behind b reading.line.brackets }; stack = levels.stack })
-token_passes behind place gap b bs at indent len kind reading levels here solid token is_line = split (is_inside reading.line.phase) refl
+token_passes : (behind : Behind) (place : ℕ) (gap : List ℕ) (b : ℕ) (bs : List ℕ) (at indent len : ℕ) (kind : TokenKind) (reading : Reading) (levels : Levels) → AgreeHere behind place gap (b ∷ bs) at indent reading → is_solid (b ∷ bs) ≡ true → is_blank (b ∷ bs) ≡ false → IsToken kind len (b ∷ bs) → line_indented reading.line.phase at reading.line.number indent reading.stack ≡ Ok levels → Passes behind place gap (b ∷ bs) (levels.given ++ record { kind = kind; at = at; len = len } ∷ []) len at (record { line = record reading.line { phase = Inside; brackets = brackets_behind b reading.line.brackets }; stack = levels.stack })
+token_passes behind place gap b bs at indent len kind reading levels here begins solid token is_line = split (is_inside reading.line.phase) refl
   where
     t : Token
     t = record { kind = kind; at = at; len = len }
@@ -206,8 +206,8 @@ token_passes behind place gap b bs at indent len kind reading levels here solid 
         let line = subst (λ s. line_indented reading.line.phase at reading.line.number indent s ≡ Ok levels) (sym here.levels) is_line in
         let is_out : behind.inside ≡ false = here.inside ∙ out in
         let opens = opened_reads reading.line.phase behind place at reading.line.number indent gap (b ∷ bs) t levels
-        (record { out = is_out; has = inr (here.found, here.indented is_out solid); is_gap = here.is_gap; solid = solid; token = token; stands = refl; position = here.position })
-        here.begun here.falling out line
+        (record { out = is_out; has = inr (here.found, here.indented is_out solid); is_gap = here.is_gap; solid = begins; token = token; stands = refl; position = here.position })
+        here.found here.begun here.falling out line
         in
         passes opens.falling opens.reads
 
@@ -265,13 +265,16 @@ space_passes behind place gap b bs at indent reading levels is here is_opened = 
           starts = λ out. absurd (false≢true (sym out ∙ inside));
         }))
 
-token_head : (behind : Behind) (place : ℕ) (gap : List ℕ) (b : ℕ) (bs : List ℕ) (at indent : ℕ) (reading : Reading) (levels : Levels) (outcome : Found) → span_at at (b ∷ bs) ≡ outcome → (b == 10) ≡ false → (b == 35) ≡ false → AgreeHere behind place gap (b ∷ bs) at indent reading → opened_at at reading.line indent reading.stack (b ∷ bs) ≡ Ok levels → HeadPasses behind place gap (b ∷ bs) at levels (token_from at reading.line b outcome)
-token_head behind place gap b bs at indent reading levels (Err e) is_span no_end no_comment here is_opened = tt
-token_head behind place gap b bs at indent reading levels (Ok span) is_span no_end no_comment here is_opened =
+solid_byte : (b : ℕ) → (b == 32) ≡ false → (b == 10) ≡ false → (b == 35) ≡ false → not (b == 32 || b == 10 || b == 35) ≡ true
+solid_byte b no_space no_end no_comment = rw (no_space, no_end, no_comment) refl
+
+token_head : (behind : Behind) (place : ℕ) (gap : List ℕ) (b : ℕ) (bs : List ℕ) (at indent : ℕ) (reading : Reading) (levels : Levels) (outcome : Found) → span_at at (b ∷ bs) ≡ outcome → (b == 32) ≡ false → (b == 10) ≡ false → (b == 35) ≡ false → AgreeHere behind place gap (b ∷ bs) at indent reading → opened_at at reading.line indent reading.stack (b ∷ bs) ≡ Ok levels → HeadPasses behind place gap (b ∷ bs) at levels (token_from at reading.line b outcome)
+token_head behind place gap b bs at indent reading levels (Err e) is_span no_space no_end no_comment here is_opened = tt
+token_head behind place gap b bs at indent reading levels (Ok span) is_span no_space no_end no_comment here is_opened =
     let solid : is_blank (b ∷ bs) ≡ false = subst (λ t. (t || (b == 35)) ≡ false) (sym no_end) no_comment in
     let within = subst (FoundWithin (b ∷ bs)) is_span (span_within at (b ∷ bs)) in
     let spelled = span_is_spelled at (b ∷ bs) span is_span in
-    token_passes behind place gap b bs at indent span.len span.kind reading levels here solid
+    token_passes behind place gap b bs at indent span.len span.kind reading levels here (solid_byte b no_space no_end no_comment) solid
     (record { visible = visible span.kind spelled.plain; some = within.some; within = within.within; spelled = spelled.spelled; longest = span_is_longest at (b ∷ bs) span is_span })
     (solid_opened at indent reading (b ∷ bs) levels solid is_opened)
   where
@@ -325,10 +328,10 @@ head_passes behind place gap [] at indent reading levels here is_opened =
 head_passes behind place gap (b ∷ bs) at indent reading levels here is_opened =
     let P : Result Head LexRefusal → Type 0 = HeadPasses behind place gap (b ∷ bs) at levels in
     both P (b == 32) (nothing 1 reading.line) _ (λ is. space_passes behind place gap b bs at indent reading levels (eqb-true b 32 is) here is_opened)
-    (λ _. both P (b == 10) (Ok (record { token = newline_at at reading.line; taken = 1; next = next_line reading.line })) _
+    (λ no_space. both P (b == 10) (Ok (record { token = newline_at at reading.line; taken = 1; next = next_line reading.line })) _
     (λ is. ends_pass behind place gap (b ∷ bs) at indent 1 reading (next_line reading.line) levels here is_opened (line_end at b bs (eqb-true b 10 is)) refl refl)
     (λ no_end. both P (b == 35) (comment_at at reading.line (b ∷ bs)) _ (λ is. comment_passes behind place gap b bs at indent reading levels (eqb-true b 35 is) here is_opened)
-    (λ no_comment. token_head behind place gap b bs at indent reading levels (span_at at (b ∷ bs)) refl no_end no_comment here is_opened)))
+    (λ no_comment. token_head behind place gap b bs at indent reading levels (span_at at (b ∷ bs)) refl no_space no_end no_comment here is_opened)))
 
 -- what stands behind the spaces that lead is passed
 pub head_is_passed : (behind : Behind) (place : ℕ) (gap first : List ℕ) (at indent : ℕ) (reading : Reading) (levels : Levels) (head : Head) → AgreeHere behind place gap first at indent reading → opened_at at reading.line indent reading.stack first ≡ Ok levels → head_at at reading.line first ≡ Ok head → Passes behind place gap first (levels.given ++ option_to_list head.token) head.taken at (record { line = head.next; stack = levels.stack })

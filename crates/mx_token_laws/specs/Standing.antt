@@ -1,6 +1,7 @@
 -- Where tokens stand in a source, said of its bytes and of the tokens alone.
-use Rattle.std.specs.Prelude.{◌≡◌, ◌≢◌, ℕ, ◌+◌, ◌<◌, ◌≤◌, Bool, true, false, ◌==◌, List, [], ◌∷◌, ◌++◌, length, take, drop, Option, None, Some, ◌⊎◌}
+use Rattle.std.specs.Prelude.{◌≡◌, ◌≢◌, ℕ, ◌+◌, ◌<◌, ◌≤◌, Bool, true, false, not, ◌||◌, ◌==◌, List, [], ◌∷◌, ◌++◌, length, take, drop, Option, None, Some, ◌⊎◌}
 use Rattle.std.specs.List.{AllPass}
+use Rattle.std.specs.Char.{is_ascii_digit}
 use Rattle.mx_lex.specs.Bytes.{is_printable, is_escaped, continues_name, first_passes}
 use Rattle.mx_lex.specs.Spans.{is_glued, begins_with_one, long_marks}
 use Rattle.mx_lex.specs.Heads.{ends_here, brackets_behind, empty_token}
@@ -43,12 +44,21 @@ pub record IsClosedOnce (text : List ℕ) : Type 0 where
   pub parts : text ≡ quote ∷ inner ++ quote ∷ []
   pub quoted : IsQuoted quote false inner
 
+-- digits on both sides of a point
+pub record IsDecimal (text : List ℕ) : Type 0 where
+  pub digits : List ℕ
+  pub decimals : List ℕ
+  pub parts : text ≡ digits ++ 46 ∷ decimals
+  pub some : 0 < length digits
+  pub are_digits : AllPass is_ascii_digit digits
+  pub are_decimals : AllPass is_ascii_digit decimals
+
 -- no longer token of its kind stands at the front of these bytes
 abbrev pub IsLongest : TokenKind → ℕ → List ℕ → Type 0
 IsLongest Name len bytes = first_passes continues_name (drop len bytes) ≡ false
 IsLongest Keyword len bytes = first_passes continues_name (drop len bytes) ≡ false
 IsLongest Int len bytes = is_glued (drop len bytes) ≡ false
-IsLongest Fix len bytes = is_glued (drop len bytes) ≡ false
+IsLongest Fix len bytes = IsDecimal (take len bytes) × (is_glued (drop len bytes) ≡ false)
 IsLongest Text len bytes = IsClosedOnce (take len bytes)
 IsLongest Mark len bytes = len ≡ 1 → begins_with_one long_marks bytes ≡ false
 IsLongest _ len bytes = ⊥
@@ -60,6 +70,10 @@ pub record IsToken (kind : TokenKind) (len : ℕ) (bytes : List ℕ) : Type 0 wh
   pub within : len ≤ length bytes
   pub spelled : IsSpelled kind (take len bytes)
   pub longest : IsLongest kind len bytes
+
+-- a token begins here: neither a space nor a line end nor a comment
+abbrev pub is_solid : List ℕ → Bool
+is_solid bytes = first_passes (λ b. not (b == 32 || b == 10 || b == 35)) bytes
 
 -- ---- lines
 
@@ -116,10 +130,10 @@ pub data Follows (behind : Behind) (place : ℕ) (gap bytes : List ℕ) : TokenK
   begins : (kind : TokenKind) (len indent : ℕ) (below : List ℕ) → behind.inside ≡ false → HasIndent behind place gap indent → behind.levels ≡ indent ∷ below → IsToken kind len bytes → Follows behind place gap bytes kind len (in_line behind bytes)
   -- NEWLINE stands at the first line end or comment with no bracket open, or at the end of the source
   newline : behind.inside ≡ true → (behind.brackets ≡ 0 → AreSpaces gap) → is_blank bytes ≡ true → (bytes ≡ []) ⊎ (behind.brackets ≡ 0) → Follows behind place gap bytes Newline 0 (record behind { inside = false })
-  -- an indent that grows opens a block
-  indent : (indent top : ℕ) (below : List ℕ) → behind.inside ≡ false → behind.begun ≡ true → HasIndent behind place gap indent → behind.levels ≡ top ∷ below → top < indent → is_blank bytes ≡ false → Follows behind place gap bytes Indent 0 (record behind { levels = indent ∷ behind.levels; found = Some indent })
+  -- an indent that grows opens a block; one that falls opens none, so it must be that of a block
+  indent : (indent top : ℕ) (below : List ℕ) → behind.inside ≡ false → behind.begun ≡ true → behind.found ≡ None → IsIndent place gap indent → behind.levels ≡ top ∷ below → top < indent → is_solid bytes ≡ true → Follows behind place gap bytes Indent 0 (record behind { levels = indent ∷ behind.levels; found = Some indent })
   -- one that falls closes each block with a greater one
-  dedent : (indent top : ℕ) (below : List ℕ) → behind.inside ≡ false → HasIndent behind place gap indent → behind.levels ≡ top ∷ below → indent < top → is_blank bytes ≡ false → Follows behind place gap bytes Dedent 0 (record behind { levels = below; found = Some indent })
+  dedent : (indent top : ℕ) (below : List ℕ) → behind.inside ≡ false → HasIndent behind place gap indent → behind.levels ≡ top ∷ below → indent < top → is_solid bytes ≡ true → Follows behind place gap bytes Dedent 0 (record behind { levels = below; found = Some indent })
   -- the end of the source closes all
   closes : (top : ℕ) (below : List ℕ) → behind.inside ≡ false → behind.levels ≡ top ∷ below → 0 < top → bytes ≡ [] → Follows behind place gap bytes Dedent 0 (record behind { levels = below })
 
