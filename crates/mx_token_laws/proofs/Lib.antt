@@ -4,3 +4,4 @@ pub mod Refusals
 pub mod Dedents
 pub mod Places
 pub mod Reading
+pub mod Spans

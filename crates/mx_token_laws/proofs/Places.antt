@@ -22,11 +22,11 @@ use Rattle.mx_lex.specs.declared.line.Phase.TheVariants.{BeforeFirst, AtStart, I
 use Rattle.mx_lex.proofs.Cases.{both, chosen}
 use Rattle.mx_lex.proofs.Digits.{front_passes}
 use Rattle.mx_lex.proofs.SpanBounds.{FoundWithin, span_within}
-use Rattle.mx_lex.proofs.Spelled.{IsPlain, span_is_spelled}
-use Rattle.mx_token_laws.specs.Standing.{AreSpaces, IsGap, IsVisible, IsToken, is_solid, Behind, in_line, BeginsLine, IsIndent, Follows, IsRead}
+use Rattle.mx_lex.proofs.Spelled.{span_is_spelled}
+use Rattle.mx_token_laws.specs.Standing.{AreSpaces, IsGap, IsToken, is_solid, Behind, in_line, BeginsLine, IsIndent, Follows, IsRead}
 use Rattle.mx_token_laws.proofs.Dedents.{AreFalling, HasBegun, ReadsBehind, opened_reads, unchanged_levels, given_is}
 use Rattle.mx_token_laws.proofs.Gaps.{gap_append, comment_gap}
-use Rattle.mx_token_laws.proofs.Longest.{span_is_longest}
+use Rattle.mx_token_laws.proofs.Longest.{span_is_standing}
 
 -- what tokens say and what the lexer knows agree, behind the bytes that were passed since the last token
 pub record Agree (behind : Behind) (place : ℕ) (passed rest : List ℕ) (at : ℕ) (reading : Reading) : Type 0 where
@@ -274,21 +274,10 @@ token_head behind place gap b bs at indent reading levels (Ok span) is_span no_s
     let solid : is_blank (b ∷ bs) ≡ false = subst (λ t. (t || (b == 35)) ≡ false) (sym no_end) no_comment in
     let within = subst (FoundWithin (b ∷ bs)) is_span (span_within at (b ∷ bs)) in
     let spelled = span_is_spelled at (b ∷ bs) span is_span in
+    let stands = span_is_standing at (b ∷ bs) span is_span in
     token_passes behind place gap b bs at indent span.len span.kind reading levels here (solid_byte b no_space no_end no_comment) solid
-    (record { visible = visible span.kind spelled.plain; some = within.some; within = within.within; spelled = spelled.spelled; longest = span_is_longest at (b ∷ bs) span is_span })
+    (record { begins = stands.begins; some = within.some; within = within.within; spelled = spelled.spelled; reaches = stands.reaches })
     (solid_opened at indent reading (b ∷ bs) levels solid is_opened)
-  where
-    visible : (kind : TokenKind) → IsPlain kind → IsVisible kind
-    visible Name h = tt
-    visible Keyword h = tt
-    visible Int h = tt
-    visible Fix h = tt
-    visible Text h = tt
-    visible Mark h = tt
-    visible Newline h = h
-    visible Indent h = h
-    visible Dedent h = h
-    visible End h = h
 
 -- the bytes of a comment
 comment_text : (b : ℕ) (bs : List ℕ) → b ≡ 35 → (text : List ℕ) × (take (prefix_len is_printable (b ∷ bs)) (b ∷ bs) ≡ 35 ∷ text) × AllPass is_printable text

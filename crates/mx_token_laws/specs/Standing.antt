@@ -1,9 +1,9 @@
 -- Where tokens stand in a source, said of its bytes and of the tokens alone.
-use Rattle.std.specs.Prelude.{◌≡◌, ◌≢◌, ℕ, ◌+◌, ◌<◌, ◌≤◌, Bool, true, false, not, ◌||◌, ◌==◌, List, [], ◌∷◌, ◌++◌, length, take, drop, Option, None, Some, ◌⊎◌}
+use Rattle.std.specs.Prelude.{◌≡◌, ◌≢◌, ℕ, ◌+◌, ◌<◌, ◌≤◌, Bool, true, false, not, ◌||◌, ◌&&◌, ◌==◌, List, [], ◌∷◌, ◌++◌, length, take, drop, Option, None, Some, ◌⊎◌}
 use Rattle.std.specs.List.{AllPass}
 use Rattle.std.specs.Char.{is_ascii_digit}
-use Rattle.mx_lex.specs.Bytes.{is_printable, is_escaped, continues_name, first_passes}
-use Rattle.mx_lex.specs.Spans.{is_glued, begins_with_one, long_marks}
+use Rattle.mx_lex.specs.Bytes.{begins_name, continues_name, is_printable, is_quote, is_escaped, first_passes}
+use Rattle.mx_lex.specs.Spans.{is_glued, is_fix, begins_with_one, long_marks, short_marks}
 use Rattle.mx_lex.specs.Heads.{ends_here, brackets_behind, empty_token}
 use Rattle.mx_lex.specs.Lines.{is_blank}
 use Rattle.mx_lex.specs.Laws.{IsSpelled}
@@ -25,12 +25,40 @@ pub data IsGap (behind : List ℕ) : List ℕ → Type 0 where
 
 -- ---- how far a token reaches
 
-abbrev pub IsVisible : TokenKind → Type 0
-IsVisible Newline = ⊥
-IsVisible Indent = ⊥
-IsVisible Dedent = ⊥
-IsVisible End = ⊥
-IsVisible _ = Unit {0}
+-- what the first byte says: a letter or `_`, a digit, a quote, or none of them, but no `.` before a digit
+pub record BeginsMark (bytes : List ℕ) : Type 0 where
+  pub no_name : first_passes begins_name bytes ≡ false
+  pub no_digit : first_passes is_ascii_digit bytes ≡ false
+  pub no_fraction : (first_passes (λ b. b == 46) bytes && first_passes is_ascii_digit (drop 1 bytes)) ≡ false
+  pub no_quote : first_passes is_quote bytes ≡ false
+
+abbrev pub Begins : TokenKind → List ℕ → Type 0
+Begins Name bytes = first_passes begins_name bytes ≡ true
+Begins Keyword bytes = first_passes begins_name bytes ≡ true
+Begins Int bytes = first_passes is_ascii_digit bytes ≡ true
+Begins Fix bytes = first_passes is_ascii_digit bytes ≡ true
+Begins Text bytes = first_passes is_quote bytes ≡ true
+Begins Mark bytes = BeginsMark bytes
+Begins _ bytes = ⊥
+
+-- all letters, digits and `_` that stand here
+pub record IsWord (len : ℕ) (bytes : List ℕ) : Type 0 where
+  pub continues : AllPass continues_name (take len bytes)
+  pub stops : first_passes continues_name (drop len bytes) ≡ false
+
+-- digits, with no letter, digit, `_` or `.` behind them
+pub record IsWhole (len : ℕ) (bytes : List ℕ) : Type 0 where
+  pub are_digits : AllPass is_ascii_digit (take len bytes)
+  pub stops : is_glued (drop len bytes) ≡ false
+
+-- the same with digits on both sides of a point
+pub record IsDecimal (len : ℕ) (bytes : List ℕ) : Type 0 where
+  pub digits : List ℕ
+  pub decimals : List ℕ
+  pub parts : take len bytes ≡ digits ++ 46 ∷ decimals
+  pub are_digits : AllPass is_ascii_digit digits
+  pub are_decimals : AllPass is_ascii_digit decimals
+  pub stops : is_fix digits decimals (drop len bytes) ≡ true
 
 -- between the quotes of a text: behind a `\` that escapes stands `\` or a quote, and all quotes of its own kind are escaped
 abbrev pub IsQuoted : ℕ → Bool → List ℕ → Type 0
@@ -38,38 +66,32 @@ IsQuoted quote escaped [] = escaped ≡ false
 IsQuoted quote true (b ∷ bs) = (is_escaped b ≡ true) × IsQuoted quote false bs
 IsQuoted quote false (b ∷ bs) = ((b ≡ 92) × IsQuoted quote true bs) ⊎ ((b ≢ 92) × (b ≢ quote) × IsQuoted quote false bs)
 
-pub record IsClosedOnce (text : List ℕ) : Type 0 where
+-- from a quote to the first of its kind that is not escaped
+pub record IsClosed (len : ℕ) (bytes : List ℕ) : Type 0 where
   pub quote : ℕ
   pub inner : List ℕ
-  pub parts : text ≡ quote ∷ inner ++ quote ∷ []
+  pub parts : take len bytes ≡ quote ∷ inner ++ quote ∷ []
+  pub printable : AllPass is_printable inner
   pub quoted : IsQuoted quote false inner
 
--- digits on both sides of a point
-pub record IsDecimal (text : List ℕ) : Type 0 where
-  pub digits : List ℕ
-  pub decimals : List ℕ
-  pub parts : text ≡ digits ++ 46 ∷ decimals
-  pub some : 0 < length digits
-  pub are_digits : AllPass is_ascii_digit digits
-  pub are_decimals : AllPass is_ascii_digit decimals
-
--- no longer token of its kind stands at the front of these bytes
-abbrev pub IsLongest : TokenKind → ℕ → List ℕ → Type 0
-IsLongest Name len bytes = first_passes continues_name (drop len bytes) ≡ false
-IsLongest Keyword len bytes = first_passes continues_name (drop len bytes) ≡ false
-IsLongest Int len bytes = is_glued (drop len bytes) ≡ false
-IsLongest Fix len bytes = IsDecimal (take len bytes) × (is_glued (drop len bytes) ≡ false)
-IsLongest Text len bytes = IsClosedOnce (take len bytes)
-IsLongest Mark len bytes = len ≡ 1 → begins_with_one long_marks bytes ≡ false
-IsLongest _ len bytes = ⊥
+-- how far a token of this kind reaches from the front of these bytes
+abbrev pub Reaches : TokenKind → ℕ → List ℕ → Type 0
+Reaches Name len bytes = IsWord len bytes
+Reaches Keyword len bytes = IsWord len bytes
+Reaches Int len bytes = IsWhole len bytes
+Reaches Fix len bytes = IsDecimal len bytes
+Reaches Text len bytes = IsClosed len bytes
+Reaches Mark len bytes =
+    ((len ≡ 2) × (begins_with_one long_marks bytes ≡ true)) ⊎ ((len ≡ 1) × (begins_with_one long_marks bytes ≡ false) × (begins_with_one short_marks bytes ≡ true))
+Reaches _ len bytes = ⊥
 
 -- a name, number, text or mark of so many bytes stands at the front of these bytes
 pub record IsToken (kind : TokenKind) (len : ℕ) (bytes : List ℕ) : Type 0 where
-  pub visible : IsVisible kind
+  pub begins : Begins kind bytes
   pub some : 0 < len
   pub within : len ≤ length bytes
   pub spelled : IsSpelled kind (take len bytes)
-  pub longest : IsLongest kind len bytes
+  pub reaches : Reaches kind len bytes
 
 -- a token begins here: neither a space nor a line end nor a comment
 abbrev pub is_solid : List ℕ → Bool
