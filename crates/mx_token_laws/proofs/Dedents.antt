@@ -50,7 +50,7 @@ ReadsBehind behind stack bytes t tokens = IsRead (in_line (record behind { level
 -- the token that begins the line stands in the innermost block
 first_reads : (behind : Behind) (place at indent : ℕ) (below gap bytes : List ℕ) (t : Token) (tokens : List Token) → First behind place at indent gap bytes t → behind.levels ≡ indent ∷ below → ReadsBehind behind behind.levels bytes t tokens → IsRead behind place (gap ++ bytes) (t ∷ tokens)
 first_reads behind place at indent below gap bytes t tokens h levels rest =
-    IsRead.token behind (in_line behind bytes) place (t.at + t.len) (gap ++ bytes) gap bytes t tokens refl (h.stands ∙ h.position) refl h.is_gap (Follows.begins t.kind t.len indent below h.out h.has levels h.token) rest
+    IsRead.token behind (in_line behind bytes) place (t.at + t.len) t.at t.len t.kind (gap ++ bytes) gap bytes tokens refl (h.stands ∙ h.position) refl h.is_gap (Follows.begins t.kind t.len indent below h.out h.has levels h.token) rest
 
 -- behind an INDENT or a DEDENT the token follows at once
 behind_block : (behind next : Behind) (place at indent : ℕ) (gap bytes : List ℕ) (t : Token) → First behind place at indent gap bytes t → next.inside ≡ false → next.found ≡ Some indent → First next (at + 0) at indent [] bytes t
@@ -84,7 +84,7 @@ dedents_read (top ∷ below) behind place at line indent gap bytes t tokens leve
         let whole : now ≡ levels = cc in
         let read = subst (λ s. ReadsBehind behind s bytes t tokens) (ap (λ (l : Levels). l.stack) (sym whole)) rest in
         subst (λ (l : Levels). IsRead behind place (gap ++ bytes) (l.given ++ t ∷ tokens)) whole
-        (IsRead.token behind next place (at + 0) (gap ++ bytes) gap bytes (empty_token Dedent at) (later.given ++ t ∷ tokens) refl h.position refl h.is_gap (Follows.dedent indent top below h.out h.has is less h.solid) (further later is_outcome read))
+        (IsRead.token behind next place (at + 0) at 0 Dedent (gap ++ bytes) gap bytes (later.given ++ t ∷ tokens) refl h.position refl h.is_gap (Follows.dedent indent top below h.out h.has is less h.solid) (further later is_outcome read))
 
 -- what a line's indent leaves and gives
 pub record Opens (behind : Behind) (place : ℕ) (gap bytes : List ℕ) (levels : Levels) (t : Token) : Type 0 where
@@ -151,5 +151,5 @@ opened_reads AtStart behind place at line indent gap bytes t levels h fresh begu
               falling = (less, h2);
               reads = λ tokens rest.
                   let after = first_reads next (at + 0) at indent behind.levels [] bytes t tokens (behind_block behind next place at indent gap bytes t h h.out refl) refl (subst (λ s. ReadsBehind behind s bytes t tokens) stack rest) in
-                  IsRead.token behind next place (at + 0) (gap ++ bytes) gap bytes (empty_token Indent at) (t ∷ tokens) refl h.position refl h.is_gap (Follows.indent indent top below h.out begun fresh (indent_here h.has) is less h.solid) after;
+                  IsRead.token behind next place (at + 0) at 0 Indent (gap ++ bytes) gap bytes (t ∷ tokens) refl h.position refl h.is_gap (Follows.indent indent top below h.out begun fresh (indent_here h.has) is less h.solid) after;
             })

@@ -5,3 +5,4 @@ pub mod Dedents
 pub mod Places
 pub mod Reading
 pub mod Spans
+pub mod Turns

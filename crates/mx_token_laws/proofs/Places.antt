@@ -87,7 +87,7 @@ breaks behind place gap first taken at next inside spaces blank closed position 
       from = at;
       passed = take taken first;
       agree = agree;
-      reads = λ tokens read. IsRead.token behind (record behind { inside = false }) place at (gap ++ first) gap first (empty_token Newline at) tokens refl position (omega arith) is_gap (Follows.newline inside spaces blank (inr closed)) (subst (λ l. IsRead (record behind { inside = false }) at l tokens) (take-append-drop taken first) read);
+      reads = λ tokens read. IsRead.token behind (record behind { inside = false }) place at at 0 Newline (gap ++ first) gap first tokens refl position (omega arith) is_gap (Follows.newline inside spaces blank (inr closed)) (subst (λ l. IsRead (record behind { inside = false }) at l tokens) (take-append-drop taken first) read);
     }
 
 -- ---- the bytes that end a line
@@ -199,7 +199,7 @@ token_passes behind place gap b bs at indent len kind reading levels here begins
     split true inside =
         let same : unchanged_levels behind.levels ≡ levels = ap unchanged_levels here.levels ∙ inside_line reading.line.phase at reading.line.number indent reading.stack levels inside is_line in
         let is_inside : behind.inside ≡ true = here.inside ∙ inside in
-        let go_on = λ (tokens : List Token) (read : ReadsBehind behind behind.levels (b ∷ bs) t tokens). IsRead.token behind (in_line behind (b ∷ bs)) place (at + len) (gap ++ b ∷ bs) gap (b ∷ bs) t tokens refl here.position refl here.is_gap (Follows.goes_on kind len is_inside (here.spaces is_inside) token) read in
+        let go_on = λ (tokens : List Token) (read : ReadsBehind behind behind.levels (b ∷ bs) t tokens). IsRead.token behind (in_line behind (b ∷ bs)) place (at + len) at len kind (gap ++ b ∷ bs) gap (b ∷ bs) tokens refl here.position refl here.is_gap (Follows.goes_on kind len is_inside (here.spaces is_inside) token) read in
         passes (subst (λ (l : Levels). AreFalling l.stack) same here.falling)
         (subst (λ (l : Levels). (tokens : List Token) → ReadsBehind behind l.stack (b ∷ bs) t tokens → IsRead behind place (gap ++ b ∷ bs) (l.given ++ t ∷ tokens)) same go_on)
     split false out =

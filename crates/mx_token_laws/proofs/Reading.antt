@@ -32,7 +32,7 @@ dedents_close (top ∷ next ∷ below) behind place at gap out is falling is_gap
     let state : Behind = record behind { levels = next ∷ below } in
     both (λ l. IsRead behind place gap (l ++ empty_token End at ∷ [])) (eqb top 0) [] (empty_token Dedent at ∷ dedents_at at (next ∷ below))
     (λ none. absurd (let zero_top : top ≡ 0 = eqb-true top 0 none in omega (arith, falling.0)))
-    (λ _. IsRead.token behind state place (at + 0) gap gap [] (empty_token Dedent at) (dedents_at at (next ∷ below) ++ empty_token End at ∷ []) (sym (append-nil gap)) position refl is_gap
+    (λ _. IsRead.token behind state place (at + 0) at 0 Dedent gap gap [] (dedents_at at (next ∷ below) ++ empty_token End at ∷ []) (sym (append-nil gap)) position refl is_gap
     (Follows.closes top (next ∷ below) out is (omega (arith, falling.0)) refl)
     (dedents_close (next ∷ below) state (at + 0) at [] out refl falling.1 IsGap.none (omega arith)))
 
@@ -49,7 +49,7 @@ closed at reading behind place passed agree =
     (both (λ l. IsRead behind place (passed ++ []) (l ++ (dedents_at at reading.stack ++ empty_token End at ∷ []))) (is_inside reading.line.phase) (empty_token Newline at ∷ []) []
     (λ is.
     let inside = agree.inside ∙ is in
-    IsRead.token behind (record behind { inside = false }) place (at + 0) (passed ++ []) passed [] (empty_token Newline at) (dedents_at at reading.stack ++ empty_token End at ∷ []) refl agree.position refl agree.is_gap (Follows.newline inside (agree.spaces inside) refl (inl refl))
+    IsRead.token behind (record behind { inside = false }) place (at + 0) at 0 Newline (passed ++ []) passed [] (dedents_at at reading.stack ++ empty_token End at ∷ []) refl agree.position refl agree.is_gap (Follows.newline inside (agree.spaces inside) refl (inl refl))
     (dedents_close reading.stack (record behind { inside = false }) (at + 0) at [] refl agree.levels falling IsGap.none (omega arith)))
     (λ is.
     dedents_close reading.stack behind place at (passed ++ []) (agree.inside ∙ is) agree.levels falling (subst (IsGap []) (sym (append-nil passed)) agree.is_gap) (agree.position ∙ ap (λ l. place + length l) (sym (append-nil passed)))))

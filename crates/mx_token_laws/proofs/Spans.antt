@@ -21,7 +21,7 @@ pub tails_same : (a b : ℕ) (xs ys : List ℕ) → a ∷ xs ≡ b ∷ ys → xs
 tails_same a b xs ys e = cc
 
 -- a front that passes, behind which stands what does not
-front_is : (p : ℕ → Bool) (front behind : List ℕ) → AllPass p front → first_passes p behind ≡ false → prefix_len p (front ++ behind) ≡ length front
+pub front_is : (p : ℕ → Bool) (front behind : List ℕ) → AllPass p front → first_passes p behind ≡ false → prefix_len p (front ++ behind) ≡ length front
 front_is p [] [] all stops = refl
 front_is p [] (b ∷ bs) all stops = rw stops refl
 front_is p (b ∷ bs) behind all stops =

@@ -162,4 +162,4 @@ pub data Follows (behind : Behind) (place : ℕ) (gap bytes : List ℕ) : TokenK
 -- The tokens of these bytes, which stand at this place: gaps and tokens in turn, and END behind the last gap.
 pub data IsRead : Behind → ℕ → List ℕ → List Token → Type 0 where
   ended : (behind : Behind) (place : ℕ) (gap : List ℕ) → behind.inside ≡ false → behind.levels ≡ 0 ∷ [] → IsGap [] gap → IsRead behind place gap (empty_token End (place + length gap) ∷ [])
-  token : (behind next : Behind) (place past : ℕ) (all gap bytes : List ℕ) (t : Token) (tokens : List Token) → all ≡ gap ++ bytes → t.at ≡ place + length gap → past ≡ t.at + t.len → IsGap bytes gap → Follows behind place gap bytes t.kind t.len next → IsRead next past (drop t.len bytes) tokens → IsRead behind place all (t ∷ tokens)
+  token : (behind next : Behind) (place past at len : ℕ) (kind : TokenKind) (all gap bytes : List ℕ) (tokens : List Token) → all ≡ gap ++ bytes → at ≡ place + length gap → past ≡ at + len → IsGap bytes gap → Follows behind place gap bytes kind len next → IsRead next past (drop len bytes) tokens → IsRead behind place all (record { kind = kind; at = at; len = len } ∷ tokens)
