@@ -6,3 +6,4 @@ pub mod Places
 pub mod Reading
 pub mod Spans
 pub mod Turns
+pub mod Fronts

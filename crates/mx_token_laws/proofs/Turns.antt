@@ -38,7 +38,7 @@ pub turn_is : (rest behind : List ℕ) (at taken : ℕ) (reading next : Reading)
 turn_is rest behind at taken reading next given some step is =
     tokens_turn rest at reading some ∙ ap (after_step rest at) step ∙ ap (λ l. tokens_before given (tokens_from l 0 (at + taken) next)) is
 
-silent_turn : (rest behind : List ℕ) (at taken : ℕ) (reading next : Reading) → 0 < length rest → step_at at reading rest ≡ Ok (record { given = []; taken = taken; next = next }) → drop taken rest ≡ behind → tokens_from rest 0 at reading ≡ tokens_from behind 0 (at + taken) next
+pub silent_turn : (rest behind : List ℕ) (at taken : ℕ) (reading next : Reading) → 0 < length rest → step_at at reading rest ≡ Ok (record { given = []; taken = taken; next = next }) → drop taken rest ≡ behind → tokens_from rest 0 at reading ≡ tokens_from behind 0 (at + taken) next
 silent_turn rest behind at taken reading next some step is =
     turn_is rest behind at taken reading next [] some step is ∙ before_none (tokens_from behind 0 (at + taken) next)
 
@@ -116,14 +116,14 @@ gap_inside bytes _ at there number brackets stack (IsGap.comment text bs printab
 
 -- ---- in front of a line
 
-end_outside : (at number brackets : ℕ) (phase : Phase) (stack spaces rest : List ℕ) → is_inside phase ≡ false → AreSpaces spaces → step_at at (at_line phase number brackets stack) (spaces ++ 10 ∷ rest) ≡ Ok (record { given = []; taken = length spaces + 1; next = at_line phase (number + 1) brackets stack })
+pub end_outside : (at number brackets : ℕ) (phase : Phase) (stack spaces rest : List ℕ) → is_inside phase ≡ false → AreSpaces spaces → step_at at (at_line phase number brackets stack) (spaces ++ 10 ∷ rest) ≡ Ok (record { given = []; taken = length spaces + 1; next = at_line phase (number + 1) brackets stack })
 unfolding step_at head_at
 end_outside at number brackets phase stack spaces rest out are_spaces =
     let long = front_is (λ b. b == 32) spaces (10 ∷ rest) are_spaces refl in
     let first = drop-append_seam spaces (10 ∷ rest) in
     rw (out, long, first, out) refl
 
-comment_outside : (at number brackets : ℕ) (phase : Phase) (stack spaces text behind : List ℕ) → is_inside phase ≡ false → AreSpaces spaces → AllPass is_printable text → ends_here behind ≡ true → step_at at (at_line phase number brackets stack) (spaces ++ (35 ∷ text ++ behind)) ≡ Ok (record { given = []; taken = length spaces + suc (length text); next = at_line phase number brackets stack })
+pub comment_outside : (at number brackets : ℕ) (phase : Phase) (stack spaces text behind : List ℕ) → is_inside phase ≡ false → AreSpaces spaces → AllPass is_printable text → ends_here behind ≡ true → step_at at (at_line phase number brackets stack) (spaces ++ (35 ∷ text ++ behind)) ≡ Ok (record { given = []; taken = length spaces + suc (length text); next = at_line phase number brackets stack })
 unfolding step_at head_at comment_at
 comment_outside at number brackets phase stack spaces text behind out are_spaces printable ends =
     let lead_is = front_is (λ b. b == 32) spaces (35 ∷ text ++ behind) are_spaces refl in
