@@ -30,7 +30,7 @@ given_is now levels e = cc
 abbrev pub unchanged_levels : List ℕ → Levels
 unchanged_levels stack = record { given = []; stack = stack }
 
-abbrev opened_levels : ℕ → ℕ → List ℕ → Levels
+abbrev pub opened_levels : ℕ → ℕ → List ℕ → Levels
 opened_levels at indent stack = record { given = empty_token Indent at ∷ []; stack = indent ∷ stack }
 
 -- a line's first token behind a gap with its indent
@@ -91,7 +91,7 @@ pub record Opens (behind : Behind) (place : ℕ) (gap bytes : List ℕ) (levels 
   pub falling : AreFalling levels.stack
   pub reads : (tokens : List Token) → ReadsBehind behind levels.stack bytes t tokens → IsRead behind place (gap ++ bytes) (levels.given ++ t ∷ tokens)
 
-falls_on : (line indent : ℕ) (at : ℕ) (stack : List ℕ) (levels : Levels) → AreFalling stack → dedented at line indent stack ≡ Ok levels → AreFalling levels.stack
+pub falls_on : (line indent : ℕ) (at : ℕ) (stack : List ℕ) (levels : Levels) → AreFalling stack → dedented at line indent stack ≡ Ok levels → AreFalling levels.stack
 falls_on line indent at [] levels falling e = absurd falling
 falls_on line indent at (top ∷ below) levels falling e =
     ⊎_elim (λ falls. further (dedented at line indent below) refl falls.1 (λ later is_later. falls_on line indent at below later (lower below later falling is_later) is_later))

@@ -7,3 +7,4 @@ pub mod Reading
 pub mod Spans
 pub mod Turns
 pub mod Fronts
+pub mod Complete
