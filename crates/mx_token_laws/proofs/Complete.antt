@@ -32,7 +32,7 @@ solid_by P b h space end comment = go (b == 32) refl (b == 10) refl (b == 35) re
     go false is false is_y true is_z = absurd (comment (subst P (eqb-true b 35 is_z) h))
     go false is false is_y false is_z = refl
 
-token_solid : (kind : TokenKind) (len : ℕ) (bytes : List ℕ) → IsToken kind len bytes → is_solid bytes ≡ true
+pub token_solid : (kind : TokenKind) (len : ℕ) (bytes : List ℕ) → IsToken kind len bytes → is_solid bytes ≡ true
 token_solid kind len [] h = let some = h.some in let within = h.within in absurd (omega (arith, some, within))
 token_solid Name len (b ∷ bs) h = solid_by (λ c. begins_name c ≡ true) b h.begins false≢true false≢true false≢true
 token_solid Keyword len (b ∷ bs) h = solid_by (λ c. begins_name c ≡ true) b h.begins false≢true false≢true false≢true
@@ -49,7 +49,7 @@ token_solid Indent len (b ∷ bs) h = absurd h.begins
 token_solid Dedent len (b ∷ bs) h = absurd h.begins
 token_solid End len (b ∷ bs) h = absurd h.begins
 
-gap_soft : (behind gap : List ℕ) → IsGap behind gap → is_solid gap ≡ false
+pub gap_soft : (behind gap : List ℕ) → IsGap behind gap → is_solid gap ≡ false
 gap_soft behind _ IsGap.none = refl
 gap_soft behind _ (IsGap.space bs gap) = refl
 gap_soft behind _ (IsGap.line_end bs gap) = refl
@@ -58,18 +58,18 @@ gap_soft behind _ (IsGap.comment text bs printable ends gap) = refl
 -- ---- the blocks that an indent closes, and the first token of the line
 
 -- what stands where a line begins: what its indent gives, and its first token
-record BeginsLine (behind : Behind) (at indent number : ℕ) (bytes : List ℕ) (outcome : Indented) (tokens : List Token) : Type 0 where
-  levels : Levels
-  kind : TokenKind
-  len : ℕ
-  rest : List Token
-  given : outcome ≡ Ok levels
-  falling : AreFalling levels.stack
-  are : tokens ≡ levels.given ++ record { kind = kind; at = at; len = len } ∷ rest
-  token : IsToken kind len bytes
-  read : IsRead (in_line (record behind { levels = levels.stack }) bytes) (at + len) (drop len bytes) rest
+pub record BeginsLine (behind : Behind) (at indent number : ℕ) (bytes : List ℕ) (outcome : Indented) (tokens : List Token) : Type 0 where
+  pub levels : Levels
+  pub kind : TokenKind
+  pub len : ℕ
+  pub rest : List Token
+  pub given : outcome ≡ Ok levels
+  pub falling : AreFalling levels.stack
+  pub are : tokens ≡ levels.given ++ record { kind = kind; at = at; len = len } ∷ rest
+  pub token : IsToken kind len bytes
+  pub read : IsRead (in_line (record behind { levels = levels.stack }) bytes) (at + len) (drop len bytes) rest
 
-level_is : (at number indent : ℕ) (below : List ℕ) → dedented at number indent (indent ∷ below) ≡ Ok (unchanged_levels (indent ∷ below))
+pub level_is : (at number indent : ℕ) (below : List ℕ) → dedented at number indent (indent ∷ below) ≡ Ok (unchanged_levels (indent ∷ below))
 level_is at number indent below =
     let not_less : ltb indent indent ≡ false = le-ltb indent indent (omega arith) in
     let same : (indent == indent) ≡ true = eq-eqb indent indent refl in
@@ -83,12 +83,12 @@ told : (behind : Behind) (place indent other : ℕ) (gap : List ℕ) → behind.
 told behind place indent other gap found (inl has) = (let f : Some other ≡ Some indent = sym has.0 ∙ found in cc, has.1)
 told behind place indent other gap found (inr has) = absurd (let f : None ≡ Some indent = sym has.0 ∙ found in cc)
 
-lower : (indent top : ℕ) (below : List ℕ) → AreFalling (top ∷ below) → indent < top → AreFalling below
+pub lower : (indent top : ℕ) (below : List ℕ) → AreFalling (top ∷ below) → indent < top → AreFalling below
 lower indent top [] falling less = absurd (omega (arith, falling, less))
 lower indent top (next ∷ below) falling less = falling.1
 
 -- the first token of a line, with no block before it
-plain_line : (behind : Behind) (at here past indent number len : ℕ) (kind : TokenKind) (all bytes : List ℕ) (tokens : List Token) (outcome : Indented) → outcome ≡ Ok (unchanged_levels behind.levels) → AreFalling behind.levels → here ≡ at → past ≡ here + len → bytes ≡ all → IsToken kind len bytes → IsRead (in_line behind bytes) past (drop len bytes) tokens → BeginsLine behind at indent number all outcome (record { kind = kind; at = here; len = len } ∷ tokens)
+pub plain_line : (behind : Behind) (at here past indent number len : ℕ) (kind : TokenKind) (all bytes : List ℕ) (tokens : List Token) (outcome : Indented) → outcome ≡ Ok (unchanged_levels behind.levels) → AreFalling behind.levels → here ≡ at → past ≡ here + len → bytes ≡ all → IsToken kind len bytes → IsRead (in_line behind bytes) past (drop len bytes) tokens → BeginsLine behind at indent number all outcome (record { kind = kind; at = here; len = len } ∷ tokens)
 plain_line behind at here past indent number len kind all bytes tokens outcome given falling here_is past_is bytes_are token read =
     let there : past ≡ at + len = past_is ∙ ap (λ n. n + len) here_is in
     record {
@@ -104,7 +104,7 @@ plain_line behind at here past indent number len kind all bytes tokens outcome g
     }
 
 -- a DEDENT in front of such a line
-dedent_first : (behind : Behind) (at here indent number top : ℕ) (below all bytes : List ℕ) (tokens : List Token) → behind.levels ≡ top ∷ below → indent < top → here ≡ at → bytes ≡ all → behind.inside ≡ false → (other : ℕ) → BeginsLine (record behind { levels = below; found = Some other }) at indent number bytes (dedented at number indent below) tokens → BeginsLine behind at indent number all (dedented at number indent behind.levels) (record { kind = Dedent; at = here; len = 0 } ∷ tokens)
+pub dedent_first : (behind : Behind) (at here indent number top : ℕ) (below all bytes : List ℕ) (tokens : List Token) → behind.levels ≡ top ∷ below → indent < top → here ≡ at → bytes ≡ all → behind.inside ≡ false → (other : ℕ) → BeginsLine (record behind { levels = below; found = Some other }) at indent number bytes (dedented at number indent below) tokens → BeginsLine behind at indent number all (dedented at number indent behind.levels) (record { kind = Dedent; at = here; len = 0 } ∷ tokens)
 dedent_first behind at here indent number top below all bytes tokens levels falls here_is bytes_are out other further =
     record {
       levels = record { given = empty_token Dedent at ∷ further.levels.given; stack = further.levels.stack };
@@ -119,7 +119,7 @@ dedent_first behind at here indent number top below all bytes tokens levels fall
     }
 
 -- behind a DEDENT or an INDENT
-dedents_from : (behind : Behind) (place at indent number : ℕ) (all : List ℕ) (tokens : List Token) → IsRead behind place all tokens → behind.inside ≡ false → behind.found ≡ Some indent → AreFalling behind.levels → is_solid all ≡ true → place ≡ at → BeginsLine behind at indent number all (dedented at number indent behind.levels) tokens
+pub dedents_from : (behind : Behind) (place at indent number : ℕ) (all : List ℕ) (tokens : List Token) → IsRead behind place all tokens → behind.inside ≡ false → behind.found ≡ Some indent → AreFalling behind.levels → is_solid all ≡ true → place ≡ at → BeginsLine behind at indent number all (dedented at number indent behind.levels) tokens
 dedents_from behind place at indent number all _ (IsRead.ended _ _ _ out levels gap) out2 found falling solid is = absurd (false≢true (sym (gap_soft [] all gap) ∙ solid))
 dedents_from behind place at indent number all _ (IsRead.token _ _ _ past here _ _ _ gap bytes tokens parts place_is past_is is_gap (Follows.goes_on kind len inside spaces token) read) out found falling solid is = absurd (false≢true (sym out ∙ inside))
 dedents_from behind place at indent number all _ (IsRead.token _ _ _ past here _ _ _ gap bytes tokens parts place_is past_is is_gap (Follows.newline inside spaces blank ends) read) out found falling solid is = absurd (false≢true (sym out ∙ inside))

@@ -71,7 +71,7 @@ arrives_behind from middle bytes stack at next past taken number line brackets i
       same = silent_turn from middle at taken (at_line phase number brackets stack) (at_line phase line brackets stack) some step is ∙ ap (λ n. tokens_from middle 0 n (at_line phase line brackets stack)) place ∙ further.same;
     }
 
-behind_spaces : (spaces rest : List ℕ) (taken more : ℕ) → taken ≡ length spaces + more → drop taken (spaces ++ rest) ≡ drop more rest
+pub behind_spaces : (spaces rest : List ℕ) (taken more : ℕ) → taken ≡ length spaces + more → drop taken (spaces ++ rest) ≡ drop more rest
 behind_spaces spaces rest taken more is = ap (λ n. drop n (spaces ++ rest)) is ∙ sym (drop-drop more (length spaces) (spaces ++ rest)) ∙ ap (drop more) (drop-append_seam spaces rest)
 
 some_behind : (spaces rest : List ℕ) (b : ℕ) → 0 < length (spaces ++ (b ∷ rest))
