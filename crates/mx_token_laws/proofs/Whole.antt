@@ -125,3 +125,89 @@ newline_turn (b ∷ bs) at number brackets stack tokens blank (inr closed) is = 
         let same = eqb-true b 35 (subst (λ t. (t || (b == 35)) ≡ true) other blank) in
         subst (λ c. tokens_from (c ∷ bs) 0 at (at_line Inside number brackets stack) ≡ Ok (empty_token Newline at ∷ tokens)) (sym same)
         (comment (ends_here (drop (prefix_len is_printable (35 ∷ bs)) (35 ∷ bs))) refl (subst (λ c. tokens_from (c ∷ bs) 0 at (at_line AtStart number brackets stack) ≡ Ok tokens) same is))
+
+-- ---- what the indent of a line gives
+
+out_of : (phase : Phase) (behind : Behind) → behind.inside ≡ false → StandsAt phase behind → is_inside phase ≡ false
+out_of Inside behind out stands = absurd (false≢true (sym out ∙ stands.0))
+out_of AtStart behind out stands = refl
+out_of BeforeFirst behind out stands = refl
+
+no_block : (phase : Phase) (behind : Behind) (at number indent : ℕ) (below : List ℕ) → behind.inside ≡ false → StandsAt phase behind → behind.levels ≡ indent ∷ below → line_indented phase at number indent behind.levels ≡ Ok (unchanged_levels behind.levels)
+no_block Inside behind at number indent below out stands levels = absurd (false≢true (sym out ∙ stands.0))
+no_block BeforeFirst behind at number indent below out stands levels =
+    let none : indent ≡ 0 = heads_same indent 0 below [] (sym levels ∙ stands.2) in
+    let is : (indent == 0) ≡ true = eq-eqb indent 0 none in
+    rw is refl
+no_block AtStart behind at number indent below out stands levels =
+    let not_less : ltb indent indent ≡ false = le-ltb indent indent (omega arith) in
+    subst (λ l. indented at number indent l ≡ Ok (unchanged_levels l)) (sym levels) (cond-false (ltb indent indent) _ (dedented at number indent (indent ∷ below)) not_less ∙ level_is at number indent below)
+
+begun_out : (phase : Phase) (behind : Behind) → behind.inside ≡ false → behind.begun ≡ true → StandsAt phase behind → phase ≡ AtStart
+begun_out Inside behind out begun stands = absurd (false≢true (sym out ∙ stands.0))
+begun_out AtStart behind out begun stands = refl
+begun_out BeforeFirst behind out begun stands = absurd (false≢true (sym stands.1 ∙ begun))
+
+falls_out : (phase : Phase) (behind : Behind) (indent top : ℕ) (below : List ℕ) → behind.inside ≡ false → behind.levels ≡ top ∷ below → indent < top → StandsAt phase behind → phase ≡ AtStart
+falls_out Inside behind indent top below out levels falls stands = absurd (false≢true (sym out ∙ stands.0))
+falls_out AtStart behind indent top below out levels falls stands = refl
+falls_out BeforeFirst behind indent top below out levels falls stands = absurd (let none : top ≡ 0 = heads_same top 0 below [] (sym levels ∙ stands.2) in omega (arith, none, falls))
+
+-- an indent that falls
+falls_from : (behind : Behind) (at number indent top : ℕ) (below all : List ℕ) (tokens : List Token) → behind.levels ≡ top ∷ below → indent < top → BeginsLine behind at indent number all (dedented at number indent behind.levels) tokens → BeginsLine behind at indent number all (line_indented AtStart at number indent behind.levels) tokens
+falls_from behind at number indent top below all tokens levels falls h =
+    let not_less : ltb top indent ≡ false = le-ltb top indent (omega (arith, falls)) in
+    let same : indented at number indent behind.levels ≡ dedented at number indent behind.levels = ap (indented at number indent) levels ∙ cond-false (ltb top indent) _ (dedented at number indent (top ∷ below)) not_less ∙ ap (dedented at number indent) (sym levels) in
+    subst (λ o. BeginsLine behind at indent number all o tokens) (sym same) h
+
+-- an indent that grows, and the line behind its INDENT
+grows_from : (behind : Behind) (at here number indent top : ℕ) (below all : List ℕ) (tokens : List Token) → behind.levels ≡ top ∷ below → AreFalling behind.levels → top < indent → here ≡ at → BeginsLine (record behind { levels = indent ∷ behind.levels; found = Some indent }) at indent number all (dedented at number indent (indent ∷ behind.levels)) tokens → BeginsLine behind at indent number all (line_indented AtStart at number indent behind.levels) (record { kind = Indent; at = here; len = 0 } ∷ tokens)
+grows_from behind at here number indent top below all tokens levels falling grows here_is h =
+    let less : ltb top indent ≡ true = lt-ltb top indent grows in
+    let same : unchanged_levels (indent ∷ behind.levels) ≡ h.levels = given_is (unchanged_levels (indent ∷ behind.levels)) h.levels (sym (level_is at number indent behind.levels) ∙ h.given) in
+    let opened : indented at number indent behind.levels ≡ Ok (opened_levels at indent behind.levels) = ap (indented at number indent) levels ∙ cond-true (ltb top indent) (Ok (opened_levels at indent (top ∷ below))) _ less ∙ ap (λ l. Ok (opened_levels at indent l)) (sym levels) in
+    let grown : AreFalling (indent ∷ behind.levels) = subst (λ l. AreFalling (indent ∷ l)) (sym levels) (grows, subst AreFalling levels falling) in
+    let line : List Token = record { kind = h.kind; at = at; len = h.len } ∷ h.rest in
+    record {
+      levels = opened_levels at indent behind.levels;
+      kind = h.kind;
+      len = h.len;
+      rest = h.rest;
+      given = opened;
+      falling = grown;
+      are = ap (λ n. empty_token Indent n ∷ tokens) here_is ∙ ap (λ l. empty_token Indent at ∷ l) (h.are ∙ ap (λ (l : Levels). l.given ++ line) (sym same));
+      token = h.token;
+      read = subst (λ (l : Levels). IsRead (in_line (record behind { levels = l.stack }) all) (at + h.len) (drop h.len all) h.rest) (sym same) h.read;
+    }
+
+-- ---- the end of a source
+
+no_bytes : (gap bytes : List ℕ) → gap ++ bytes ≡ [] → is_solid bytes ≡ true → ⊥
+no_bytes gap [] is solid = false≢true solid
+no_bytes gap (b ∷ bs) is solid = let total = ap length is in let both_long = length-append gap (b ∷ bs) in omega (arith, total, both_long)
+
+closings : (behind : Behind) (place past : ℕ) (all : List ℕ) (tokens : List Token) → IsRead behind place all tokens → behind.inside ≡ false → all ≡ [] → place ≡ past → tokens ≡ dedents_at past behind.levels ++ empty_token End past ∷ []
+closings behind place past all _ (IsRead.ended _ _ _ out levels gap) out2 is place_is =
+    let none = ap length is in
+    let here : place + length all ≡ past = omega (arith, none, place_is) in
+    ap (λ n. empty_token End n ∷ []) here ∙ ap (λ l. dedents_at past l ++ empty_token End past ∷ []) (sym levels)
+closings behind place past all _ (IsRead.token _ _ _ after here _ _ _ gap bytes tokens parts here_is after_is is_gap (Follows.closes top below out2 levels above ends) read) out is place_is =
+    let total = ap length (sym parts ∙ is) in
+    let both_long = length-append gap bytes in
+    let at_past : here ≡ past = omega (arith, total, both_long, here_is, place_is) in
+    let later = closings (record behind { levels = below }) after past bytes tokens read out ends (omega (arith, after_is, at_past)) in
+    let some : (top == 0) ≡ false = above_zero top above in
+    ap (λ n. empty_token Dedent n ∷ tokens) at_past ∙ ap (λ l. empty_token Dedent past ∷ l) later
+    ∙ sym (ap (λ l. l ++ empty_token End past ∷ []) (ap (dedents_at past) levels ∙ cond-false (top == 0) [] (empty_token Dedent past ∷ dedents_at past below) some))
+  where
+    above_zero : (n : ℕ) → 0 < n → (n == 0) ≡ false
+    above_zero n h = go (n == 0) refl
+      where
+        go : (t : Bool) → (n == 0) ≡ t → t ≡ false
+        go true z = absurd (let none = eqb-true n 0 z in omega (arith, none, h))
+        go false z = refl
+closings behind place past all _ (IsRead.token _ _ _ after here _ _ _ gap bytes tokens parts here_is after_is is_gap (Follows.goes_on kind len inside spaces token) read) out is place_is = absurd (false≢true (sym out ∙ inside))
+closings behind place past all _ (IsRead.token _ _ _ after here _ _ _ gap bytes tokens parts here_is after_is is_gap (Follows.newline inside spaces blank ends) read) out is place_is = absurd (false≢true (sym out ∙ inside))
+closings behind place past all _ (IsRead.token _ _ _ after here _ _ _ gap bytes tokens parts here_is after_is is_gap (Follows.begins kind len indent below out2 has levels token) read) out is place_is = absurd (no_bytes gap bytes (sym parts ∙ is) (token_solid kind len bytes token))
+closings behind place past all _ (IsRead.token _ _ _ after here _ _ _ gap bytes tokens parts here_is after_is is_gap (Follows.indent indent top below out2 begun fresh has levels less solid) read) out is place_is = absurd (no_bytes gap bytes (sym parts ∙ is) solid)
+closings behind place past all _ (IsRead.token _ _ _ after here _ _ _ gap bytes tokens parts here_is after_is is_gap (Follows.dedent indent top below out2 has levels less solid) read) out is place_is = absurd (no_bytes gap bytes (sym parts ∙ is) solid)
