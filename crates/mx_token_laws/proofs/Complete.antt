@@ -1,24 +1,16 @@
 -- Where tokens stand in a source as they must, they are the lexer's.
-use Rattle.std.proofs.Common.{◌≡◌, ℕ, ◌+◌, ◌<◌, ◌≤◌, zero, suc, List, [], ◌∷◌, ◌++◌, Bool, true, false, cond, eqb, ltb, not, ◌==◌, ◌||◌, length, take, drop, refl, sym, ap, ◌∙◌, subst, ◌⊎◌, ⊎_elim, inl, inr, append_assoc, append-nil, Option, None, Some, Ok, Err, arith, length-append}
-use Rattle.std.proofs.lemmas.Bool.{false≢true, cond-true, cond-false, or_left, or_right, eqb-true, eq-eqb, lt-ltb, le-ltb}
+use Rattle.std.proofs.Common.{◌≡◌, ℕ, ◌+◌, ◌<◌, List, [], ◌∷◌, ◌++◌, Bool, true, false, ltb, not, ◌==◌, ◌||◌, length, drop, refl, sym, ap, ◌∙◌, subst, ◌⊎◌, inl, inr, append-nil, None, Some, Ok, arith}
+use Rattle.std.proofs.lemmas.Bool.{false≢true, or_left, or_right, eqb-true, eq-eqb, lt-ltb, le-ltb}
 use Rattle.std.specs.Char.{is_ascii_digit}
-use Rattle.std.proofs.lemmas.List.Elements.{All-nil}
-use Rattle.mx_lex.specs.Bytes.{begins_name, is_quote, first_passes}
-use Rattle.mx_lex.specs.Spans.{span_at, found, long_marks, short_marks, begins_with_one}
-use Rattle.mx_lex.specs.Heads.{empty_token, is_inside, ends_here, brackets_behind}
-use Rattle.mx_lex.specs.Lines.{Levels, Indented, given_before, dedented, indented, line_indented, is_blank}
-use Rattle.mx_lex.specs.Lexing.{Reading, Tokens, dedents_at, step_at, tokens_before, tokens_from, tokens_of}
+use Rattle.mx_lex.specs.Bytes.{begins_name, is_quote}
+use Rattle.mx_lex.specs.Spans.{found, long_marks, short_marks, begins_with_one}
+use Rattle.mx_lex.specs.Heads.{empty_token}
+use Rattle.mx_lex.specs.Lines.{Levels, Indented, dedented}
 use Rattle.mx_lex.specs.declared.Token.{Token}
 use Rattle.mx_lex.specs.declared.TokenKind.{TokenKind}
 use Rattle.mx_lex.specs.declared.TokenKind.TheVariants.{Name, Keyword, Int, Fix, Text, Mark, Newline, Indent, Dedent, End}
-use Rattle.mx_lex.specs.declared.LexRefusal.{LexRefusal}
-use Rattle.mx_lex.specs.declared.line.Phase.{Phase}
-use Rattle.mx_lex.specs.declared.line.Phase.TheVariants.{BeforeFirst, AtStart, Inside}
-use Rattle.mx_token_laws.specs.Standing.{AreSpaces, IsGap, is_solid, IsToken, Behind, in_line, brackets_from, IsIndent, HasIndent, Follows, IsRead}
-use Rattle.mx_token_laws.proofs.Dedents.{AreFalling, unchanged_levels, opened_levels, given_is, falls_on}
-use Rattle.mx_token_laws.proofs.Spans.{token_is}
-use Rattle.mx_token_laws.proofs.Turns.{at_line, Passes, gap_inside, turn_is, first_step, further_step}
-use Rattle.mx_token_laws.proofs.Fronts.{trailing, indent_is, Arrives, gap_outside, end_closes}
+use Rattle.mx_token_laws.specs.Standing.{IsGap, is_solid, IsToken, Behind, in_line, HasIndent, Follows, IsRead}
+use Rattle.mx_token_laws.proofs.Dedents.{AreFalling, unchanged_levels}
 
 -- ---- what begins a token is no gap
 

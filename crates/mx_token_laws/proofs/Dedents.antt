@@ -2,7 +2,7 @@
 use Rattle.std.proofs.Common.{None, ◌≡◌, ℕ, ◌+◌, ◌<◌, List, [], ◌∷◌, ◌++◌, true, false, ltb, ◌==◌, length, drop, refl, sym, ap, ◌∙◌, subst, ⊎_elim, inl, inr, Some, Ok, Err, arith}
 use Rattle.std.proofs.lemmas.Bool.{false≢true, eqb-true, ltb-true}
 use Rattle.mx_lex.specs.Heads.{empty_token, is_inside}
-use Rattle.mx_lex.specs.Lines.{Levels, Indented, given_before, dedented, indented, line_indented, is_blank}
+use Rattle.mx_lex.specs.Lines.{Levels, Indented, given_before, dedented, indented, line_indented}
 use Rattle.mx_lex.specs.declared.Token.{Token}
 use Rattle.mx_lex.specs.declared.TokenKind.TheVariants.{Indent, Dedent}
 use Rattle.mx_lex.specs.declared.LexRefusal.TheVariants.{BadIndent}

@@ -1,13 +1,11 @@
 -- What stands in front of a line, and the end of a source.
-use Rattle.std.proofs.Common.{◌≡◌, ℕ, ◌+◌, ◌<◌, suc, List, [], ◌∷◌, ◌++◌, Bool, true, false, cond, not, ◌==◌, ◌||◌, length, take, drop, refl, sym, ap, ◌∙◌, subst, ◌⊎◌, ⊎_elim, inl, inr, append_assoc, append-nil, Ok, Err, arith, length-append}
-use Rattle.std.specs.List.{AllPass}
+use Rattle.std.proofs.Common.{◌≡◌, ℕ, ◌+◌, ◌<◌, suc, List, [], ◌∷◌, ◌++◌, true, false, cond, not, ◌==◌, ◌||◌, length, drop, refl, sym, ap, ◌∙◌, subst, ◌⊎◌, inl, inr, append_assoc, Ok, arith, length-append}
 use Rattle.std.proofs.Math.Seq.{drop-append_seam}
 use Rattle.std.proofs.lemmas.List.{drop-drop}
 use Rattle.std.proofs.lemmas.Bool.{false≢true, eqb-true}
 use Rattle.std.proofs.lemmas.List.Elements.{All-nil, All-cons, All-append, All-head, All-tail}
-use Rattle.mx_lex.specs.Bytes.{is_printable, first_passes}
 use Rattle.mx_lex.specs.Heads.{empty_token, is_inside, ends_here, head_at}
-use Rattle.mx_lex.specs.Lexing.{Reading, dedents_at, closing_at, step_at, tokens_from}
+use Rattle.mx_lex.specs.Lexing.{dedents_at, closing_at, step_at, tokens_from}
 use Rattle.mx_lex.specs.declared.TokenKind.TheVariants.{End}
 use Rattle.mx_lex.specs.declared.line.Phase.{Phase}
 use Rattle.mx_lex.proofs.Loop.{at_end}

@@ -1,5 +1,5 @@
 -- Each name, number, text and mark is the longest that stands where it does.
-use Rattle.std.proofs.Common.{◌≡◌, ℕ, ◌+◌, ◌-◌, suc, List, [], ◌∷◌, ◌++◌, Bool, true, false, ◌==◌, not, ◌&&◌, length, take, drop, length-take-le, refl, ap, ◌∙◌, subst, Result, Ok, Err, inl, inr, arith}
+use Rattle.std.proofs.Common.{◌≡◌, ℕ, ◌+◌, ◌-◌, suc, List, [], ◌∷◌, ◌++◌, Bool, true, false, ◌==◌, not, ◌&&◌, length, take, drop, refl, ap, ◌∙◌, subst, Result, Ok, Err, inl, inr, arith}
 use Rattle.std.specs.Prelude.{IfOk}
 use Rattle.std.specs.List.{prefix_len, AllPass}
 use Rattle.std.specs.Char.{is_ascii_digit}
@@ -15,7 +15,7 @@ use Rattle.mx_lex.specs.declared.LexRefusal.TheVariants.{BadByte, BadNumber}
 use Rattle.mx_lex.specs.declared.spans.Span.{Span}
 use Rattle.mx_lex.proofs.Cases.{both}
 use Rattle.mx_lex.proofs.Digits.{front_passes}
-use Rattle.mx_lex.proofs.SpanBounds.{EndsWithin, text_end_within, front_within}
+use Rattle.mx_lex.proofs.SpanBounds.{EndsWithin, text_end_within}
 use Rattle.mx_token_laws.specs.Standing.{BeginsMark, Begins, IsWord, IsQuoted, Reaches}
 use Rattle.mx_token_laws.proofs.Gaps.{front_stops}
 

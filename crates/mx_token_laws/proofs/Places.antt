@@ -12,7 +12,7 @@ use Rattle.mx_lex.specs.Lines.{Levels, is_blank, line_indented, opened_at}
 use Rattle.mx_lex.specs.Lexing.{Reading}
 use Rattle.mx_lex.specs.declared.Token.{Token}
 use Rattle.mx_lex.specs.declared.TokenKind.{TokenKind}
-use Rattle.mx_lex.specs.declared.TokenKind.TheVariants.{Name, Keyword, Int, Fix, Text, Mark, Newline, Indent, Dedent, End}
+use Rattle.mx_lex.specs.declared.TokenKind.TheVariants.{Newline}
 use Rattle.mx_lex.specs.declared.LexRefusal.{LexRefusal}
 use Rattle.mx_lex.specs.declared.LexRefusal.TheVariants.{BadByte}
 use Rattle.mx_lex.specs.declared.line.Head.{Head}

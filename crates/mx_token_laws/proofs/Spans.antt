@@ -1,18 +1,17 @@
 -- One token alone stands at a place: the one that the lexer gives.
-use Rattle.std.proofs.Common.{◌≡◌, ◌≢◌, ℕ, ◌+◌, ◌-◌, ◌<◌, ◌≤◌, zero, suc, List, [], ◌∷◌, ◌++◌, Bool, true, false, cond, leb, ◌==◌, not, ◌&&◌, ◌||◌, length, take, drop, refl, sym, ap, ◌∙◌, subst, ◌⊎◌, ⊎_elim, inl, inr, append_assoc, Ok, Err, arith, length-append, length-take-le, take-append-drop}
+use Rattle.std.proofs.Common.{◌≡◌, ◌≢◌, ℕ, ◌+◌, ◌-◌, ◌<◌, ◌≤◌, zero, suc, List, [], ◌∷◌, ◌++◌, Bool, true, false, cond, ◌==◌, not, ◌||◌, length, take, drop, refl, sym, ap, ◌∙◌, subst, ◌⊎◌, ⊎_elim, inl, inr, append_assoc, Ok, Err, arith, length-append, length-take-le, take-append-drop}
 use Rattle.std.specs.List.{prefix_len, AllPass}
 use Rattle.std.specs.Char.{is_ascii_digit}
 use Rattle.std.proofs.Math.Seq.{take-append_seam, drop-append_seam}
 use Rattle.std.proofs.lemmas.Bool.{false≢true, cond-true, cond-false, le-leb, or_left, or_right, and_parts, not-true, eqb-true}
 use Rattle.std.proofs.lemmas.Bool.Decides.{nat_tests}
 use Rattle.std.proofs.lemmas.List.Elements.{All-head, All-tail}
-use Rattle.mx_lex.specs.Bytes.{begins_name, continues_name, is_printable, is_quote, is_escaped, first_passes}
-use Rattle.mx_lex.specs.Spans.{Found, found, is_keyword, name_at, is_whole, digits_from, is_glued, is_int, is_fix, number_at, text_end, text_until, text_at, long_marks, short_marks, begins_with_one, mark_at, span_at}
+use Rattle.mx_lex.specs.Bytes.{begins_name, continues_name, is_printable, is_quote, first_passes}
+use Rattle.mx_lex.specs.Spans.{found, is_keyword, name_at, is_whole, digits_from, is_glued, is_int, is_fix, number_at, text_end, text_until, text_at, long_marks, short_marks, begins_with_one, mark_at, span_at}
 use Rattle.mx_lex.specs.declared.TokenKind.{TokenKind}
 use Rattle.mx_lex.specs.declared.TokenKind.TheVariants.{Name, Keyword, Int, Fix, Text, Mark, Newline, Indent, Dedent, End}
-use Rattle.mx_lex.specs.declared.LexRefusal.TheVariants.{BadByte, BadNumber}
-use Rattle.mx_lex.specs.declared.spans.Span.{Span}
-use Rattle.mx_token_laws.specs.Standing.{BeginsMark, IsWord, IsWhole, IsDecimal, IsQuoted, IsClosed, IsToken}
+use Rattle.mx_lex.specs.declared.LexRefusal.TheVariants.{BadByte}
+use Rattle.mx_token_laws.specs.Standing.{BeginsMark, IsWord, IsWhole, IsDecimal, IsQuoted, IsToken}
 
 pub heads_same : (a b : ℕ) (xs ys : List ℕ) → a ∷ xs ≡ b ∷ ys → a ≡ b
 heads_same a b xs ys e = cc

@@ -1,21 +1,20 @@
 -- What the lexer does with the bytes between tokens.
-use Rattle.std.proofs.Common.{◌≡◌, ℕ, ◌+◌, ◌<◌, suc, List, [], ◌∷◌, ◌++◌, Bool, true, false, cond, not, ◌==◌, ◌||◌, length, take, drop, refl, sym, ap, ◌∙◌, subst, ◌⊎◌, ⊎_elim, inl, inr, append_assoc, append-nil, Option, None, Some, Ok, Err, arith, length-append}
-use Rattle.std.specs.Prelude.{option_to_list}
+use Rattle.std.proofs.Common.{◌≡◌, ℕ, ◌+◌, ◌<◌, suc, List, [], ◌∷◌, ◌++◌, Bool, true, false, not, ◌==◌, ◌||◌, length, drop, refl, sym, ap, ◌∙◌, subst, append_assoc, Ok, Err, arith, length-append}
 use Rattle.std.specs.List.{prefix_len, AllPass}
-use Rattle.std.proofs.Math.Seq.{take-append_seam, drop-append_seam}
+use Rattle.std.proofs.Math.Seq.{drop-append_seam}
 use Rattle.std.proofs.lemmas.Bool.{false≢true, eqb-true}
-use Rattle.std.proofs.lemmas.List.Elements.{All-nil, All-cons, All-append, All-head, All-tail}
+use Rattle.std.proofs.lemmas.List.Elements.{All-cons, All-head, All-tail}
 use Rattle.mx_lex.specs.Bytes.{is_printable, first_passes}
 use Rattle.mx_lex.specs.Spans.{span_at, found}
-use Rattle.mx_lex.specs.Heads.{empty_token, is_inside, ends_here, brackets_behind, head_at, comment_at, newline_at, ended}
-use Rattle.mx_lex.specs.Lines.{Levels, is_blank, lead, line_indented, opened_at}
-use Rattle.mx_lex.specs.Lexing.{Reading, Step, Tokens, step_at, step_from, tokens_before, tokens_from}
+use Rattle.mx_lex.specs.Heads.{is_inside, ends_here, brackets_behind, head_at, comment_at, newline_at, ended}
+use Rattle.mx_lex.specs.Lines.{Levels, lead, line_indented, opened_at}
+use Rattle.mx_lex.specs.Lexing.{Reading, Tokens, step_at, step_from, tokens_before, tokens_from}
 use Rattle.mx_lex.specs.declared.Token.{Token}
 use Rattle.mx_lex.specs.declared.TokenKind.{TokenKind}
 use Rattle.mx_lex.specs.declared.line.Head.{Head}
 use Rattle.mx_lex.specs.declared.line.Line.{Line}
 use Rattle.mx_lex.specs.declared.line.Phase.{Phase}
-use Rattle.mx_lex.specs.declared.line.Phase.TheVariants.{BeforeFirst, AtStart, Inside}
+use Rattle.mx_lex.specs.declared.line.Phase.TheVariants.{Inside}
 use Rattle.mx_lex.proofs.Loop.{after_step, tokens_turn}
 use Rattle.mx_token_laws.specs.Standing.{AreSpaces, IsGap, is_solid}
 use Rattle.mx_token_laws.proofs.Spans.{front_is}
