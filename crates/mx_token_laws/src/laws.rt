@@ -1,6 +1,6 @@
 //! Laws of tokens, for proofs and for those who read them. They do nothing when they run.
 
-ghost use Rattle.std.specs.Prelude.{◌≡◌, ◌≢◌, ◌≤◌, ℕ, List, length, Ok, Err};
+ghost use Rattle.std.specs.Prelude.{◌≡◌, ◌≢◌, ℕ, List, Ok, Err};
 ghost use Rattle.mx_lex.specs.Lexing.{tokens_of};
 ghost use Rattle.mx_lex.specs.declared.Token.{Token};
 ghost use Rattle.mx_lex.specs.declared.LexRefusal.{LexRefusal};
@@ -12,13 +12,6 @@ ghost use Rattle.mx_token_laws.specs.Standing.{IsRead, beginning};
 pub fn tokens_stand_where_they_must()
     ensures { (source : List ℕ) (tokens : List Token) →
         tokens_of source ≡ Ok tokens → IsRead beginning 0 source tokens }
-{}
-
-/// They are the only ones that do: where tokens follow one another so in a source within its limit, they are its tokens. So a source is
-/// refused exactly where none do.
-pub fn no_other_tokens_stand()
-    ensures { (source : List ℕ) (tokens : List Token) → length source ≤ 65536 →
-        IsRead beginning 0 source tokens → tokens_of source ≡ Ok tokens }
 {}
 
 /// What a source is refused for is never want of memory.

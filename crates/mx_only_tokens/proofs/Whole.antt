@@ -17,10 +17,10 @@ use Rattle.mx_lex.proofs.Loop.{after_step, tokens_turn, at_end, tokens_of_short}
 use Rattle.mx_token_laws.specs.Standing as standing
 use Rattle.mx_token_laws.specs.Standing.{AreSpaces, IsGap, is_solid, IsToken, Behind, in_line, IsIndent, HasIndent, Follows, IsRead}
 use Rattle.mx_token_laws.proofs.Dedents.{AreFalling, unchanged_levels, opened_levels, given_is}
-use Rattle.mx_token_laws.proofs.Spans.{heads_same, token_is}
-use Rattle.mx_token_laws.proofs.Turns.{at_line, gap_inside, turn_is, silent_turn, end_outside, first_step, further_step}
-use Rattle.mx_token_laws.proofs.Fronts.{indent_is, behind_spaces, gap_outside, end_closes}
-use Rattle.mx_token_laws.proofs.Complete.{BeginsLine, token_solid, level_is, plain_line, dedents_from, dedent_first, lower}
+use Rattle.mx_only_tokens.proofs.Spans.{heads_same, token_is}
+use Rattle.mx_only_tokens.proofs.Turns.{at_line, gap_inside, turn_is, silent_turn, end_outside, first_step, further_step}
+use Rattle.mx_only_tokens.proofs.Fronts.{indent_is, behind_spaces, gap_outside, end_closes}
+use Rattle.mx_only_tokens.proofs.Complete.{BeginsLine, token_solid, level_is, plain_line, dedents_from, dedent_first, lower}
 
 -- where a line stands
 abbrev StandsAt : Phase → Behind → Type 0

@@ -17,7 +17,7 @@ use Rattle.mx_lex.specs.declared.line.Phase.{Phase}
 use Rattle.mx_lex.specs.declared.line.Phase.TheVariants.{Inside}
 use Rattle.mx_lex.proofs.Loop.{after_step, tokens_turn}
 use Rattle.mx_token_laws.specs.Standing.{AreSpaces, IsGap, is_solid}
-use Rattle.mx_token_laws.proofs.Spans.{front_is}
+use Rattle.mx_only_tokens.proofs.Spans.{front_is}
 
 -- a state of the lexer
 abbrev pub at_line : Phase → ℕ → ℕ → List ℕ → Reading

@@ -10,8 +10,8 @@ use Rattle.mx_lex.specs.declared.TokenKind.TheVariants.{End}
 use Rattle.mx_lex.specs.declared.line.Phase.{Phase}
 use Rattle.mx_lex.proofs.Loop.{at_end}
 use Rattle.mx_token_laws.specs.Standing.{AreSpaces, IsGap, is_solid, EndsLine, IsIndent}
-use Rattle.mx_token_laws.proofs.Spans.{front_is}
-use Rattle.mx_token_laws.proofs.Turns.{at_line, silent_turn, end_outside, comment_outside}
+use Rattle.mx_only_tokens.proofs.Spans.{front_is}
+use Rattle.mx_only_tokens.proofs.Turns.{at_line, silent_turn, end_outside, comment_outside}
 
 -- how many spaces stand at the end of these bytes, behind so many
 abbrev pub trailing : ℕ → List ℕ → ℕ

@@ -1,0 +1,5 @@
+pub mod Spans
+pub mod Turns
+pub mod Fronts
+pub mod Complete
+pub mod Whole
