@@ -6,11 +6,11 @@
 Each workload is a script. It is run by `PATH run` (the built program, as tools/build leaves it, where none is named) and,
 where Python can run it, by tools/baseline.py with and without --traced. A line gives the best time of each, the formula
 runs a second, the greatest memory of the engine's own process, and the ratios: above 1.0 the engine is the faster. A
-ratio comes only where the values are the same. `parse` and `crowded` only read formulas, in many spaces and in one;
-`policies`, `beside` and `derived` have spaces, item spaces and decimal numbers, for which there is no baseline. Machines
-are noisy: read the ratios, not the times. The last lines, `--only operators`, give the nanoseconds of an operator on its
-own, as mx_ops_bench measures them, and `--only memo` the times and the bytes of a million kept nodes, as mx_memo_bench
-makes them.
+ratio comes only where the values are the same. `parse`, `crowded` and `written` only read formulas: in many spaces, in one,
+and 16 MB of them. `policies`, `beside` and `derived` have spaces, item spaces and decimal numbers, for which there is no
+baseline. Machines are noisy: read the ratios, not the times. The last lines, `--only operators`, give the nanoseconds of
+an operator on its own, as mx_ops_bench measures them, and `--only memo` the times and the bytes of a million kept nodes,
+as mx_memo_bench makes them.
 """
 import argparse
 import os
@@ -51,6 +51,16 @@ def parse(spaces, cells):
         for s in range(spaces)
         for i in range(cells)
     )
+
+
+def written(spaces, cells, times):
+    """About the longest script: cells over spaces, each defined so many times with another formula, and one of them asked."""
+    lines = [f"space s{i}" for i in range(spaces)]
+    for turn in range(times):
+        lines += [
+            f"cells s{i % spaces}.g{i}(n) = {i} if n < 1 else g{i}(n-1) * 3 + g{i}(n-2) * (n + {turn})" for i in range(cells)
+        ]
+    return "\n".join(lines) + "\neval s7.g7(9)\n"
 
 
 def policies(count, term):
@@ -97,6 +107,7 @@ WORKLOADS = [
     ("kept", lambda: kept(100_000), True),
     ("parse", lambda: parse(90, 100), False),
     ("crowded", lambda: parse(1, 2_000), False),
+    ("written", lambda: written(200, 10_000, 20), False),
     ("policies", lambda: policies(1_000, 30), False),
     ("beside", lambda: beside(90_000, 10_000), False),
     ("derived", lambda: derived(200, 100, 20), False),
