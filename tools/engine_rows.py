@@ -7,13 +7,15 @@
 The answers of tools/engine_rows/*.txt are worked by hand from the rules of the language and of the engine; none is taken
 from the program. There `# NAME` begins a group. A row is a line with the lines behind it that begin with a space. Its
 answer stands behind ` | `, with `; ` between the answer's lines; a row without one answers `ok`. The other groups are
-computed by Python.
+computed by Python: formulas, both products, and random formulas and scripts by a second reading of the rules.
 """
 import pathlib
 import sys
 
 import formula_rows
 import product_rows
+import random_formulas
+import random_rows
 
 FOLDER = pathlib.Path(__file__).resolve().parent
 CRATE = FOLDER.parent / "crates" / "mx_engine_rows"
@@ -68,7 +70,7 @@ def nested_items():
 
 def all_groups():
     groups = [group for subject in SUBJECTS for group in worked(subject)] + nested_items()
-    return groups + formula_rows.groups() + product_rows.groups()
+    return groups + formula_rows.groups() + product_rows.groups() + random_formulas.groups() + random_rows.groups()
 
 
 def files(groups):

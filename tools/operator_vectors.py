@@ -152,7 +152,7 @@ def rounded(x, *places):
     numbers(x, *places)
     if not places:
         return round(Fraction(x))
-    if not is_whole(places[0]):
+    if len(places) > 1 or not is_whole(places[0]):
         raise Fault("TypeMismatch")
     if not 0 <= places[0] <= 9:
         raise Fault("Domain")
