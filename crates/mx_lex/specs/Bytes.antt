@@ -1,6 +1,7 @@
 -- The bytes that names, numbers, texts and comments are made of.
-use Rattle.std.specs.Prelude.{ℕ, Bool, false, ◌||◌, ◌&&◌, ◌==◌, nat_le, List, [], ◌∷◌}
+use Rattle.std.specs.Prelude.{ℕ, Bool, false, ◌||◌, ◌==◌, List, [], ◌∷◌}
 use Rattle.std.specs.Char.{is_ascii_digit, is_ascii_alphabetic}
+pub use Rattle.mx_value.specs.Label.{is_printable}
 
 -- a letter or `_`
 abbrev pub begins_name : ℕ → Bool
@@ -9,10 +10,6 @@ begins_name b = is_ascii_alphabetic b || b == 95
 -- a letter, a digit or `_`
 abbrev pub continues_name : ℕ → Bool
 continues_name b = begins_name b || is_ascii_digit b
-
--- from the space to `~`
-abbrev pub is_printable : ℕ → Bool
-is_printable b = nat_le 32 b && nat_le b 126
 
 -- `'` or `"`
 abbrev pub is_quote : ℕ → Bool

@@ -4,6 +4,7 @@ use Rattle.std.specs.List.{prefix_len, list_any, list_all}
 use Rattle.std.specs.Char.{is_ascii_digit}
 use Rattle.std.specs.Str.{bytes_eq}
 use Rattle.mx_lex.specs.Bytes.{begins_name, continues_name, is_printable, is_quote, is_escaped, first_passes}
+unfoldable pub use Rattle.mx_value.specs.Name.{is_keyword}
 use Rattle.mx_lex.specs.declared.TokenKind.{TokenKind}
 use Rattle.mx_lex.specs.declared.TokenKind.TheVariants.{Name, Keyword, Int, Fix, Text, Mark}
 use Rattle.mx_lex.specs.declared.LexRefusal.{LexRefusal}
@@ -16,14 +17,6 @@ Found = Result Span LexRefusal
 
 abbrev pub found : TokenKind → ℕ → Found
 found kind len = Ok (record { kind = kind; len = len })
-
--- Python's keywords
-abbrev pub keywords : List (List ℕ)
-keywords =
-    codes "and" ∷ codes "as" ∷ codes "assert" ∷ codes "async" ∷ codes "await" ∷ codes "break" ∷ codes "class" ∷ codes "continue" ∷ codes "def" ∷ codes "del" ∷ codes "elif" ∷ codes "else" ∷ codes "except" ∷ codes "finally" ∷ codes "for" ∷ codes "from" ∷ codes "global" ∷ codes "if" ∷ codes "import" ∷ codes "in" ∷ codes "is" ∷ codes "lambda" ∷ codes "nonlocal" ∷ codes "not" ∷ codes "or" ∷ codes "pass" ∷ codes "raise" ∷ codes "return" ∷ codes "try" ∷ codes "while" ∷ codes "with" ∷ codes "yield" ∷ codes "None" ∷ codes "True" ∷ codes "False" ∷ []
-
-unfoldable pub is_keyword : List ℕ → Bool
-is_keyword word = list_any (λ keyword. bytes_eq keyword word) keywords
 
 -- a letter or `_`, and all letters, digits and `_` behind it
 unfoldable pub name_at : List ℕ → Found

@@ -16,12 +16,6 @@ pub fn continues_name(b: u8) -> bool
     begins_name(b) || b.is_ascii_digit()
 }
 
-pub fn is_printable(b: u8) -> bool
-    ensures { result ≡ spec.is_printable b }
-{
-    32 <= b && b <= 126
-}
-
 pub fn is_quote(b: u8) -> bool
     ensures { result ≡ spec.is_quote b }
 {

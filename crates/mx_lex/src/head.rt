@@ -7,12 +7,13 @@ ghost use Rattle.mx_lex.specs.Heads as spec;
 ghost use Rattle.mx_lex.specs.Spans.{span_at};
 ghost use Rattle.std.specs.Char.{is_ascii_digit};
 
-use crate::bytes::{begins_name, is_closing, is_opening, is_printable, is_quote};
+use crate::bytes::{begins_name, is_closing, is_opening, is_quote};
 use crate::line::{Head, Line, Phase};
 use crate::number::number;
 use crate::spans::{Span, mark, name};
 use crate::text::text;
 use crate::{LexRefusal, Token, TokenKind};
+use mx_value::label::is_printable;
 
 pub fn empty_token(kind: TokenKind, at: u32) -> Token
     ensures { result ≡ spec.empty_token kind at }

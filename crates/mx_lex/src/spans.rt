@@ -7,6 +7,7 @@ ghost use Rattle.mx_lex.specs.Spans as spec;
 
 use crate::bytes::{begins_name, continues_name, is_quote};
 use crate::{LexRefusal, TokenKind};
+use mx_value::name::is_keyword;
 
 /// A token's kind, and how many bytes it takes.
 #[derive(Clone, Copy)]
@@ -14,45 +15,6 @@ pub struct Span {
     pub kind: TokenKind,
     pub len: usize,
 }
-
-/// The reserved words of Python 3.
-const KEYWORDS: [&[u8]; 35] = [
-    b"and",
-    b"as",
-    b"assert",
-    b"async",
-    b"await",
-    b"break",
-    b"class",
-    b"continue",
-    b"def",
-    b"del",
-    b"elif",
-    b"else",
-    b"except",
-    b"finally",
-    b"for",
-    b"from",
-    b"global",
-    b"if",
-    b"import",
-    b"in",
-    b"is",
-    b"lambda",
-    b"nonlocal",
-    b"not",
-    b"or",
-    b"pass",
-    b"raise",
-    b"return",
-    b"try",
-    b"while",
-    b"with",
-    b"yield",
-    b"None",
-    b"True",
-    b"False",
-];
 
 const LONG_MARKS: [(u8, u8); 9] = [
     (b'/', b'/'),
@@ -67,13 +29,6 @@ const LONG_MARKS: [(u8, u8); 9] = [
 ];
 
 const SHORT_MARKS: [u8; 17] = *b"+-*/%()[]{},:.=<>";
-
-#[tactic(auto, unfolding(crate::specs::Spans::is_keyword))]
-fn is_keyword(word: &[u8]) -> bool
-    ensures { result ≡ spec.is_keyword word.now }
-{
-    KEYWORDS.contains(&word)
-}
 
 fn name_len(rest: &[u8]) -> usize
     ensures value { result ≡ prefix_len is.continues_name rest.now }

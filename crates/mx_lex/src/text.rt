@@ -3,9 +3,10 @@
 ghost use Rattle.std.specs.Prelude.{◌≡◌, ◌+◌, ◌≤◌, ◌<◌, length, false, IfOk};
 ghost use Rattle.mx_lex.specs.Spans as spec;
 
-use crate::bytes::{is_escaped, is_printable};
+use crate::bytes::is_escaped;
 use crate::spans::Span;
 use crate::{LexRefusal, TokenKind};
+use mx_value::label::is_printable;
 
 /// The place behind the closing quote. The bytes are those behind the opening one, which stands at `at`.
 fn text_end(inner: &[u8], quote: u8, at: u32) -> Result<u32, LexRefusal>

@@ -2,4 +2,5 @@ mod ExprLemmas
 mod HeightLemmas
 mod LineLemmas
 mod StatementLemmas
+mod Walks
 pub mod TextLemmas

@@ -6,8 +6,8 @@ ghost use Rattle.mx_print.specs.Values.{tuple_text};
 ghost use Rattle.mx_print.specs.Expressions as spec;
 ghost use Rattle.mx_print.specs.Expressions.{all_at, at, arm_text, args_text, comparison_text, generator_test_text, power_part_text, printed, product_part_text, sign_byte, sum_part_text, trailer_text};
 
-use crate::append::push;
-use crate::value::push_value;
+use crate::nodes::push_value;
+use crate::sink::{Sink, push};
 use mx_list::shared::Shared;
 use mx_syntax::expr::{
     Args, Arm, CmpOp, Comparison, Expr, PowerPart, ProductOp, ProductPart, Sign, SumOp, SumPart,
@@ -41,8 +41,8 @@ fn level(expr: &Expr) -> u8
 /// Adds an expression where the grammar asks for the rule `least`: in parentheses exactly where its
 /// form belongs to an earlier rule.
 #[cycle(print)]
-pub fn push_at(out: &mut Vec<u8>, least: u8, expr: &Expr) -> Result<(), AllocError>
-    ensures { OnOk result (out.new.items ≡ out.old.items ++ at least (printed expr.now)) }
+pub(crate) fn push_at<S: Sink>(out: &mut S, least: u8, expr: &Expr) -> Result<(), AllocError>
+    ensures { OnOk result (S.written out.new ≡ S.written out.old ++ at least (printed expr.now)) }
 {
     if level(expr) < least {
         push(out, b"(")?;
@@ -54,8 +54,8 @@ pub fn push_at(out: &mut Vec<u8>, least: u8, expr: &Expr) -> Result<(), AllocErr
 }
 
 #[cycle(print)]
-fn push_expr(out: &mut Vec<u8>, expr: &Expr) -> Result<(), AllocError>
-    ensures { OnOk result (out.new.items ≡ out.old.items ++ (printed expr.now).text) }
+fn push_expr<S: Sink>(out: &mut S, expr: &Expr) -> Result<(), AllocError>
+    ensures { OnOk result (S.written out.new ≡ S.written out.old ++ (printed expr.now).text) }
 {
     match expr {
         Expr::Lit(value) => push_value(out, value),
@@ -101,13 +101,13 @@ fn push_expr(out: &mut Vec<u8>, expr: &Expr) -> Result<(), AllocError>
 
 /// Adds expressions with a text between each two.
 #[cycle(print)]
-fn push_separated(
-    out: &mut Vec<u8>,
+fn push_separated<S: Sink>(
+    out: &mut S,
     separator: &[u8],
     least: u8,
     items: &[Expr],
 ) -> Result<(), AllocError>
-    ensures { OnOk result (out.new.items ≡ out.old.items ++ separated separator.now (all_at least (map printed items.now))) }
+    ensures { OnOk result (S.written out.new ≡ S.written out.old ++ separated separator.now (all_at least (map printed items.now))) }
 {
     for (i, item) in items.iter().enumerate() {
         if i > 0 {
@@ -120,8 +120,8 @@ fn push_separated(
 
 /// Adds a tuple. One of a single item has a comma behind it.
 #[cycle(print)]
-fn push_tuple(out: &mut Vec<u8>, items: &[Expr]) -> Result<(), AllocError>
-    ensures { OnOk result (out.new.items ≡ out.old.items ++ tuple_text (all_at 0 (map printed items.now))) }
+fn push_tuple<S: Sink>(out: &mut S, items: &[Expr]) -> Result<(), AllocError>
+    ensures { OnOk result (S.written out.new ≡ S.written out.old ++ tuple_text (all_at 0 (map printed items.now))) }
 {
     push(out, b"(")?;
     push_separated(out, b", ", 0, items)?;
@@ -132,8 +132,8 @@ fn push_tuple(out: &mut Vec<u8>, items: &[Expr]) -> Result<(), AllocError>
 }
 
 #[cycle(print)]
-fn push_arms(out: &mut Vec<u8>, arms: &[Arm]) -> Result<(), AllocError>
-    ensures { OnOk result (out.new.items ≡ out.old.items ++ flat (map arm_text arms.now)) }
+fn push_arms<S: Sink>(out: &mut S, arms: &[Arm]) -> Result<(), AllocError>
+    ensures { OnOk result (S.written out.new ≡ S.written out.old ++ flat (map arm_text arms.now)) }
 {
     for arm in arms {
         push_arm(out, arm)?;
@@ -142,8 +142,8 @@ fn push_arms(out: &mut Vec<u8>, arms: &[Arm]) -> Result<(), AllocError>
 }
 
 #[cycle(print)]
-fn push_arm(out: &mut Vec<u8>, arm: &Arm) -> Result<(), AllocError>
-    ensures { OnOk result (out.new.items ≡ out.old.items ++ arm_text arm.now) }
+fn push_arm<S: Sink>(out: &mut S, arm: &Arm) -> Result<(), AllocError>
+    ensures { OnOk result (S.written out.new ≡ S.written out.old ++ arm_text arm.now) }
 {
     push_at(out, 1, &arm.value)?;
     push(out, b" if ")?;
@@ -151,8 +151,8 @@ fn push_arm(out: &mut Vec<u8>, arm: &Arm) -> Result<(), AllocError>
     push(out, b" else ")
 }
 
-fn push_nots(out: &mut Vec<u8>, count: u32) -> Result<(), AllocError>
-    ensures { OnOk result (out.new.items ≡ out.old.items ++ flat (replicate count (codes "not "))) }
+fn push_nots<S: Sink>(out: &mut S, count: u32) -> Result<(), AllocError>
+    ensures { OnOk result (S.written out.new ≡ S.written out.old ++ flat (replicate count (codes "not "))) }
 {
     for _ in 0..count {
         push(out, b"not ")?;
@@ -176,8 +176,8 @@ fn cmp_text(op: CmpOp) -> &'static [u8]
 }
 
 #[cycle(print)]
-fn push_comparisons(out: &mut Vec<u8>, parts: &[Comparison]) -> Result<(), AllocError>
-    ensures { OnOk result (out.new.items ≡ out.old.items ++ flat (map comparison_text parts.now)) }
+fn push_comparisons<S: Sink>(out: &mut S, parts: &[Comparison]) -> Result<(), AllocError>
+    ensures { OnOk result (S.written out.new ≡ S.written out.old ++ flat (map comparison_text parts.now)) }
 {
     for part in parts {
         push_comparison(out, part)?;
@@ -186,8 +186,8 @@ fn push_comparisons(out: &mut Vec<u8>, parts: &[Comparison]) -> Result<(), Alloc
 }
 
 #[cycle(print)]
-fn push_comparison(out: &mut Vec<u8>, part: &Comparison) -> Result<(), AllocError>
-    ensures { OnOk result (out.new.items ≡ out.old.items ++ comparison_text part.now) }
+fn push_comparison<S: Sink>(out: &mut S, part: &Comparison) -> Result<(), AllocError>
+    ensures { OnOk result (S.written out.new ≡ S.written out.old ++ comparison_text part.now) }
 {
     match part {
         Comparison::Op(op, of) => {
@@ -200,8 +200,8 @@ fn push_comparison(out: &mut Vec<u8>, part: &Comparison) -> Result<(), AllocErro
 }
 
 /// Adds a text with a space on each side.
-fn push_spaced(out: &mut Vec<u8>, text: &[u8]) -> Result<(), AllocError>
-    ensures { OnOk result (out.new.items ≡ out.old.items ++ spec.spaced text.now) }
+fn push_spaced<S: Sink>(out: &mut S, text: &[u8]) -> Result<(), AllocError>
+    ensures { OnOk result (S.written out.new ≡ S.written out.old ++ spec.spaced text.now) }
 {
     push(out, b" ")?;
     push(out, text)?;
@@ -218,8 +218,8 @@ fn sum_text(op: SumOp) -> &'static [u8]
 }
 
 #[cycle(print)]
-fn push_sum_parts(out: &mut Vec<u8>, parts: &[SumPart]) -> Result<(), AllocError>
-    ensures { OnOk result (out.new.items ≡ out.old.items ++ flat (map sum_part_text parts.now)) }
+fn push_sum_parts<S: Sink>(out: &mut S, parts: &[SumPart]) -> Result<(), AllocError>
+    ensures { OnOk result (S.written out.new ≡ S.written out.old ++ flat (map sum_part_text parts.now)) }
 {
     for part in parts {
         push_sum_part(out, part)?;
@@ -228,8 +228,8 @@ fn push_sum_parts(out: &mut Vec<u8>, parts: &[SumPart]) -> Result<(), AllocError
 }
 
 #[cycle(print)]
-fn push_sum_part(out: &mut Vec<u8>, part: &SumPart) -> Result<(), AllocError>
-    ensures { OnOk result (out.new.items ≡ out.old.items ++ sum_part_text part.now) }
+fn push_sum_part<S: Sink>(out: &mut S, part: &SumPart) -> Result<(), AllocError>
+    ensures { OnOk result (S.written out.new ≡ S.written out.old ++ sum_part_text part.now) }
 {
     push_spaced(out, sum_text(part.op))?;
     push_at(out, 6, &part.of)
@@ -247,8 +247,8 @@ fn product_text(op: ProductOp) -> &'static [u8]
 }
 
 #[cycle(print)]
-fn push_product_parts(out: &mut Vec<u8>, parts: &[ProductPart]) -> Result<(), AllocError>
-    ensures { OnOk result (out.new.items ≡ out.old.items ++ flat (map product_part_text parts.now)) }
+fn push_product_parts<S: Sink>(out: &mut S, parts: &[ProductPart]) -> Result<(), AllocError>
+    ensures { OnOk result (S.written out.new ≡ S.written out.old ++ flat (map product_part_text parts.now)) }
 {
     for part in parts {
         push_product_part(out, part)?;
@@ -257,8 +257,8 @@ fn push_product_parts(out: &mut Vec<u8>, parts: &[ProductPart]) -> Result<(), Al
 }
 
 #[cycle(print)]
-fn push_product_part(out: &mut Vec<u8>, part: &ProductPart) -> Result<(), AllocError>
-    ensures { OnOk result (out.new.items ≡ out.old.items ++ product_part_text part.now) }
+fn push_product_part<S: Sink>(out: &mut S, part: &ProductPart) -> Result<(), AllocError>
+    ensures { OnOk result (S.written out.new ≡ S.written out.old ++ product_part_text part.now) }
 {
     push_spaced(out, product_text(part.op))?;
     push_at(out, 7, &part.of)
@@ -274,18 +274,18 @@ fn sign_byte(sign: Sign) -> u8
 }
 
 /// Adds signs, which stand directly before their operand.
-fn push_signs(out: &mut Vec<u8>, signs: &[Sign]) -> Result<(), AllocError>
-    ensures { OnOk result (out.new.items ≡ out.old.items ++ map sign_byte signs.now) }
+fn push_signs<S: Sink>(out: &mut S, signs: &[Sign]) -> Result<(), AllocError>
+    ensures { OnOk result (S.written out.new ≡ S.written out.old ++ map sign_byte signs.now) }
 {
     for sign in signs {
-        out.push(sign_byte(*sign))?;
+        push(out, &[sign_byte(*sign)])?;
     }
     Ok(())
 }
 
 #[cycle(print)]
-fn push_power_parts(out: &mut Vec<u8>, parts: &[PowerPart]) -> Result<(), AllocError>
-    ensures { OnOk result (out.new.items ≡ out.old.items ++ flat (map power_part_text parts.now)) }
+fn push_power_parts<S: Sink>(out: &mut S, parts: &[PowerPart]) -> Result<(), AllocError>
+    ensures { OnOk result (S.written out.new ≡ S.written out.old ++ flat (map power_part_text parts.now)) }
 {
     for part in parts {
         push_power_part(out, part)?;
@@ -294,8 +294,8 @@ fn push_power_parts(out: &mut Vec<u8>, parts: &[PowerPart]) -> Result<(), AllocE
 }
 
 #[cycle(print)]
-fn push_power_part(out: &mut Vec<u8>, part: &PowerPart) -> Result<(), AllocError>
-    ensures { OnOk result (out.new.items ≡ out.old.items ++ power_part_text part.now) }
+fn push_power_part<S: Sink>(out: &mut S, part: &PowerPart) -> Result<(), AllocError>
+    ensures { OnOk result (S.written out.new ≡ S.written out.old ++ power_part_text part.now) }
 {
     push(out, b" ** ")?;
     push_signs(out, part.signs.as_slice())?;
@@ -303,8 +303,8 @@ fn push_power_part(out: &mut Vec<u8>, part: &PowerPart) -> Result<(), AllocError
 }
 
 /// Adds a space between a number and the dot of an attribute.
-fn push_gap(out: &mut Vec<u8>, of: &Expr, trailers: &[Trailer]) -> Result<(), AllocError>
-    ensures { OnOk result (out.new.items ≡ out.old.items ++ spec.gap (printed of.now) (map trailer_text trailers.now)) }
+fn push_gap<S: Sink>(out: &mut S, of: &Expr, trailers: &[Trailer]) -> Result<(), AllocError>
+    ensures { OnOk result (S.written out.new ≡ S.written out.old ++ spec.gap (printed of.now) (map trailer_text trailers.now)) }
 {
     if !is_number(of) {
         return Ok(());
@@ -335,8 +335,8 @@ fn begins_with_dot(trailers: &[Trailer]) -> bool
 }
 
 #[cycle(print)]
-fn push_trailers(out: &mut Vec<u8>, trailers: &[Trailer]) -> Result<(), AllocError>
-    ensures { OnOk result (out.new.items ≡ out.old.items ++ flat (map trailer_text trailers.now)) }
+fn push_trailers<S: Sink>(out: &mut S, trailers: &[Trailer]) -> Result<(), AllocError>
+    ensures { OnOk result (S.written out.new ≡ S.written out.old ++ flat (map trailer_text trailers.now)) }
 {
     for trailer in trailers {
         push_trailer(out, trailer)?;
@@ -345,8 +345,8 @@ fn push_trailers(out: &mut Vec<u8>, trailers: &[Trailer]) -> Result<(), AllocErr
 }
 
 #[cycle(print)]
-fn push_trailer(out: &mut Vec<u8>, trailer: &Trailer) -> Result<(), AllocError>
-    ensures { OnOk result (out.new.items ≡ out.old.items ++ trailer_text trailer.now) }
+fn push_trailer<S: Sink>(out: &mut S, trailer: &Trailer) -> Result<(), AllocError>
+    ensures { OnOk result (S.written out.new ≡ S.written out.old ++ trailer_text trailer.now) }
 {
     match trailer {
         Trailer::Call(args) => {
@@ -367,8 +367,8 @@ fn push_trailer(out: &mut Vec<u8>, trailer: &Trailer) -> Result<(), AllocError>
 }
 
 #[cycle(print)]
-fn push_args(out: &mut Vec<u8>, args: &Args) -> Result<(), AllocError>
-    ensures { OnOk result (out.new.items ≡ out.old.items ++ args_text args.now) }
+fn push_args<S: Sink>(out: &mut S, args: &Args) -> Result<(), AllocError>
+    ensures { OnOk result (S.written out.new ≡ S.written out.old ++ args_text args.now) }
 {
     match args {
         Args::List(items) => push_separated(out, b", ", 0, items.as_slice()),
@@ -390,8 +390,8 @@ fn push_args(out: &mut Vec<u8>, args: &Args) -> Result<(), AllocError>
 
 /// Adds the test of a generator, where it has one.
 #[cycle(print)]
-fn push_test(out: &mut Vec<u8>, test: &Option<Shared<Expr>>) -> Result<(), AllocError>
-    ensures { OnOk result (out.new.items ≡ out.old.items ++ generator_test_text test.now) }
+fn push_test<S: Sink>(out: &mut S, test: &Option<Shared<Expr>>) -> Result<(), AllocError>
+    ensures { OnOk result (S.written out.new ≡ S.written out.old ++ generator_test_text test.now) }
 {
     match test {
         Some(test) => {

@@ -1,13 +1,15 @@
 //! The one text of a formula and of a parameter list.
-ghost use Rattle.std.specs.Prelude.{◌≡◌, ◌++◌, ◌∷◌, [], Option, map, IfOk, OnOk};
+ghost use Rattle.std.specs.Prelude.{◌≡◌, ◌++◌, ◌∷◌, [], Option, length, map, IfOk, OnOk};
+ghost use Rattle.mx_print.specs.Sizes.{openings};
 ghost use Rattle.mx_print.specs.Texts.{Text, commas};
 ghost use Rattle.mx_print.specs.Statements as spec;
 ghost use Rattle.mx_print.specs.Statements.{formula_lines, lines_text, one_line, param_text, params_text, returned};
 
-use crate::append::push;
+use crate::count::Count;
 use crate::expr::push_at;
+use crate::nodes::push_value;
+use crate::sink::{Sink, push};
 use crate::statement::{push_block, push_display};
-use crate::value::push_value;
 use mx_syntax::expr::Expr;
 use mx_syntax::stmt::{Formula, ItemEntry, Param, Params, Stmt};
 use std::alloc::{AllocError, Global};
@@ -27,18 +29,45 @@ pub fn print_params(alloc: Global, params: &Params) -> Result<Vec<u8>, AllocErro
     ensures { IfOk result (λ text. text.items ≡ spec.print_params params.now) }
 {
     let mut out = Vec::new(alloc);
-    match &params.body {
-        Some(body) => push_formula(&mut out, params.params.as_slice(), body.as_slice())?,
-        None => {
-            push_params(&mut out, params.params.as_slice())?;
-            push(&mut out, b"\n")?;
-        }
-    }
+    push_all(&mut out, params)?;
     Ok(out)
 }
 
-fn push_formula(out: &mut Vec<u8>, params: &[Param], body: &[Stmt]) -> Result<(), AllocError>
-    ensures { OnOk result (out.new.items ≡ out.old.items ++ lines_text 0 (formula_lines params.now body.now)) }
+/// How long the text of a formula is, and how many brackets and indents it may open, without
+/// memory for it.
+pub fn size(formula: &Formula) -> Result<Count, AllocError>
+    ensures len { IfOk result (λ count. count.len ≡ length (spec.print formula.now)) }
+    ensures opened { IfOk result (λ count. count.openings ≡ openings (spec.print formula.now)) }
+{
+    let mut out = Count::none();
+    push_formula(&mut out, formula.params.as_slice(), formula.body.as_slice())?;
+    Ok(out)
+}
+
+/// The same of a parameter list.
+pub fn params_size(params: &Params) -> Result<Count, AllocError>
+    ensures len { IfOk result (λ count. count.len ≡ length (spec.print_params params.now)) }
+    ensures opened { IfOk result (λ count. count.openings ≡ openings (spec.print_params params.now)) }
+{
+    let mut out = Count::none();
+    push_all(&mut out, params)?;
+    Ok(out)
+}
+
+fn push_all<S: Sink>(out: &mut S, params: &Params) -> Result<(), AllocError>
+    ensures { OnOk result (S.written out.new ≡ S.written out.old ++ spec.print_params params.now) }
+{
+    match &params.body {
+        Some(body) => push_formula(out, params.params.as_slice(), body.as_slice()),
+        None => {
+            push_params(out, params.params.as_slice())?;
+            push(out, b"\n")
+        }
+    }
+}
+
+fn push_formula<S: Sink>(out: &mut S, params: &[Param], body: &[Stmt]) -> Result<(), AllocError>
+    ensures { OnOk result (S.written out.new ≡ S.written out.old ++ lines_text 0 (formula_lines params.now body.now)) }
 {
     push_params(out, params)?;
     match body {
@@ -52,8 +81,8 @@ fn push_formula(out: &mut Vec<u8>, params: &[Param], body: &[Stmt]) -> Result<()
 }
 
 /// Adds the rest of the one line of a formula that only returns an expression.
-fn push_value_line(out: &mut Vec<u8>, value: &Expr) -> Result<(), AllocError>
-    ensures { OnOk result (out.new.items ≡ out.old.items ++ spec.rest_of_line (spec.whole value.now)) }
+fn push_value_line<S: Sink>(out: &mut S, value: &Expr) -> Result<(), AllocError>
+    ensures { OnOk result (S.written out.new ≡ S.written out.old ++ spec.rest_of_line (spec.whole value.now)) }
 {
     push(out, b" = ")?;
     push_at(out, 0, value)?;
@@ -61,24 +90,24 @@ fn push_value_line(out: &mut Vec<u8>, value: &Expr) -> Result<(), AllocError>
 }
 
 /// Adds the rest of the one line of a formula that only returns a display.
-fn push_display_line(out: &mut Vec<u8>, entries: &[ItemEntry]) -> Result<(), AllocError>
-    ensures { OnOk result (out.new.items ≡ out.old.items ++ spec.rest_of_line (spec.display_text entries.now)) }
+fn push_display_line<S: Sink>(out: &mut S, entries: &[ItemEntry]) -> Result<(), AllocError>
+    ensures { OnOk result (S.written out.new ≡ S.written out.old ++ spec.rest_of_line (spec.display_text entries.now)) }
 {
     push(out, b" = ")?;
     push_display(out, entries)?;
     push(out, b"\n")
 }
 
-fn push_params(out: &mut Vec<u8>, params: &[Param]) -> Result<(), AllocError>
-    ensures { OnOk result (out.new.items ≡ out.old.items ++ params_text params.now) }
+fn push_params<S: Sink>(out: &mut S, params: &[Param]) -> Result<(), AllocError>
+    ensures { OnOk result (S.written out.new ≡ S.written out.old ++ params_text params.now) }
 {
     push(out, b"(")?;
     push_commas(out, params)?;
     push(out, b")")
 }
 
-fn push_commas(out: &mut Vec<u8>, params: &[Param]) -> Result<(), AllocError>
-    ensures { OnOk result (out.new.items ≡ out.old.items ++ commas (map param_text params.now)) }
+fn push_commas<S: Sink>(out: &mut S, params: &[Param]) -> Result<(), AllocError>
+    ensures { OnOk result (S.written out.new ≡ S.written out.old ++ commas (map param_text params.now)) }
 {
     for (i, param) in params.iter().enumerate() {
         if i > 0 {
@@ -89,8 +118,8 @@ fn push_commas(out: &mut Vec<u8>, params: &[Param]) -> Result<(), AllocError>
     Ok(())
 }
 
-fn push_param(out: &mut Vec<u8>, param: &Param) -> Result<(), AllocError>
-    ensures { OnOk result (out.new.items ≡ out.old.items ++ param_text param.now) }
+fn push_param<S: Sink>(out: &mut S, param: &Param) -> Result<(), AllocError>
+    ensures { OnOk result (S.written out.new ≡ S.written out.old ++ param_text param.now) }
 {
     push(out, param.name.as_slice())?;
     match &param.default {

@@ -5,25 +5,25 @@ ghost use Rattle.mx_print.specs.Texts.{commas};
 ghost use Rattle.mx_print.specs.Statements as spec;
 ghost use Rattle.mx_print.specs.Statements.{arm_lines, block, body_lines, display_text, entry_text, front, if_lines, line_text, lines_text, margin, ref_text, return_text, stmt_lines};
 
-use crate::append::push;
 use crate::expr::push_at;
-use crate::value::push_quoted;
+use crate::nodes::push_quoted;
+use crate::sink::{Sink, push};
 use mx_syntax::expr::Expr;
 use mx_syntax::stmt::{ArithOp, IfArm, ItemEntry, Stmt};
 use mx_value::label::Label;
 use std::alloc::AllocError;
 
 /// Adds the display of an item.
-pub fn push_display(out: &mut Vec<u8>, entries: &[ItemEntry]) -> Result<(), AllocError>
-    ensures { OnOk result (out.new.items ≡ out.old.items ++ display_text entries.now) }
+pub(crate) fn push_display<S: Sink>(out: &mut S, entries: &[ItemEntry]) -> Result<(), AllocError>
+    ensures { OnOk result (S.written out.new ≡ S.written out.old ++ display_text entries.now) }
 {
     push(out, b"{")?;
     push_entries(out, entries)?;
     push(out, b"}")
 }
 
-fn push_entries(out: &mut Vec<u8>, entries: &[ItemEntry]) -> Result<(), AllocError>
-    ensures { OnOk result (out.new.items ≡ out.old.items ++ commas (map entry_text entries.now)) }
+fn push_entries<S: Sink>(out: &mut S, entries: &[ItemEntry]) -> Result<(), AllocError>
+    ensures { OnOk result (S.written out.new ≡ S.written out.old ++ commas (map entry_text entries.now)) }
 {
     for (i, entry) in entries.iter().enumerate() {
         if i > 0 {
@@ -34,8 +34,8 @@ fn push_entries(out: &mut Vec<u8>, entries: &[ItemEntry]) -> Result<(), AllocErr
     Ok(())
 }
 
-fn push_entry(out: &mut Vec<u8>, entry: &ItemEntry) -> Result<(), AllocError>
-    ensures { OnOk result (out.new.items ≡ out.old.items ++ entry_text entry.now) }
+fn push_entry<S: Sink>(out: &mut S, entry: &ItemEntry) -> Result<(), AllocError>
+    ensures { OnOk result (S.written out.new ≡ S.written out.old ++ entry_text entry.now) }
 {
     match entry {
         ItemEntry::Refs(refs) => {
@@ -50,8 +50,8 @@ fn push_entry(out: &mut Vec<u8>, entry: &ItemEntry) -> Result<(), AllocError>
     }
 }
 
-fn push_refs(out: &mut Vec<u8>, refs: &[(Label, Expr)]) -> Result<(), AllocError>
-    ensures { OnOk result (out.new.items ≡ out.old.items ++ commas (map ref_text refs.now)) }
+fn push_refs<S: Sink>(out: &mut S, refs: &[(Label, Expr)]) -> Result<(), AllocError>
+    ensures { OnOk result (S.written out.new ≡ S.written out.old ++ commas (map ref_text refs.now)) }
 {
     for (i, reference) in refs.iter().enumerate() {
         if i > 0 {
@@ -62,8 +62,8 @@ fn push_refs(out: &mut Vec<u8>, refs: &[(Label, Expr)]) -> Result<(), AllocError
     Ok(())
 }
 
-fn push_ref(out: &mut Vec<u8>, reference: &(Label, Expr)) -> Result<(), AllocError>
-    ensures { OnOk result (out.new.items ≡ out.old.items ++ ref_text reference.now) }
+fn push_ref<S: Sink>(out: &mut S, reference: &(Label, Expr)) -> Result<(), AllocError>
+    ensures { OnOk result (S.written out.new ≡ S.written out.old ++ ref_text reference.now) }
 {
     push_quoted(out, reference.0.as_slice())?;
     push(out, b": ")?;
@@ -71,8 +71,8 @@ fn push_ref(out: &mut Vec<u8>, reference: &(Label, Expr)) -> Result<(), AllocErr
 }
 
 /// Adds four spaces for each level.
-fn push_margin(out: &mut Vec<u8>, depth: usize) -> Result<(), AllocError>
-    ensures { OnOk result (out.new.items ≡ out.old.items ++ margin depth) }
+fn push_margin<S: Sink>(out: &mut S, depth: usize) -> Result<(), AllocError>
+    ensures { OnOk result (S.written out.new ≡ S.written out.old ++ margin depth) }
 {
     for _ in 0..depth {
         push(out, b"    ")?;
@@ -81,16 +81,16 @@ fn push_margin(out: &mut Vec<u8>, depth: usize) -> Result<(), AllocError>
 }
 
 /// Adds a line.
-fn push_line(out: &mut Vec<u8>, depth: usize, line: &[u8]) -> Result<(), AllocError>
-    ensures { OnOk result (out.new.items ≡ out.old.items ++ line_text depth line.now) }
+fn push_line<S: Sink>(out: &mut S, depth: usize, line: &[u8]) -> Result<(), AllocError>
+    ensures { OnOk result (S.written out.new ≡ S.written out.old ++ line_text depth line.now) }
 {
     push_margin(out, depth)?;
     push(out, line)?;
     push(out, b"\n")
 }
 
-fn push_return(out: &mut Vec<u8>, depth: usize, value: &Option<Expr>) -> Result<(), AllocError>
-    ensures { OnOk result (out.new.items ≡ out.old.items ++ line_text depth (return_text value.now)) }
+fn push_return<S: Sink>(out: &mut S, depth: usize, value: &Option<Expr>) -> Result<(), AllocError>
+    ensures { OnOk result (S.written out.new ≡ S.written out.old ++ line_text depth (return_text value.now)) }
 {
     match value {
         None => push_line(out, depth, b"return"),
@@ -113,12 +113,12 @@ fn arith_text(op: ArithOp) -> &'static [u8]
     }
 }
 
-fn push_return_item(
-    out: &mut Vec<u8>,
+fn push_return_item<S: Sink>(
+    out: &mut S,
     depth: usize,
     entries: &[ItemEntry],
 ) -> Result<(), AllocError>
-    ensures { OnOk result (out.new.items ≡ out.old.items ++ line_text depth (codes "return " ++ display_text entries.now)) }
+    ensures { OnOk result (S.written out.new ≡ S.written out.old ++ line_text depth (codes "return " ++ display_text entries.now)) }
 {
     push_margin(out, depth)?;
     push(out, b"return ")?;
@@ -126,13 +126,13 @@ fn push_return_item(
     push(out, b"\n")
 }
 
-fn push_assign(
-    out: &mut Vec<u8>,
+fn push_assign<S: Sink>(
+    out: &mut S,
     depth: usize,
     name: &Label,
     value: &Expr,
 ) -> Result<(), AllocError>
-    ensures { OnOk result (out.new.items ≡ out.old.items ++ line_text depth (spec.assign_text name.now value.now)) }
+    ensures { OnOk result (S.written out.new ≡ S.written out.old ++ line_text depth (spec.assign_text name.now value.now)) }
 {
     push_margin(out, depth)?;
     push(out, name.as_slice())?;
@@ -141,14 +141,14 @@ fn push_assign(
     push(out, b"\n")
 }
 
-fn push_change(
-    out: &mut Vec<u8>,
+fn push_change<S: Sink>(
+    out: &mut S,
     depth: usize,
     name: &Label,
     op: ArithOp,
     value: &Expr,
 ) -> Result<(), AllocError>
-    ensures { OnOk result (out.new.items ≡ out.old.items ++ line_text depth (spec.change_text name.now op value.now)) }
+    ensures { OnOk result (S.written out.new ≡ S.written out.old ++ line_text depth (spec.change_text name.now op value.now)) }
 {
     push_margin(out, depth)?;
     push(out, name.as_slice())?;
@@ -158,8 +158,8 @@ fn push_change(
 }
 
 /// Adds the first line of a `for`.
-fn push_for(out: &mut Vec<u8>, depth: usize, name: &Label, over: &Expr) -> Result<(), AllocError>
-    ensures { OnOk result (out.new.items ≡ out.old.items ++ line_text depth (spec.for_text name.now over.now)) }
+fn push_for<S: Sink>(out: &mut S, depth: usize, name: &Label, over: &Expr) -> Result<(), AllocError>
+    ensures { OnOk result (S.written out.new ≡ S.written out.old ++ line_text depth (spec.for_text name.now over.now)) }
 {
     push_margin(out, depth)?;
     push(out, b"for ")?;
@@ -172,8 +172,8 @@ fn push_for(out: &mut Vec<u8>, depth: usize, name: &Label, over: &Expr) -> Resul
 
 /// Adds the lines of a statement that stands so many levels in.
 #[cycle(statements)]
-fn push_stmt(out: &mut Vec<u8>, depth: usize, stmt: &Stmt) -> Result<(), AllocError>
-    ensures { OnOk result (out.new.items ≡ out.old.items ++ lines_text depth (stmt_lines stmt.now)) }
+fn push_stmt<S: Sink>(out: &mut S, depth: usize, stmt: &Stmt) -> Result<(), AllocError>
+    ensures { OnOk result (S.written out.new ≡ S.written out.old ++ lines_text depth (stmt_lines stmt.now)) }
 {
     match stmt {
         Stmt::Pass => push_line(out, depth, b"pass"),
@@ -197,8 +197,8 @@ fn push_stmt(out: &mut Vec<u8>, depth: usize, stmt: &Stmt) -> Result<(), AllocEr
 
 /// Adds the statements of a body that stands so many levels in.
 #[cycle(statements)]
-fn push_body(out: &mut Vec<u8>, depth: usize, body: &[Stmt]) -> Result<(), AllocError>
-    ensures { OnOk result (out.new.items ≡ out.old.items ++ lines_text depth (body_lines body.now)) }
+fn push_body<S: Sink>(out: &mut S, depth: usize, body: &[Stmt]) -> Result<(), AllocError>
+    ensures { OnOk result (S.written out.new ≡ S.written out.old ++ lines_text depth (body_lines body.now)) }
 {
     for stmt in body {
         push_stmt(out, depth, stmt)?;
@@ -209,8 +209,12 @@ fn push_body(out: &mut Vec<u8>, depth: usize, body: &[Stmt]) -> Result<(), Alloc
 /// Adds the statements of a body one level further in. More levels than a usize counts have no
 /// room in memory.
 #[cycle(statements)]
-pub fn push_block(out: &mut Vec<u8>, depth: usize, body: &[Stmt]) -> Result<(), AllocError>
-    ensures { OnOk result (out.new.items ≡ out.old.items ++ lines_text depth (block (map stmt_lines body.now))) }
+pub(crate) fn push_block<S: Sink>(
+    out: &mut S,
+    depth: usize,
+    body: &[Stmt],
+) -> Result<(), AllocError>
+    ensures { OnOk result (S.written out.new ≡ S.written out.old ++ lines_text depth (block (map stmt_lines body.now))) }
 {
     let Some(deeper) = depth.checked_add(1) else {
         return Err(AllocError);
@@ -220,8 +224,8 @@ pub fn push_block(out: &mut Vec<u8>, depth: usize, body: &[Stmt]) -> Result<(), 
 
 /// Adds the arms of an `if`.
 #[cycle(statements)]
-fn push_arms(out: &mut Vec<u8>, depth: usize, arms: &[IfArm]) -> Result<(), AllocError>
-    ensures { OnOk result (out.new.items ≡ out.old.items ++ lines_text depth (if_lines (map arm_lines arms.now))) }
+fn push_arms<S: Sink>(out: &mut S, depth: usize, arms: &[IfArm]) -> Result<(), AllocError>
+    ensures { OnOk result (S.written out.new ≡ S.written out.old ++ lines_text depth (if_lines (map arm_lines arms.now))) }
 {
     for (i, arm) in arms.iter().enumerate() {
         push_arm(out, depth, i == 0, arm)?;
@@ -230,8 +234,8 @@ fn push_arms(out: &mut Vec<u8>, depth: usize, arms: &[IfArm]) -> Result<(), Allo
 }
 
 #[cycle(statements)]
-fn push_arm(out: &mut Vec<u8>, depth: usize, first: bool, arm: &IfArm) -> Result<(), AllocError>
-    ensures { OnOk result (out.new.items ≡ out.old.items ++ lines_text depth (front (spec.arm_word first) (arm_lines arm.now))) }
+fn push_arm<S: Sink>(out: &mut S, depth: usize, first: bool, arm: &IfArm) -> Result<(), AllocError>
+    ensures { OnOk result (S.written out.new ≡ S.written out.old ++ lines_text depth (front (spec.arm_word first) (arm_lines arm.now))) }
 {
     push_margin(out, depth)?;
     push(out, arm_word(first))?;
@@ -248,8 +252,8 @@ fn arm_word(first: bool) -> &'static [u8]
 
 /// Adds the `else` of an `if`.
 #[cycle(statements)]
-fn push_else(out: &mut Vec<u8>, depth: usize, body: &[Stmt]) -> Result<(), AllocError>
-    ensures { OnOk result (out.new.items ≡ out.old.items ++ lines_text depth (codes "else:" ∷ block (map stmt_lines body.now))) }
+fn push_else<S: Sink>(out: &mut S, depth: usize, body: &[Stmt]) -> Result<(), AllocError>
+    ensures { OnOk result (S.written out.new ≡ S.written out.old ++ lines_text depth (codes "else:" ∷ block (map stmt_lines body.now))) }
 {
     push_line(out, depth, b"else:")?;
     push_block(out, depth, body)

@@ -2,6 +2,7 @@ pub mod Bytes
 pub mod DecimalLaws
 pub mod Enums
 pub mod FixedLaws
+pub mod Keywords
 pub mod NodeSames
 pub mod Normals
 pub mod PowerLaws

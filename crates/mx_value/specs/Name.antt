@@ -21,7 +21,7 @@ keywords =
     codes "lambda" ∷ codes "nonlocal" ∷ codes "not" ∷ codes "or" ∷ codes "pass" ∷ codes "raise" ∷ codes "return" ∷
     codes "try" ∷ codes "while" ∷ codes "with" ∷ codes "yield" ∷ codes "None" ∷ codes "True" ∷ codes "False" ∷ []
 
-abbrev pub is_keyword : List ℕ → Bool
+unfoldable pub is_keyword : List ℕ → Bool
 is_keyword bytes = list_any (same_name bytes) keywords
 
 -- a letter, a digit or `_`

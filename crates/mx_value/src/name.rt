@@ -1,8 +1,7 @@
 //! Which labels are names.
-ghost use Rattle.std.specs.Prelude.{◌≡◌, ◌==◌};
+ghost use Rattle.std.specs.Prelude.{◌≡◌};
 ghost use Rattle.std.specs.List.{list_all, list_any};
-ghost use Rattle.std.specs.Cmp.Lexicographic.{pointwise};
-ghost use Rattle.mx_value.specs.Name.{is_keyword, is_name, is_name_byte, is_spelled};
+ghost use Rattle.mx_value.specs.Name.{is_keyword, is_name, is_name_byte, is_spelled, same_name};
 
 use crate::label::Label;
 
@@ -42,24 +41,43 @@ pub fn is_name_byte(byte: u8) -> bool
     byte.is_ascii_alphanumeric() || byte == b'_'
 }
 
-/// Python's keywords, those that no formula uses among them.
-const KEYWORDS: [&str; 35] = [
-    "and", "as", "assert", "async", "await", "break", "class", "continue", "def", "del", "elif",
-    "else", "except", "finally", "for", "from", "global", "if", "import", "in", "is", "lambda",
-    "nonlocal", "not", "or", "pass", "raise", "return", "try", "while", "with", "yield", "None",
-    "True", "False",
+/// Python's keywords by their lengths.
+const TWO: [&str; 5] = ["as", "if", "in", "is", "or"];
+
+const THREE: [&str; 6] = ["and", "def", "del", "for", "not", "try"];
+
+const FOUR: [&str; 7] = ["elif", "else", "from", "pass", "with", "None", "True"];
+
+const FIVE: [&str; 8] = [
+    "async", "await", "break", "class", "raise", "while", "yield", "False",
 ];
 
-/// Whether the bytes are one of Python's keywords, those that no formula uses among them.
+const SIX: [&str; 6] = ["assert", "except", "global", "import", "lambda", "return"];
+
+const SEVEN: [&str; 1] = ["finally"];
+
+const EIGHT: [&str; 2] = ["continue", "nonlocal"];
+
+/// Whether the bytes are one of Python's keywords, those that no formula uses among them. Only
+/// those of the same length are compared.
 pub fn is_keyword(bytes: &[u8]) -> bool
     ensures { result ≡ is_keyword bytes.now }
 {
-    is_among(&KEYWORDS, bytes)
+    match bytes.len() {
+        2 => is_among(&TWO, bytes),
+        3 => is_among(&THREE, bytes),
+        4 => is_among(&FOUR, bytes),
+        5 => is_among(&FIVE, bytes),
+        6 => is_among(&SIX, bytes),
+        7 => is_among(&SEVEN, bytes),
+        8 => is_among(&EIGHT, bytes),
+        _ => false,
+    }
 }
 
 /// Whether the bytes are those of one of the words.
 fn is_among(words: &[&str], bytes: &[u8]) -> bool
-    ensures { result ≡ list_any (λ word. pointwise ◌==◌ bytes.now word.now) words.now }
+    ensures { result ≡ list_any (λ word. same_name bytes.now word.now) words.now }
 {
     words.iter().any(|word| bytes == word.as_bytes())
 }

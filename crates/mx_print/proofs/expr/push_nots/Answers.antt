@@ -3,4 +3,4 @@ use Rattle.mx_print.proofs.ExprLemmas.{again_more}
 use Rattle.mx_print.proofs.expr.push_nots.Goals as goal
 
 pub loop-preserved : goal.loop-preserved
-loop-preserved c = rw (c.in_ok-push.ensures, c.loop.invariant) (again_more c.args.out.now.items c.loop.counter (codes "not "))
+loop-preserved g c = rw (c.in_ok-push.ensures, c.loop.invariant) (again_more (g.S.Sink.written c.args.out.now) c.loop.counter (codes "not "))

@@ -6,11 +6,11 @@ use Rattle.mx_print.proofs.formula.push_commas.Goals as goal
 use Rattle.mx_print.proofs.formula.push_commas.Goals.{then-i-gt0+in_ok-push, else-i-gt0}
 
 pub loop-i-preserved : goal.loop-i-preserved
-loop-i-preserved c = elim c.if-i-gt0.branch [
+loop-i-preserved g c = elim c.if-i-gt0.branch [
   | then-i-gt0+in_ok-push w ↦ rw (c.in_ok-push_param.ensures, w.out-is, w.in_ok-push.ensures, c.loop-i.invariant)
-      (separated_more param_text (codes ", ") c.args.out.now.items c.args.params.now c.loop-i.i c.index-params-i.result w.if-i-gt0.true c.loop-i-test.true c.index-params-i.is)
+      (separated_more param_text (codes ", ") (g.S.Sink.written c.args.out.now) c.args.params.now c.loop-i.i c.index-params-i.result w.if-i-gt0.true c.loop-i-test.true c.index-params-i.is)
   | else-i-gt0 w ↦
       let none : c.loop-i.i ≡ 0 = omega (arith, w.if-i-gt0.false) in
       rw (c.in_ok-push_param.ensures, w.out-is, c.loop-i.invariant)
-      (separated_first param_text (codes ", ") c.args.out.now.items c.args.params.now c.loop-i.i c.index-params-i.result none c.loop-i-test.true c.index-params-i.is)
+      (separated_first param_text (codes ", ") (g.S.Sink.written c.args.out.now) c.args.params.now c.loop-i.i c.index-params-i.result none c.loop-i-test.true c.index-params-i.is)
 ]

@@ -4,4 +4,4 @@ use Rattle.mx_print.specs.Statements.{param_text}
 use Rattle.mx_print.proofs.formula.push_commas.Given as goal
 
 abbrev pub invariant-loop-i : goal.invariant-loop-i
-invariant-loop-i l = l.out.items ≡ l.fn.out.items ++ commas (map param_text (take l.i l.params))
+invariant-loop-i g l = g.S.Sink.written l.out ≡ g.S.Sink.written l.fn.out ++ commas (map param_text (take l.i l.params))

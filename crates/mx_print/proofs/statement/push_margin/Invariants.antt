@@ -3,4 +3,4 @@ use Rattle.mx_print.specs.Statements.{margin}
 use Rattle.mx_print.proofs.statement.push_margin.Given as goal
 
 abbrev pub invariant-loop : goal.invariant-loop
-invariant-loop l = l.out.items ≡ l.fn.out.items ++ margin l.counter
+invariant-loop g l = g.S.Sink.written l.out ≡ g.S.Sink.written l.fn.out ++ margin l.counter
