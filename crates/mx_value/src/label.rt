@@ -1,5 +1,6 @@
 //! Labels: names and texts.
-ghost use Rattle.std.specs.Prelude.{◌≡◌, ◌↔◌, [], All, length, IfOk, IsErrOf, IsOkUnless, MatchOption, IsTrue};
+ghost use Rattle.std.specs.Prelude.{◌≡◌, ◌==◌, ◌↔◌, [], All, length, IfOk, IsErrOf, IsOkUnless, MatchOption, IsTrue};
+ghost use Rattle.std.specs.Cmp.Lexicographic.{pointwise};
 ghost use Rattle.mx_value.specs.Label.{IsPrintable, first_unprintable, is_printable};
 ghost use Rattle.mx_value.specs.declared.label.LabelRefusal.TheVariants.{NoMemory};
 
@@ -62,8 +63,23 @@ impl PartialEq for Label {
     ghost laws = { Prim.search (comparing, rules) };
 
     fn eq(&self, other: &Self) -> bool {
-        self.bytes.as_slice() == other.bytes.as_slice()
+        same_bytes(self.bytes.as_slice(), other.bytes.as_slice())
     }
+}
+
+/// Whether bytes are the same. They are compared one by one, since names are short.
+fn same_bytes(a: &[u8], b: &[u8]) -> bool
+    ensures { result ≡ pointwise ◌==◌ a.now b.now }
+{
+    if a.len() != b.len() {
+        return false;
+    }
+    for at in 0..a.len() {
+        if a[at] != b[at] {
+            return false;
+        }
+    }
+    true
 }
 
 impl Eq for Label {
