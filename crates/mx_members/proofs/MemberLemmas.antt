@@ -48,8 +48,11 @@ module _ {K : Type 0} (test : K → Bool) where
   place_from i [] = refl
   place_from i (k ∷ ks) = from_by (test k) i (position_from test (i + 1) ks) (place test ks) (place_from (i + 1) ks)
 
+  pub place_from_zero : (ks : List K) → position_from test 0 ks ≡ place test ks
+  place_from_zero ks = place_from 0 ks ∙ map_zero (place test ks)
+
   pub place_is : (ks : List K) → position test ks ≡ place test ks
-  place_is ks = position_from-zero test ks ∙ place_from 0 ks ∙ map_zero (place test ks)
+  place_is ks = position_from-zero test ks ∙ place_from_zero ks
 
   append_by : (t : Bool) (n : ℕ) (all a b : Option ℕ) → all ≡ or_else a (option_map (λ j. n + j) b) → cond t (Some 0) (option_map suc all) ≡ or_else (cond t (Some 0) (option_map suc a)) (option_map (λ j. suc n + j) b)
   append_by true n all a b e = refl
@@ -298,12 +301,9 @@ module _ {K : Type 0} (eq : K → K → Bool) where
         let apart = either_not (eq k x) (list_any (eq k) ks) none in
         (all_more (λ y. eq x y ≡ false) ks k d.0 (laws.symm x k ∙ apart.0), distinct_more ks k d.1 apart.1)
 
-    -- a key that no set has goes behind the last
-    pub key_added : (front top held after : List K) (k : K) → None ≡ place (eq k) (front ++ top) → held ≡ top → after ≡ (if list_any (eq k) held then held else held ++ k ∷ []) → front ++ after ≡ (front ++ top) ++ k ∷ []
-    key_added front top held after k none same is =
-        ap (λ (l : List K). front ++ l)
-        (is ∙ ap (λ (l : List K). if list_any (eq k) l then l else l ++ k ∷ []) same ∙ ap (λ (t : Bool). if t then top else top ++ k ∷ []) (absent_from (eq k) front top none)) ∙
-        sym (append_assoc front top (k ∷ []))
+    -- a key goes behind the last
+    pub key_added : (front top after : List K) (k : K) → after ≡ top ++ k ∷ [] → front ++ after ≡ (front ++ top) ++ k ∷ []
+    key_added front top after k is = ap (λ (l : List K). front ++ l) is ∙ sym (append_assoc front top (k ∷ []))
 
     pub distinct_added : (ks all : List K) (k : K) → IsDistinct eq ks → None ≡ place (eq k) ks → all ≡ ks ++ k ∷ [] → IsDistinct eq all
     distinct_added ks all k d none is = subst (IsDistinct eq) (sym is) (distinct_more ks k d (absent (eq k) ks none))

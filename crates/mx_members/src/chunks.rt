@@ -182,7 +182,7 @@ impl<T: Share> Chunks<T> {
 }
 
 /// The same items in a vector of their own.
-fn shared_items<T: Share>(alloc: Global, items: &[T]) -> Result<Vec<T>, AllocError>
+pub(crate) fn shared_items<T: Share>(alloc: Global, items: &[T]) -> Result<Vec<T>, AllocError>
     ensures { IfOk result (λ copied. copied.items ≡ items.now) }
 {
     let mut copied = Vec::with_capacity(alloc, items.len())?;
@@ -193,7 +193,7 @@ fn shared_items<T: Share>(alloc: Global, items: &[T]) -> Result<Vec<T>, AllocErr
 }
 
 /// The item at a place, from 0.
-fn item_at<T>(items: &[T], at: usize) -> Option<&T>
+pub(crate) fn item_at<T>(items: &[T], at: usize) -> Option<&T>
     ensures { option_copied result ≡ slice_get items.now at }
 {
     items.get(at)

@@ -1,14 +1,15 @@
 //! Members by key, in order of first definition.
 ghost use Rattle.std.specs.Prelude.{◌≡◌, ◌++◌, ◌<◌, [], length, None, zip, IfOk, IfSome, OnOk, OnErr, option_copied, option_map, slice_get};
-ghost use Rattle.std.specs.List.{IsDistinct};
+ghost use Rattle.std.specs.List.{IsDistinct, position_from};
 ghost use Rattle.std.specs.Map.{keys_of, lookup};
 ghost use Rattle.std.specs.Map.Iter.{deref_pair};
 ghost use Rattle.mx_members.specs.Places.{place};
 ghost use Rattle.mx_members.specs.Words.{define, without};
 
-use crate::chunks::Chunks;
+use crate::chunks::{Chunks, item_at, shared_items};
 use crate::share::Share;
 use indexmap::IndexSet;
+use mx_list::items::Items;
 use mx_list::shared::Shared;
 use std::alloc::{AllocError, Global};
 use std::hash::Hash;
@@ -16,15 +17,15 @@ use std::marker::Model;
 
 /// Members by key. One that is defined again keeps its place, and a removal keeps the order of the others.
 ///
-/// The keys stand in three sets, one behind the other, and the members in chunks by the places of their keys. Copies share two of
-/// the sets and all chunks. A copy joins the last set with the one before it once it has passed that one's root, and joins all three
-/// once the last two are long beside the first. So a copy before each of 100,000 new members copies some 65 keys on average. To define
-/// a member again changes no set.
+/// The keys stand in two sets and a short list behind them, and the members in chunks by the places of their keys. Copies share the
+/// sets and all chunks. A copy joins the list with the set before it once it has passed that one's root, and joins all three once the
+/// last two are long beside the first. The list is looked through, since to copy a set hashes its keys. To define a member again
+/// changes no key.
 #[derive(Drop)]
 pub struct Members<K: Eq + Hash, X> {
     base: Shared<IndexSet<K>>,
     middle: Shared<IndexSet<K>>,
-    top: IndexSet<K>,
+    top: Items<K>,
     members: Chunks<X>,
 }
 
@@ -34,10 +35,10 @@ impl<K: Eq + Hash, X> Model for Members<K, X> {
 
     ghost Value = { List (K × X) };
 
-    ghost view = { λ m. zip (m.base.keys ++ m.middle.keys ++ m.top.keys) m.members };
+    ghost view = { λ m. zip (m.base.keys ++ m.middle.keys ++ m.top) m.members };
 
-    ghost invariant = { λ m. IsDistinct K.eq (m.base.keys ++ m.middle.keys ++ m.top.keys)
-        × (length m.members ≡ length (m.base.keys ++ m.middle.keys ++ m.top.keys)) };
+    ghost invariant = { λ m. IsDistinct K.eq (m.base.keys ++ m.middle.keys ++ m.top)
+        × (length m.members ≡ length (m.base.keys ++ m.middle.keys ++ m.top)) };
 }
 
 impl<K: Eq + Hash + Share, X: Share> Members<K, X> {
@@ -60,7 +61,7 @@ impl<K: Eq + Hash + Share, X: Share> Members<K, X> {
         Ok(Members {
             base,
             middle,
-            top: IndexSet::new(alloc),
+            top: Items::new(alloc),
             members,
         })
     }
@@ -71,11 +72,10 @@ impl<K: Eq + Hash + Share, X: Share> Members<K, X> {
     {
         let members = self.members.copy(alloc)?;
         if !self.is_top_long() {
-            let none = IndexSet::new(alloc);
             return Ok(Members {
                 base: self.base.copy()?,
                 middle: self.middle.copy()?,
-                top: joined(alloc, &none, &self.top)?,
+                top: Items::from_vec(shared_items(alloc, self.top.as_slice())?),
                 members,
             });
         }
@@ -83,11 +83,11 @@ impl<K: Eq + Hash + Share, X: Share> Members<K, X> {
             let keys = self.all_keys(alloc)?;
             return Members::of(alloc, keys, members);
         }
-        let middle = joined(alloc, self.middle.get(), &self.top)?;
+        let middle = with_last(alloc, self.middle.get(), self.top.as_slice())?;
         Ok(Members {
             base: self.base.copy()?,
             middle: Shared::new(alloc, middle)?,
-            top: IndexSet::new(alloc),
+            top: Items::new(alloc),
             members,
         })
     }
@@ -100,7 +100,7 @@ impl<K: Eq + Hash + Share, X: Share> Members<K, X> {
 
     /// Whether the last two sets have passed eight times the root of the first.
     fn is_base_short(&self) -> bool {
-        let behind = self.middle.get().len() + self.top.len();
+        let behind = self.middle.get().len().saturating_add(self.top.len());
         behind > 64 && self.base.get().len() / behind < behind / 64
     }
 
@@ -110,7 +110,7 @@ impl<K: Eq + Hash + Share, X: Share> Members<K, X> {
         ensures distinct { IfOk result (λ keys. IsDistinct K.eq keys.keys) }
     {
         let front = joined(alloc, self.base.get(), self.middle.get())?;
-        joined(alloc, &front, &self.top)
+        with_last(alloc, &front, self.top.as_slice())
     }
 
     /// The place of a key, from 0.
@@ -127,7 +127,7 @@ impl<K: Eq + Hash + Share, X: Share> Members<K, X> {
             Some(at) => return Some(base.len() + at),
             None => {}
         }
-        match place_in(&self.top, key) {
+        match place_among(self.top.as_slice(), key) {
             Some(at) => return Some(before_top + at),
             None => return None,
         }
@@ -138,15 +138,19 @@ impl<K: Eq + Hash + Share, X: Share> Members<K, X> {
         ensures defined { OnOk result (self.new ≡ define K.eq self.old key member) }
         ensures err { OnErr result (self.new ≡ self.old) }
     {
-        let alloc = *self.top.allocator();
+        let alloc = *self.base.get().allocator();
         if let Some(at) = self.place_of(&key) {
             self.members.set(alloc, at, member)?;
             return Ok(());
         }
-        self.top.reserve(1)?;
-        self.members.push(alloc, member)?;
-        self.top.insert(key)?;
-        Ok(())
+        self.top.push(key)?;
+        match self.members.push(alloc, member) {
+            Ok(()) => Ok(()),
+            Err(error) => {
+                let _ = self.top.pop();
+                Err(error)
+            }
+        }
     }
 
     /// The member of a key.
@@ -188,7 +192,7 @@ impl<K: Eq + Hash + Share, X: Share> Members<K, X> {
         if behind < middle.len() {
             return middle.get_index(behind);
         }
-        self.top.get_index(behind - middle.len())
+        item_at(self.top.as_slice(), behind - middle.len())
     }
 
     /// The key and the member at a place, from 0.
@@ -222,6 +226,52 @@ fn place_in<K: Eq + Hash>(keys: &IndexSet<K>, key: &K) -> Option<usize>
         return None;
     }
     keys.get_index_of(key)
+}
+
+/// The place of a key among a few.
+fn place_among<K: Eq>(keys: &[K], key: &K) -> Option<usize>
+    ensures place { result ≡ position_from (K.eq key.now) 0 keys.now }
+    ensures within { IfSome result (λ at. at < length keys.now) }
+{
+    for at in 0..keys.len() {
+        if *key == keys[at] {
+            return Some(at);
+        }
+    }
+    None
+}
+
+/// The keys of a set and a few behind them, shared, in a set of their own.
+fn with_last<K: Eq + Hash + Share>(
+    alloc: Global,
+    front: &IndexSet<K>,
+    last: &[K],
+) -> Result<IndexSet<K>, AllocError>
+    requires { IsDistinct K.eq (front.now.keys ++ last.now) }
+    ensures { IfOk result (λ keys. keys.keys ≡ front.now.keys ++ last.now) }
+{
+    let mut keys = IndexSet::with_capacity(alloc, front.len().saturating_add(last.len()))?;
+    add_keys(alloc, &mut keys, front)?;
+    add_last(alloc, &mut keys, last)?;
+    Ok(keys)
+}
+
+/// Adds a few keys behind others.
+fn add_last<K: Eq + Hash + Share>(
+    alloc: Global,
+    keys: &mut IndexSet<K>,
+    last: &[K],
+) -> Result<(), AllocError>
+    requires { IsDistinct K.eq (keys.old.keys ++ last.now) }
+    ensures { OnOk result (keys.new.keys ≡ keys.old.keys ++ last.now) }
+{
+    for at in 0..last.len() {
+        let Some(key) = item_at(last, at) else {
+            unreachable!()
+        };
+        keys.insert(key.share(alloc)?)?;
+    }
+    Ok(())
 }
 
 /// The keys of a set and behind them those of another, shared, in a set of their own.

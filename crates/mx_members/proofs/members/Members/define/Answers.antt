@@ -7,36 +7,36 @@ use Rattle.mx_members.proofs.members.Members.define.Goals as goal
 pub set-requires : goal.set-requires
 set-requires g c =
     let in_it = c.self.inside in
-    let ks = in_it.base.keys ++ in_it.middle.keys ++ in_it.top.keys in
+    let ks = in_it.base.keys ++ in_it.middle.keys ++ in_it.top in
     let ms = in_it.members in
     there ks ms c.args.self.now c.self.view_is c.self.invariant.1 (g.K.PartialEq.eq c.args.key) c.in-Some.at c.in-Some.ensures
 
 pub returns-in-Some-clause-defined : goal.returns-in-Some-clause-defined
 returns-in-Some-clause-defined g c =
     let in_it = c.self.inside in
-    let ks = in_it.base.keys ++ in_it.middle.keys ++ in_it.top.keys in
+    let ks = in_it.base.keys ++ in_it.middle.keys ++ in_it.top in
     let ms = in_it.members in
     redefined g.K.PartialEq.eq c.args.key ks ms c.args.self.now c.self.view_is c.self.invariant.1 c.args.member c.in-Some.at c.set.new.self c.in-Some.ensures c.in_ok-set.ensures.ok
 
-pub invariant_of-self-2 : goal.invariant_of-self-2
-invariant_of-self-2 g c =
+pub invariant_of-self-in-Ok : goal.invariant_of-self-in-Ok
+invariant_of-self-in-Ok g c =
     let in_it = c.self.inside in
-    let ks = in_it.base.keys ++ in_it.middle.keys ++ in_it.top.keys in
+    let ks = in_it.base.keys ++ in_it.middle.keys ++ in_it.top in
     let ms = in_it.members in
     let eq = g.K.PartialEq.eq in
     let none = c.in_default.ensures ∙ ap (λ l. place (eq c.args.key) l) (sym (keys_are ks ms c.args.self.now c.self.view_is c.self.invariant.1)) in
-    let keys = key_added eq g.met.K.Eq.laws (in_it.base.keys ++ in_it.middle.keys) in_it.top.keys c.reserve.new.self.keys c.insert.new.self.keys c.args.key none c.in_ok-reserve.ensures.keys c.in_ok-insert.ensures.keys in
+    let keys = key_added eq g.met.K.Eq.laws (in_it.base.keys ++ in_it.middle.keys) in_it.top c.push.new.self c.args.key c.in_ok-push.ensures.ok in
     let more = ap (λ l. length l) keys ∙ length-append ks (c.args.key ∷ []) in
-    let members = ap (λ l. length l) c.in_ok-push.ensures.ok ∙ length-append ms (c.args.member ∷ []) in
+    let members = ap (λ l. length l) c.in-Ok.ensures.ok ∙ length-append ms (c.args.member ∷ []) in
     let all = c.self.invariant.1 in
-    (distinct_added eq g.met.K.Eq.laws ks (in_it.base.keys ++ in_it.middle.keys ++ c.insert.new.self.keys) c.args.key c.self.invariant.0 none keys, omega arith)
+    (distinct_added eq g.met.K.Eq.laws ks (in_it.base.keys ++ in_it.middle.keys ++ c.push.new.self) c.args.key c.self.invariant.0 none keys, omega arith)
 
-pub returns-clause-defined : goal.returns-clause-defined
-returns-clause-defined g c =
+pub returns-in-Ok-clause-defined : goal.returns-in-Ok-clause-defined
+returns-in-Ok-clause-defined g c =
     let in_it = c.self.inside in
-    let ks = in_it.base.keys ++ in_it.middle.keys ++ in_it.top.keys in
+    let ks = in_it.base.keys ++ in_it.middle.keys ++ in_it.top in
     let ms = in_it.members in
     let eq = g.K.PartialEq.eq in
     let none = c.in_default.ensures ∙ ap (λ l. place (eq c.args.key) l) (sym (keys_are ks ms c.args.self.now c.self.view_is c.self.invariant.1)) in
-    let keys = key_added eq g.met.K.Eq.laws (in_it.base.keys ++ in_it.middle.keys) in_it.top.keys c.reserve.new.self.keys c.insert.new.self.keys c.args.key none c.in_ok-reserve.ensures.keys c.in_ok-insert.ensures.keys in
-    appended eq c.args.key ks ms c.args.self.now c.self.view_is c.self.invariant.1 c.args.member (in_it.base.keys ++ in_it.middle.keys ++ c.insert.new.self.keys) c.push.new.self c.in_default.ensures keys c.in_ok-push.ensures.ok
+    let keys = key_added eq g.met.K.Eq.laws (in_it.base.keys ++ in_it.middle.keys) in_it.top c.push.new.self c.args.key c.in_ok-push.ensures.ok in
+    appended eq c.args.key ks ms c.args.self.now c.self.view_is c.self.invariant.1 c.args.member (in_it.base.keys ++ in_it.middle.keys ++ c.push.new.self) c.push-2.new.self c.in_default.ensures keys c.in-Ok.ensures.ok
