@@ -1,11 +1,2 @@
 -- The bytes of a text at which a bracket or an indent may open.
-use Rattle.std.specs.Prelude.{ℕ, Bool, ◌||◌, ◌==◌, List}
-use Rattle.std.specs.List.{count_by}
-use Rattle.mx_lex.specs.Bytes.{is_opening}
-
--- an opening bracket, or the end of a line or the beginning of a comment, behind which an indented line may begin
-abbrev pub may_open : ℕ → Bool
-may_open b = is_opening b || (b == 10 || b == 35)
-
-abbrev pub openings : List ℕ → ℕ
-openings text = count_by may_open text
+pub use Rattle.mx_print.specs.Sizes.{may_open, openings}
