@@ -1,23 +1,25 @@
-use Rattle.std.proofs.Common.{◌≡◌, ◌-◌, List, [], ◌∷◌, ◌++◌, map, length, reverse, refl, sym, ap, ◌∙◌, subst, arith}
+use Rattle.std.proofs.Common.{◌≡◌, ◌-◌, List, [], ◌∷◌, ◌++◌, map, drop, length, reverse, refl, sym, ap, ◌∙◌, subst, arith}
 use Rattle.std.specs.Prelude.{OnOk, true, false, option_map}
 use Rattle.std.proofs.lemmas.List.{length-reverse}
 use Rattle.mx_syntax.specs.declared.expr.Expr.{Expr}
 use Rattle.mx_syntax.specs.declared.expr.Expr.TheVariants as form
-use Rattle.mx_syntax.specs.declared.expr.Arm.{Arm}
+use Rattle.mx_syntax.specs.declared.expr.Arm.{Arm, out-Arm}
 use Rattle.mx_syntax.specs.declared.expr.Comparison.{Comparison}
-use Rattle.mx_syntax.specs.declared.expr.PowerPart.{PowerPart}
-use Rattle.mx_syntax.specs.declared.expr.ProductPart.{ProductPart}
-use Rattle.mx_syntax.specs.declared.expr.SumPart.{SumPart}
+use Rattle.mx_syntax.specs.declared.expr.PowerPart.{PowerPart, out-PowerPart}
+use Rattle.mx_syntax.specs.declared.expr.ProductPart.{ProductPart, out-ProductPart}
+use Rattle.mx_syntax.specs.declared.expr.SumPart.{SumPart, out-SumPart}
 use Rattle.mx_syntax.specs.declared.expr.Trailer.{Trailer}
 use Rattle.mx_syntax.specs.declared.expr.Sign.{Sign}
+use Rattle.mx_value.specs.declared.label.Label.{Label}
 use Rattle.mx_code.specs.declared.action.Instr.{Instr}
 use Rattle.mx_code.specs.declared.action.Action.TheVariants as act
 use Rattle.mx_code.specs.declared.action.Local.{Local}
 use Rattle.mx_code.specs.Names.{with_name}
-use Rattle.mx_code.specs.Operators.{compare_op}
-use Rattle.mx_code.specs.Expressions.{at, Part, value_of, part_code, chain_code, joined_code, powered_code, signs_code, arms_code, trailed_code, called_before, compare_action, Generator, filter_code, first_then, post_part}
+use Rattle.mx_code.specs.Operators.{compare_op, sum_op, product_op}
+use Rattle.mx_code.specs.Expressions.{at, Coded, Part, Behind, value_of, values_code, beside, choice_code, behind_code, part_code, chain_code, joined_code, powered_code, signs_code, arms_code, trailed_code, called_before, compare_action, Generator, filter_code, first_then, post_part}
 use Rattle.mx_code.specs.Parts.{arm_code, comparison_code, power_code, product_code, sum_code, trailer_code, args_code}
-use Rattle.mx_code.proofs.Putting.{further_more, link_by, link_none, as_part, arms_same, code-op, code-is-none, code-is-not-none, code-gen, code-cond, code-not, code-compare, code-sum, code-product, code-signed, code-power, code-post, over_put}
+use Rattle.mx_code.proofs.Putting.{in_front, one_more, more_put, joined_more, sum_is, product_is, power_is, arm_is, code-called, code-index, code-attr, coded_long, further_more, link_by, link_none, as_part, arms_same, code-op, code-is-none, code-is-not-none, code-gen, code-cond, code-not, code-compare, code-sum, code-product, code-signed, code-power, code-post, over_put}
+use Rattle.mx_code.proofs.Stacking.{choice_put}
 use Rattle.mx_code.proofs.expressions.+expression.Goals as goal
 
 pub put_chain-loop-i-preserved-in-Continue-branch-3 : goal.put_chain-loop-i-preserved-in-Continue-branch-3
@@ -154,3 +156,68 @@ put_args-returns-in_ok-put_part-in-Gen-2 t c =
     c.in_ok-put-in-Gen.ensures c.in_ok-put-in-Gen-2.ensures c.in_ok-put_collected-in-Gen.ensures c.in_ok-put-in-Gen-3.ensures
     (c.in_ok-put_part-in-Gen-2.ensures ∙ ap (λ (x : Expr). part_code x false scope line ++ reverse c.put-in-Gen-3.new.code.items) c.get-in-Gen.ensures))
     c.put-in-Gen-4.ensures
+
+pub put_values-loop-i-preserved : goal.put_values-loop-i-preserved
+put_values-loop-i-preserved t c =
+    let f : List Expr → List Instr = λ es. values_code (map value_of (map part_code es)) c.args.scope.now c.args.line in
+    more_put f c.args.items.now c.loop-i.i (c.loop-i.i - 1) c.index-items-i.result _ _ _ _ (omega (arith, c.loop-i-test.true)) c.loop-i.auto.i c.index-items-i.is refl c.loop-i.invariant c.in_ok-put_part.ensures
+
+pub put_sum-loop-i-preserved : goal.put_sum-loop-i-preserved
+put_sum-loop-i-preserved t c =
+    let part = out-SumPart c.index-parts-i.result in
+    joined_more sum_code c.args.parts.now c.loop-i.i (c.loop-i.i - 1) c.index-parts-i.result (sum_op part.op) (value_of (part_code part.of)) c.args.scope.now c.args.line _ _ _ _ (omega (arith, c.loop-i-test.true)) c.loop-i.auto.i c.index-parts-i.is (sum_is _) c.loop-i.invariant
+    (c.in_ok-put.ensures ∙ ap (λ o. at c.args.line (act.Binary o) ∷ reverse c.loop-i.code.items) c.sum_op.ensures) c.in_ok-put_part.ensures
+
+pub put_product-loop-i-preserved : goal.put_product-loop-i-preserved
+put_product-loop-i-preserved t c =
+    let part = out-ProductPart c.index-parts-i.result in
+    joined_more product_code c.args.parts.now c.loop-i.i (c.loop-i.i - 1) c.index-parts-i.result (product_op part.op) (value_of (part_code part.of)) c.args.scope.now c.args.line _ _ _ _ (omega (arith, c.loop-i-test.true)) c.loop-i.auto.i c.index-parts-i.is (product_is _) c.loop-i.invariant
+    (c.in_ok-put.ensures ∙ ap (λ o. at c.args.line (act.Binary o) ∷ reverse c.loop-i.code.items) c.product_op.ensures) c.in_ok-put_part.ensures
+
+pub put_powered-loop-i-preserved : goal.put_powered-loop-i-preserved
+put_powered-loop-i-preserved t c =
+    let scope = c.args.scope.now in
+    let line = c.args.line in
+    let part = c.index-parts-i.result in
+    let f : List PowerPart → List Instr = λ ps. values_code (map beside (map power_code ps)) scope line in
+    more_put f c.args.parts.now c.loop-i.i (c.loop-i.i - 1) part (part_code (out-PowerPart part).of false scope line) _ _ _ (omega (arith, c.loop-i-test.true)) c.loop-i.auto.i c.index-parts-i.is
+    (ap (λ (p : List Sign × Coded). p.1 scope line ++ f (drop c.loop-i.i c.args.parts.now)) (power_is part)) c.loop-i.invariant
+    (c.in_ok-put_part.ensures ∙ ap (λ (p : PowerPart). part_code (out-PowerPart p).of false scope line ++ reverse c.loop-i.code.items) (sym c.index-parts-i.is))
+
+pub put_arms-loop-i-preserved : goal.put_arms-loop-i-preserved
+put_arms-loop-i-preserved t c = λ last below e k.
+    let scope = c.args.scope.now in
+    let line = c.args.line in
+    let arm = c.index-arms-i.result in
+    let other = arms_code (map arm_code (drop c.loop-i.i c.args.arms.now)) (λ s l. last) scope line in
+    choice_put line c.since-other.result c.since-given.result c.args.end (part_code (out-Arm arm).test false scope line) (part_code (out-Arm arm).value false scope line) other below
+    c.loop-i.code.items c.put.new.code.items c.put_part.new.code.items c.put-in-loop-i.new.code.items c.put_part-in-loop-i.new.code.items k (c.loop-i.invariant last below e k)
+    c.since-other.ensures c.in_ok-put.ensures c.in_ok-put_part.ensures (omega (arith, c.since-given.ensures, c.len-below.ensures)) c.in_ok-put-2.ensures c.in_ok-put_part-2.ensures
+    ∙ ap (λ (a : Coded × Coded). choice_code line (a.1 scope line) (a.0 scope line) other ++ below) (sym (arm_is arm))
+    ∙ ap (λ (as_ : List Arm). arms_code (map arm_code as_) (λ s l. last) scope line ++ below) (sym (one_more c.args.arms.now c.loop-i.i (c.loop-i.i - 1) arm (omega (arith, c.loop-i-test.true)) c.loop-i.auto.i c.index-arms-i.is))
+
+pub put_trailers-loop-i-preserved-in_ok-put_args-in-Call : goal.put_trailers-loop-i-preserved-in_ok-put_args-in-Call
+put_trailers-loop-i-preserved-in_ok-put_args-in-Call t c =
+    let f : List Trailer → List Instr = λ ts. trailed_code (map trailer_code ts) c.args.scope.now c.args.line in
+    more_put f c.args.trailers.now c.loop-i.i (c.loop-i.i - 1) c.index-trailers-i.result _ _ _ _ (omega (arith, c.loop-i-test.true)) c.loop-i.auto.i c.index-trailers-i.is refl c.loop-i.invariant
+    (c.in_ok-put_args-in-Call.ensures ∙ ap (λ (b : Behind). behind_code b c.args.scope.now c.args.line ++ reverse c.loop-i.code.items) (sym (ap trailer_code c.in-Call.is ∙ code-called c.in-Call.args)))
+
+pub put_trailers-loop-i-preserved-in_ok-put_values-in-Index : goal.put_trailers-loop-i-preserved-in_ok-put_values-in-Index
+put_trailers-loop-i-preserved-in_ok-put_values-in-Index t c =
+    let scope = c.args.scope.now in
+    let line = c.args.line in
+    let rest = reverse c.loop-i.code.items in
+    let f : List Trailer → List Instr = λ ts. trailed_code (map trailer_code ts) scope line in
+    let values : List Expr → List Instr = λ es. values_code (map value_of (map part_code es)) scope line in
+    more_put f c.args.trailers.now c.loop-i.i (c.loop-i.i - 1) c.index-trailers-i.result _ _ _ _ (omega (arith, c.loop-i-test.true)) c.loop-i.auto.i c.index-trailers-i.is refl c.loop-i.invariant
+    (c.in_ok-put_values-in-Index.ensures ∙ ap (λ (es : List Expr). values es ++ reverse c.put.new.code.items) c.as_slice.ensures
+    ∙ in_front (values c.in-Index.items) (at line (act.Index (length (map value_of (map part_code c.in-Index.items)))) ∷ []) (reverse c.put.new.code.items) rest (c.in_ok-put-in-Index.ensures ∙ ap (λ n. at line (act.Index n) ∷ rest) (c.len.ensures ∙ sym (coded_long c.in-Index.items)))
+    ∙ ap (λ (b : Behind). behind_code b scope line ++ rest) (sym (ap trailer_code c.in-Index.is ∙ code-index c.in-Index.items)))
+
+pub put_trailers-loop-i-preserved : goal.put_trailers-loop-i-preserved
+put_trailers-loop-i-preserved t c =
+    let f : List Trailer → List Instr = λ ts. trailed_code (map trailer_code ts) c.args.scope.now c.args.line in
+    let rest = reverse c.loop-i.code.items in
+    more_put f c.args.trailers.now c.loop-i.i (c.loop-i.i - 1) c.index-trailers-i.result _ _ _ _ (omega (arith, c.loop-i-test.true)) c.loop-i.auto.i c.index-trailers-i.is refl c.loop-i.invariant
+    (c.in_ok-put-in-Attr.ensures ∙ ap (λ (n : Label). at c.args.line (act.Attr n) ∷ rest) c.in_ok-copy-in-Attr.ensures
+    ∙ ap (λ (b : Behind). behind_code b c.args.scope.now c.args.line ++ rest) (sym (ap trailer_code c.in-Attr.is ∙ code-attr c.in-Attr.name)))
