@@ -1,18 +1,16 @@
 #!/usr/bin/env python3
-"""Writes the tables of crates/mx_plain_tests: rows and present values of both products for some policies.
+"""Rows for the plain projections: months and present values of both products for some policies.
+
+    tools/plain_vectors.py      writes crates/mx_plain_rows/stdin and crates/mx_plain_rows/stdout
 
 Nothing here stands on the engine. Each step is computed exactly with Python's `fractions` and then rounded half to even
 at 9 decimals by Python's `round`; a root is the greatest number whose rounded power is at most the radicand.
-
-    tools/plain_vectors.py            writes the tables
-    tools/plain_vectors.py --check    ends with 1 where the file is not what it would write
 """
 import pathlib
-import sys
 from fractions import Fraction
 
 UNIT = 10**9
-TARGET = pathlib.Path(__file__).resolve().parent.parent / "crates" / "mx_plain_tests" / "src" / "tables.rt"
+HOME = pathlib.Path(__file__).resolve().parent.parent / "crates" / "mx_plain_rows"
 
 
 class Fault(Exception):
@@ -213,54 +211,62 @@ def chosen(policy, at):
 
 
 def listed(numbers):
-    return "[" + ", ".join(str(x) for x in numbers) + "]"
+    return " ".join(str(x) for x in numbers)
 
 
-def table(name, doc, kind, rows):
-    lines = "".join(f"    {row},\n" for row in rows)
-    return f"\n// {doc}\npub const {name}: [{kind}; {len(rows)}] = [\n{lines}];\n"
+def rated(policy):
+    """A policy with the number of its rates of mortality and of interest behind its term."""
+    return (policy[0], policy[0] + 1, policy[0] + 1, *policy[1:])
 
 
-def tables(word, policies, of, own, wide):
-    numbers = len(policies[0])
-    rows, pvs = [], []
+def rows_of(product, policies, of):
     for at, policy in enumerate(policies):
         values, pv = of(policy)
-        rows += [f"({at}, {month}, {listed(map(raw, values[month]))})" for month in chosen(policy, at)]
-        pvs.append(listed(map(raw, pv)))
-    held = table(f"{word}_POLICIES", own, f"[i64; {numbers}]", [listed(p) for p in policies])
-    held += table(f"{word}_ROWS", "policy, month, row", f"(usize, usize, [i64; {wide}])", rows)
-    return held + table(f"{word}_VALUES", "the present values of each policy", f"[i64; {wide}]", pvs)
+        months = chosen(policy, at)
+        rows = [f"{month} {listed(map(raw, values[month]))}" for month in months]
+        yield f"{product} {listed(rated(policy))} at {listed(months)}", [*rows, f"pv {listed(map(raw, pv))}"]
+
+
+def fault_of(policy):
+    try:
+        term_of(policy)
+    except Fault as fault:
+        return str(fault)
+    raise AssertionError(policy)
+
+
+def faults():
+    for wanted, policy in TERM_FAULTS:
+        assert fault_of(policy) == wanted, (wanted, policy)
+        yield f"term {listed(rated(policy))} at", [wanted]
+
+
+def refused():
+    years, *term_numbers = TERMS[0]
+    for other in (0, 9, 11, 81, 2**32 - 1):
+        yield f"term {listed((other, years + 1, years + 1, *term_numbers))} at", ["BadPolicy"]
+    yield f"term {listed((years, years, years + 1, *term_numbers))} at", ["BadPolicy"]
+    years, *savings_numbers = SAVINGS[0]
+    yield f"savings {listed((years, years + 1, years, *savings_numbers))} at", ["BadPolicy"]
 
 
 def written():
-    for wanted, policy in TERM_FAULTS:
-        try:
-            term_of(policy)
-        except Fault as fault:
-            assert str(fault) == wanted, (wanted, fault)
-        else:
-            raise AssertionError(policy)
-    text = "//! Policies, rows and present values in units of 10^-9. tools/plain_vectors.py writes them.\n"
-    text += tables("TERM", TERMS, term_of, "term, count, assured, acquisition, maintenance, inflation, loading, age, interest and its step", 6)
-    text += tables("SAVINGS", SAVINGS, savings_of, "term, count, assured, acquisition, maintenance, inflation, premium, load, fee, yield, age, interest and its step", 9)
-    text += table("TERM_FAULTS", "policies with a fault", "([i64; 10], NumFault)", [f"({listed(p)}, NumFault::{f})" for f, p in TERM_FAULTS])
-    return text.replace("writes them.\n", "writes them.\nuse mx_value::fixed::NumFault;\n", 1)
+    """The rows, with their answers."""
+    yield "# term, rates of mortality and of interest, count, assured, acquisition, maintenance, inflation, loading, age, interest and its step", []
+    yield from rows_of("term", TERMS, term_of)
+    yield "# term, rates of mortality and of interest, count, assured, acquisition, maintenance, inflation, premium, load, fee, yield, age, interest and its step", []
+    yield from rows_of("savings", SAVINGS, savings_of)
+    yield "# a fault of a step is told", []
+    yield from faults()
+    yield "# a term that is none, and rates that are too many or too few for it", []
+    yield from refused()
 
 
-def bare(text):
-    """A file's text without its layout, which is the formatter's."""
-    return "".join(text.split()).replace(",]", "]").replace(",)", ")")
+def main():
+    with open(HOME / "stdin", "w") as rows, open(HOME / "stdout", "w") as answers:
+        for row, told in written():
+            print(row, file=rows)
+            print(row, *told, sep="\n", file=answers)
 
 
-def main(words):
-    if words == ["--check"]:
-        return 0 if bare(TARGET.read_text()) == bare(written()) else 1
-    if words:
-        sys.exit("tools/plain_vectors.py [--check]")
-    TARGET.write_text(written())
-    return 0
-
-
-if __name__ == "__main__":
-    sys.exit(main(sys.argv[1:]))
+main()

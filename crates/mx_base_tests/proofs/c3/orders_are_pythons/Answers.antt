@@ -1,5 +1,0 @@
-use Rattle.mx_c3.proofs.InOrderLemmas.{in_order_sound}
-use Rattle.mx_base_tests.proofs.c3.orders_are_pythons.Goals as goal
-
-pub linearise-requires-clause-sound : goal.linearise-requires-clause-sound
-linearise-requires-clause-sound g c = in_order_sound _ (c.is_in_order.ensures.0 cc)

@@ -1,5 +1,0 @@
-//! Tests of the graph of reads, above the crate that they test.
-#![tactic(auto)]
-
-#[cfg(test)]
-mod graphs;

@@ -1,7 +1,0 @@
-//! Tests of the plain projections.
-#![tactic(auto)]
-
-#[cfg(test)]
-mod tables;
-#[cfg(test)]
-mod vectors;
