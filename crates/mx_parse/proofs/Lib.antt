@@ -10,7 +10,6 @@ pub mod Insides
 pub mod FollowingCode
 pub mod ParameterCode
 pub mod DisplayCode
-pub mod LongTexts
 pub mod FewLoops
 pub mod ListedLoops
 pub mod FormulaLoops

@@ -5,7 +5,6 @@ mod block;
 mod display;
 mod formula;
 pub mod laws;
-mod limits;
 mod loops;
 mod parameter;
 mod parse;

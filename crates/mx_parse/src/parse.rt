@@ -21,7 +21,6 @@ ghost use Rattle.mx_parse.specs.Formulas.{formula_text, params_text};
 ghost use Rattle.mx_parse.specs.FormulaLimits.{expression_limits, formula_limits, params_limits};
 
 use crate::formula::{formula, space_params};
-use crate::limits::is_long;
 use crate::loops::{expression_within, list_within, maybe_within};
 use crate::statement::Inside;
 use mx_expression::expression::expression;
@@ -31,8 +30,8 @@ use mx_grammar::source::{open, refusal};
 use mx_grammar::trouble::Trouble;
 use mx_grammar::word::{Symbol, Word};
 use mx_grammar::{address, literal};
+use mx_lengths::limits::{are_params_long, is_formula_long};
 use mx_lex::Token;
-use mx_print::formula::{print, print_params};
 use mx_syntax::expr::Expr;
 use mx_syntax::stmt::{Formula, Params};
 use mx_value::node::Node;
@@ -161,8 +160,7 @@ fn read_formula(alloc: Global, source: &[u8]) -> Result<Formula, ParseRefusal>
     if !list_within(formula.body.as_slice(), MOST_LOOPS) {
         return Err(ParseRefusal::TooManyLoops);
     }
-    let text = print(alloc, &formula)?;
-    if is_long(alloc, text.as_slice())? {
+    if is_formula_long(alloc, &formula)? {
         return Err(ParseRefusal::PrintsTooLong);
     }
     Ok(formula)
@@ -179,8 +177,7 @@ fn read_params(alloc: Global, source: &[u8]) -> Result<Params, ParseRefusal>
     if !maybe_within(&params.body, MOST_LOOPS) {
         return Err(ParseRefusal::TooManyLoops);
     }
-    let text = print_params(alloc, &params)?;
-    if is_long(alloc, text.as_slice())? {
+    if are_params_long(alloc, &params)? {
         return Err(ParseRefusal::PrintsTooLong);
     }
     Ok(params)

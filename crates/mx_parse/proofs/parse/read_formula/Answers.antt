@@ -1,4 +1,4 @@
-use Rattle.std.proofs.Common.{rules, arith, ◌≡◌, ℕ, Bool, true, false, nat_le, List, Some, Result, Ok, refl, ap, subst, inl}
+use Rattle.std.proofs.Common.{rules, arith, ◌≡◌, Bool, true, false, nat_le, Some, Result, Ok, refl, ap, inl}
 use Rattle.std.proofs.lemmas.Grind.{common_steps}
 use Rattle.std.specs.declared.alloc.AllocError.{AllocError}
 use Rattle.mx_grammar.proofs.Answering.{found_read, text_of_slice, found_refused}
@@ -35,8 +35,7 @@ returns-then-branch c =
 pub returns : goal.returns
 returns c =
     let held : nat_le (body_loops c.in-Ok.formula.body) 8 ≡ true = first_of (search rules, grind (arith, common_steps)) in
-    let shut : c.in_ok-is_long.field-0 ≡ false = first_of (search rules, grind (arith, common_steps)) in
-    let same : c.as_slice-3.result.now ≡ print c.in-Ok.formula = first_of (search rules, grind (arith, common_steps)) in
-    let short : IsShort (Some (print c.in-Ok.formula)) = subst (λ (text : List ℕ). IsShort (Some text)) same (c.in_ok-is_long.ensures.short (ap answered shut)) in
+    let shut : c.in_ok-is_formula_long.field-0 ≡ false = first_of (search rules, grind (arith, common_steps)) in
+    let short : IsShort (Some (print c.in-Ok.formula)) = c.in_ok-is_formula_long.ensures.short (ap answered shut) in
     λ _. within formula_text formula_limits c.args.source.now c.in-Ok.formula
     (found_read _ _ formulas c.args.source.now c.in_ok-source.source.tokens c.in_ok-source.source.words c.as_slice.result.now c.in_ok-source.ensures.opened c.as_slice.ensures c.in-Ok.formula c.in-Ok.ensures) held (print c.in-Ok.formula) refl short
