@@ -17,10 +17,10 @@ use Rattle.mx_expression.specs.ChainParsers as spec
 use Rattle.mx_expression.specs.ChainParsers.{product_part, sum_part, comparison, and_part, or_part, Armed, choice, choice_of, armed, conditional_of}
 use Rattle.mx_expression.specs.ExpressionParsers.{ors, signed, products, sums, compares, negations, conjunctions}
 use Rattle.mx_expression.proofs.OperandRules.{signed_begins, some_signed}
-use Rattle.mx_expression.proofs.ChainRules.{product_part_rule, product_tail_begins, some_product, sum_part_rule, sum_tail_begins, some_sum, comparison_rule, compare_tail_begins, some_compare, and_part_rule, and_tail_begins, some_not, or_part_rule, or_tail_begins, some_and}
-use Rattle.mx_expression.proofs.Gather.{gather_more, gather_err, gather_done}
+use Rattle.mx_expression.proofs.ChainRules.{Starts, product_part_rule, product_tail_begins, sum_part_rule, sum_tail_begins, comparison_rule, compare_tail_begins, and_part_rule, and_tail_begins, or_part_rule, or_tail_begins}
 use Rattle.mx_expression.proofs.ExpressionRules as rules
-use Rattle.mx_expression.proofs.ExpressionRules.{or_level, signed_level}
+use Rattle.mx_expression.proofs.ExpressionRules.{or_level, signed_level, some_product, some_sum, some_negation, some_conjunction}
+use Rattle.mx_grammar.proofs.Gather.{gather_more, gather_err, gather_done}
 
 module _ (d : ℕ) where
   abbrev Operand : Words → Expr → Type 0
@@ -29,31 +29,23 @@ module _ (d : ℕ) where
   some : Exists Operand
   some = some_signed (Expressions d) (Ors d)
 
+  start : Starts Operand
+  start = signed_begins (Expressions d) (Ors d)
+
   pub product_shorter : Shorter (product_part (signed d))
   product_shorter = exact_shorter spec.is_product (product_part_rule some (signed_level d)).exact (product_tail_begins Operand)
 
   pub sum_shorter : Shorter (sum_part (products d))
-  sum_shorter =
-      exact_shorter spec.is_sum (sum_part_rule (some_product Operand some) (rules.products some (signed_begins (Expressions d) (Ors d)) (signed_level d))).exact (sum_tail_begins (Product Operand))
+  sum_shorter = exact_shorter spec.is_sum (sum_part_rule (some_product some) (rules.products some start (signed_level d))).exact (sum_tail_begins (Product Operand))
 
   pub comparison_shorter : Shorter (comparison (sums d))
-  comparison_shorter =
-      exact_shorter spec.is_compare (comparison_rule (some_sum (Product Operand) (some_product Operand some)) (rules.sums some (signed_begins (Expressions d) (Ors d)) (signed_level d))).exact
-      (compare_tail_begins (Sum (Product Operand)))
-
-  some_comparison : Exists (Compare (Sum (Product Operand)))
-  some_comparison = some_compare (Sum (Product Operand)) (some_sum (Product Operand) (some_product Operand some))
+  comparison_shorter = exact_shorter spec.is_compare (comparison_rule (some_sum some) (rules.sums some start (signed_level d))).exact (compare_tail_begins (Sum (Product Operand)))
 
   pub and_shorter : Shorter (and_part (negations d))
-  and_shorter =
-      exact_shorter (is symbol.And) (and_part_rule (some_not (Compare (Sum (Product Operand))) some_comparison) (rules.negations some (signed_begins (Expressions d) (Ors d)) (signed_level d))).exact
-      (and_tail_begins (Not (Compare (Sum (Product Operand)))))
+  and_shorter = exact_shorter (is symbol.And) (and_part_rule (some_negation some) (rules.negations some start (signed_level d))).exact (and_tail_begins (Not (Compare (Sum (Product Operand)))))
 
   pub or_shorter : Shorter (or_part (conjunctions d))
-  or_shorter =
-      exact_shorter (is symbol.Or)
-      (or_part_rule (some_and (Not (Compare (Sum (Product Operand)))) (some_not (Compare (Sum (Product Operand))) some_comparison)) (rules.boths some (signed_begins (Expressions d) (Ors d)) (signed_level d))).exact
-      (or_tail_begins (And (Not (Compare (Sum (Product Operand))))))
+  or_shorter = exact_shorter (is symbol.Or) (or_part_rule (some_conjunction some) (rules.boths some start (signed_level d))).exact (or_tail_begins (And (Not (Compare (Sum (Product Operand))))))
 
 pub not_shorter : Shorter (expect symbol.Not)
 not_shorter = accept_shorter (says (is symbol.Not))

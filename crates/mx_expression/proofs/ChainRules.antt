@@ -20,14 +20,14 @@ use Rattle.mx_grammar.specs.Words.{is}
 use Rattle.mx_grammar.specs.Grammar.{Parts}
 use Rattle.mx_grammar.specs.Reading.{Words, Parser, ◌>>=◌, pure, sees}
 use Rattle.mx_grammar.proofs.Exact.{Rel, Kinds, Stops, none, or, stops_none, Exists, Nothing, Never, Then, Either}
-use Rattle.mx_grammar.proofs.Symbols.{here, apart, at}
-use Rattle.mx_grammar.proofs.Rules.{Knot, Rule, plain, pure_rule, refuse_rule, any_rule, then_rule, iff_rule, map_rule, choose_rule, behind_rule, Mark, mark_rule, Behind, marked, mark, mapped, mapping, sees_mark, some_mapped, some_then, some_behind}
-use Rattle.mx_grammar.proofs.Lists.{BeginsWith, Chained, chain_rule}
+use Rattle.mx_grammar.proofs.Symbols.{here, apart, at, along}
+use Rattle.mx_grammar.proofs.Rules.{Knot, Rule, plain, pure_rule, refuse_rule, any_rule, then_rule, iff_rule, map_rule, choose_rule, behind_rule, Mark, mark_rule, Behind, marked, mark, mapped, mapping, sees_mark, some_mapped, some_then, some_behind, alone, single, alone_rule, some_alone, behind_is}
+use Rattle.mx_grammar.proofs.Lists.{BeginsWith, Chained, Chain, whole_chain_rule}
 use Rattle.mx_expression.specs.Chains.{ProductSign, ProductTail, Product, SumSign, SumTail, Sum, CompareSign, CompareTail, Compare, Nots, Not, AndTail, And, OrTail, Or}
 use Rattle.mx_expression.specs.ChainParsers as spec
 use Rattle.mx_expression.specs.ChainParsers.{one_of, product_op, product_part, product, sum_op, sum_part, sum, compare_op, none_test, comparison, compare, negated, and_part, both, or_part, either}
 use Rattle.mx_expression.proofs.TokenKinds.{after_signed, begins_signed, begins}
-use Rattle.mx_expression.proofs.Gather.{gathered, Gathered, gather_rule}
+use Rattle.mx_grammar.proofs.Gather.{gathered, Gathered, gather_rule}
 
 -- ---- symbols that say something
 
@@ -46,6 +46,16 @@ module _ {A : Type 0} where
   Differ [] = Unit {0}
   Differ (e ∷ es) = (is symbol.End (Symbol e.0) ≡ false) × NotIn e.0 es × Differ es
 
+  -- each of them spells what it says
+  abbrev Each : Rel A → List (Symbols × A) → Type 0
+  Each P [] = Unit {0}
+  Each P (e ∷ es) = P (Symbol e.0 ∷ []) e.1 × Each P es
+
+  to_each : (P : Rel A) (es : List (Symbols × A)) → Each P es → (u : Words) (a : A) → OneOf es u a → P u a
+  to_each P [] p u a h = absurd h
+  to_each P (e ∷ es) p u a (inl h) = single P e.0 e.1 p.0 u a h
+  to_each P (e ∷ es) p u a (inr h) = to_each P es p.1 u a h
+
   one_of_not : (s : Symbols) (es : List (Symbols × A)) → NotIn s es → (u rest : Words) (a : A) → OneOf es u a → sees (is s) (u ++ rest) ≡ false
   one_of_not s [] n u rest a h = absurd h
   one_of_not s (e ∷ es) n u rest a (inl h) = sees_mark e.0 (Nothing e.1) (is s) false n.0 u rest a h
@@ -54,18 +64,9 @@ module _ {A : Type 0} where
   one_of_rule : {E : Type 0} {K : Knot E} {k : ℕ} (es : List (Symbols × A)) → Differ es → Rule K k (plain none) (OneOf es) (λ _. one_of es)
   one_of_rule [] d = refuse_rule (plain none)
   one_of_rule (e ∷ es) d =
-      choose_rule (is e.0) (behind_rule e.0 d.0 (record { tokens = []; tree = e.1; spells = (refl, refl) }) (pure_rule (plain none) e.1)) (one_of_rule es d.2)
+      choose_rule (is e.0) (alone_rule e.0 e.1 d.0) (one_of_rule es d.2)
       (λ u rest a h s. sees_mark e.0 (Nothing e.1) (is e.0) true (here e.0) u rest a h)
       (λ u rest a h s. one_of_not e.0 es d.1 u rest a h)
-
--- a symbol that says something, alone
-single : {A : Type 0} (P : Rel A) (s : Symbols) (a : A) → P (Symbol s ∷ []) a → (u : Words) (b : A) → Behind s (Nothing a) u b → P u b
-single P s a h u b k =
-    let m = marked s (Nothing a) u b k in
-    subst (λ (v : Words). P v b) (sym (m.1 ∙ ap (λ (v : Words). Symbol s ∷ v) m.2.0)) (subst (P (Symbol s ∷ [])) (sym m.2.1) h)
-
-alone : {A : Type 0} (s : Symbols) (a : A) → Behind s (Nothing a) (Symbol s ∷ []) a
-alone s a = mark s (Nothing a) [] a (refl, refl)
 
 -- ---- a part behind an operator
 
@@ -78,20 +79,9 @@ abbrev Tailed : {A B : Type 0} → Rel A → Rel Expr → (A → Expr → B) →
 Tailed Sign S build = Then Sign (λ op. Then S (λ x. Nothing (build op x)))
 
 module _ {A B : Type 0} (Sign : Rel A) (S : Rel Expr) (build : A → Expr → B) where
-  record TailIs (u : Words) (b : B) : Type 0 where
-    left : Words
-    right : Words
-    op : A
-    part : Expr
-    parts : u ≡ left ++ right
-    sign : Sign left op
-    spells : S right part
-    tree : b ≡ build op part
-
-  tail_is : (u : Words) (b : B) → Tailed Sign S build u b → TailIs u b
-  tail_is u b h =
-      let p = mapped S (build h.tree) h.right b h.second in
-      record { left = h.left; right = h.right; op = h.tree; part = p.0; parts = h.parts; sign = h.first; spells = p.1; tree = p.2 }
+  tail_is : (R : Rel B) → ((u v : Words) (op : A) (x : Expr) → Sign u op → S v x → R (u ++ v) (build op x)) → (u : Words) (b : B) → Tailed Sign S build u b → R u b
+  tail_is R tail u b h =
+      let p = mapped S (build h.tree) h.right b h.second in subst (λ (w : Words). R w b) (sym h.parts) (subst (R (h.left ++ h.right)) (sym p.2) (tail h.left h.right h.tree p.0 h.first p.1))
 
   is_tail : (u v : Words) (op : A) (x : Expr) → Sign u op → S v x → Tailed Sign S build (u ++ v) (build op x)
   is_tail u v op x h k = record { left = u; right = v; tree = op; parts = refl; first = h; second = mapping S (build op) v x k }
@@ -106,22 +96,8 @@ abbrev pub after_product : Kinds
 after_product = or spec.is_product after_signed
 
 product_off : (t : Word) → spec.is_product t ≡ true → after_signed t ≡ false
-product_off (Symbol symbol.OpenRound) h = absurd cc
-product_off (Symbol symbol.OpenSquare) h = absurd cc
-product_off (Symbol symbol.Dot) h = absurd cc
-product_off (Symbol symbol.Power) h = absurd cc
-product_off (Symbol _) h = refl
-product_off (Name n) h = refl
-product_off (Int n) h = refl
-product_off (Fix z) h = refl
-product_off (Text t) h = refl
-
-to_product_sign : (u : Words) (op : ProductOp) → OneOf spec.product_ops u op → ProductSign u op
-to_product_sign u op (inl h) = single ProductSign symbol.Times products.Times ProductSign.times u op h
-to_product_sign u op (inr (inl h)) = single ProductSign symbol.Over products.Over ProductSign.over u op h
-to_product_sign u op (inr (inr (inl h))) = single ProductSign symbol.Floor products.Floor ProductSign.floor u op h
-to_product_sign u op (inr (inr (inr (inl h)))) = single ProductSign symbol.Rem products.Rem ProductSign.rem u op h
-to_product_sign u op (inr (inr (inr (inr h)))) = absurd h
+product_off (Symbol symbol.Times) h = cc
+product_off _ h = cc
 
 from_product_sign : (u : Words) (op : ProductOp) → ProductSign u op → OneOf spec.product_ops u op
 from_product_sign _ _ ProductSign.times = inl (alone symbol.Times products.Times)
@@ -131,14 +107,9 @@ from_product_sign _ _ ProductSign.rem = inr (inr (inr (inl (alone symbol.Rem pro
 
 product_op_rule : {E : Type 0} {K : Knot E} {k : ℕ} → Rule K k (plain none) ProductSign (λ _. product_op)
 unfolding product_op
-product_op_rule = iff_rule to_product_sign from_product_sign (one_of_rule spec.product_ops (refl, (refl, (refl, (refl, tt))), (refl, (refl, (refl, tt)), (refl, (refl, tt), (refl, tt, tt)))))
+product_op_rule = iff_rule (to_each ProductSign spec.product_ops (ProductSign.times, (ProductSign.over, (ProductSign.floor, (ProductSign.rem, tt))))) from_product_sign (one_of_rule spec.product_ops (refl, (refl, (refl, (refl, tt))), (refl, (refl, (refl, tt)), (refl, (refl, tt), (refl, tt, tt)))))
 
 module _ (S : Rel Expr) where
-  to_product_tail : (u : Words) (y : ProductPart) → Tailed ProductSign S spec.product_part_of u y → ProductTail S u y
-  to_product_tail u y h =
-      let t = tail_is ProductSign S spec.product_part_of u y h in
-      subst (λ (w : Words). ProductTail S w y) (sym t.parts) (subst (ProductTail S (t.left ++ t.right)) (sym t.tree) (ProductTail.tail t.sign t.spells))
-
   from_product_tail : (u : Words) (y : ProductPart) → ProductTail S u y → Tailed ProductSign S spec.product_part_of u y
   from_product_tail _ _ (ProductTail.tail {u} {v} {op} {x} h k) = is_tail ProductSign S spec.product_part_of u v op x h k
 
@@ -148,32 +119,21 @@ module _ (S : Rel Expr) where
   product_tail_begins _ rest _ (ProductTail.tail ProductSign.floor k) = refl
   product_tail_begins _ rest _ (ProductTail.tail ProductSign.rem k) = refl
 
-  product_by : (u v : Words) (x : Expr) (ys : List ProductPart) → S u x → Parts (ProductTail S) v ys → Product S (u ++ v) (spec.product_of x ys)
-  product_by u _ x _ a Parts.none = subst (λ (w : Words). Product S w x) (sym (append-nil u)) (Product.alone a)
-  product_by u _ x _ a (Parts.more h ps) = Product.chain a (Parts.more h ps)
-
-  to_product : (u : Words) (x : Expr) → Chained S (ProductTail S) spec.product_of u x → Product S u x
-  to_product u x c = subst (λ (w : Words). Product S w x) (sym c.parts) (subst (Product S (c.left ++ c.right)) (sym c.tree) (product_by c.left c.right c.head c.others c.first c.rest))
-
   from_product : (u : Words) (x : Expr) → Product S u x → Chained S (ProductTail S) spec.product_of u x
   from_product _ _ (Product.alone {u} {x} a) = record { left = u; right = []; head = x; others = []; parts = sym (append-nil u); first = a; rest = Parts.none; tree = refl }
   from_product _ _ (Product.chain {u} {v} {x} {y} {ys} a ps) = record { left = u; right = v; head = x; others = y ∷ ys; parts = refl; first = a; rest = ps; tree = refl }
 
-  pub product_starts : Starts S → Starts (Product S)
-  product_starts start _ rest _ (Product.alone {u} {x} a) = start u rest x a
-  product_starts start _ rest _ (Product.chain {u} {v} {x} a ps) = ap (sees begins_signed) (append_assoc u v rest) ∙ start u (v ++ rest) x a
-
-  pub some_product : Exists S → Exists (Product S)
-  some_product some = record { tokens = some.tokens; tree = some.tree; spells = Product.alone some.spells }
+  pub product_chain : Chain S (ProductTail S) spec.product_of (Product S)
+  product_chain = record { alone = λ u x a. Product.alone a; chain = λ u v x y ys a ps. Product.chain a ps; from = from_product }
 
 module _ {E : Type 0} {K : Knot E} {k : ℕ} {S : Rel Expr} {p : E → Parser Expr} (some : Exists S) (part : Rule K k (plain after_signed) S p) where
   pub product_part_rule : Rule K k (plain after_signed) (ProductTail S) (λ i. product_part (p i))
   unfolding product_part
-  product_part_rule = iff_rule (to_product_tail S) (from_product_tail S) (tail_rule ProductSign S spec.product_part_of some product_op_rule part)
+  product_part_rule = iff_rule (tail_is ProductSign S spec.product_part_of (ProductTail S) (λ u v op x h k. ProductTail.tail h k)) (from_product_tail S) (tail_rule ProductSign S spec.product_part_of some product_op_rule part)
 
   pub product_rule : Rule K k (plain after_product) (Product S) (λ i. product (p i))
   unfolding product
-  product_rule = iff_rule (to_product S) (from_product S) (chain_rule spec.is_product spec.product_of part product_part_rule (product_tail_begins S) product_off)
+  product_rule = whole_chain_rule (product_chain S) spec.is_product part product_part_rule (product_tail_begins S) product_off
 
 -- ---- sums
 
@@ -181,15 +141,8 @@ abbrev pub after_sum : Kinds
 after_sum = or spec.is_sum after_product
 
 sum_off : (t : Word) → spec.is_sum t ≡ true → after_product t ≡ false
-sum_off (Symbol symbol.Plus) h = refl
-sum_off (Symbol symbol.Minus) h = refl
-sum_off (Symbol _) h = absurd cc
-sum_off _ h = absurd cc
-
-to_sum_sign : (u : Words) (op : SumOp) → OneOf spec.sum_ops u op → SumSign u op
-to_sum_sign u op (inl h) = single SumSign symbol.Plus sums.Plus SumSign.plus u op h
-to_sum_sign u op (inr (inl h)) = single SumSign symbol.Minus sums.Minus SumSign.minus u op h
-to_sum_sign u op (inr (inr h)) = absurd h
+sum_off (Symbol symbol.Plus) h = cc
+sum_off _ h = cc
 
 from_sum_sign : (u : Words) (op : SumOp) → SumSign u op → OneOf spec.sum_ops u op
 from_sum_sign _ _ SumSign.plus = inl (alone symbol.Plus sums.Plus)
@@ -197,14 +150,9 @@ from_sum_sign _ _ SumSign.minus = inr (inl (alone symbol.Minus sums.Minus))
 
 sum_op_rule : {E : Type 0} {K : Knot E} {k : ℕ} → Rule K k (plain none) SumSign (λ _. sum_op)
 unfolding sum_op
-sum_op_rule = iff_rule to_sum_sign from_sum_sign (one_of_rule spec.sum_ops (refl, (refl, tt), (refl, tt, tt)))
+sum_op_rule = iff_rule (to_each SumSign spec.sum_ops (SumSign.plus, (SumSign.minus, tt))) from_sum_sign (one_of_rule spec.sum_ops (refl, (refl, tt), (refl, tt, tt)))
 
 module _ (S : Rel Expr) where
-  to_sum_tail : (u : Words) (y : SumPart) → Tailed SumSign S spec.sum_part_of u y → SumTail S u y
-  to_sum_tail u y h =
-      let t = tail_is SumSign S spec.sum_part_of u y h in
-      subst (λ (w : Words). SumTail S w y) (sym t.parts) (subst (SumTail S (t.left ++ t.right)) (sym t.tree) (SumTail.tail t.sign t.spells))
-
   from_sum_tail : (u : Words) (y : SumPart) → SumTail S u y → Tailed SumSign S spec.sum_part_of u y
   from_sum_tail _ _ (SumTail.tail {u} {v} {op} {x} h k) = is_tail SumSign S spec.sum_part_of u v op x h k
 
@@ -212,32 +160,21 @@ module _ (S : Rel Expr) where
   sum_tail_begins _ rest _ (SumTail.tail SumSign.plus k) = refl
   sum_tail_begins _ rest _ (SumTail.tail SumSign.minus k) = refl
 
-  sum_by : (u v : Words) (x : Expr) (ys : List SumPart) → S u x → Parts (SumTail S) v ys → Sum S (u ++ v) (spec.sum_of x ys)
-  sum_by u _ x _ a Parts.none = subst (λ (w : Words). Sum S w x) (sym (append-nil u)) (Sum.alone a)
-  sum_by u _ x _ a (Parts.more h ps) = Sum.chain a (Parts.more h ps)
-
-  to_sum : (u : Words) (x : Expr) → Chained S (SumTail S) spec.sum_of u x → Sum S u x
-  to_sum u x c = subst (λ (w : Words). Sum S w x) (sym c.parts) (subst (Sum S (c.left ++ c.right)) (sym c.tree) (sum_by c.left c.right c.head c.others c.first c.rest))
-
   from_sum : (u : Words) (x : Expr) → Sum S u x → Chained S (SumTail S) spec.sum_of u x
   from_sum _ _ (Sum.alone {u} {x} a) = record { left = u; right = []; head = x; others = []; parts = sym (append-nil u); first = a; rest = Parts.none; tree = refl }
   from_sum _ _ (Sum.chain {u} {v} {x} {y} {ys} a ps) = record { left = u; right = v; head = x; others = y ∷ ys; parts = refl; first = a; rest = ps; tree = refl }
 
-  pub sum_starts : Starts S → Starts (Sum S)
-  sum_starts start _ rest _ (Sum.alone {u} {x} a) = start u rest x a
-  sum_starts start _ rest _ (Sum.chain {u} {v} {x} a ps) = ap (sees begins_signed) (append_assoc u v rest) ∙ start u (v ++ rest) x a
-
-  pub some_sum : Exists S → Exists (Sum S)
-  some_sum some = record { tokens = some.tokens; tree = some.tree; spells = Sum.alone some.spells }
+  pub sum_chain : Chain S (SumTail S) spec.sum_of (Sum S)
+  sum_chain = record { alone = λ u x a. Sum.alone a; chain = λ u v x y ys a ps. Sum.chain a ps; from = from_sum }
 
 module _ {E : Type 0} {K : Knot E} {k : ℕ} {S : Rel Expr} {p : E → Parser Expr} (some : Exists S) (part : Rule K k (plain after_product) S p) where
   pub sum_part_rule : Rule K k (plain after_product) (SumTail S) (λ i. sum_part (p i))
   unfolding sum_part
-  sum_part_rule = iff_rule (to_sum_tail S) (from_sum_tail S) (tail_rule SumSign S spec.sum_part_of some sum_op_rule part)
+  sum_part_rule = iff_rule (tail_is SumSign S spec.sum_part_of (SumTail S) (λ u v op x h k. SumTail.tail h k)) (from_sum_tail S) (tail_rule SumSign S spec.sum_part_of some sum_op_rule part)
 
   pub sum_rule : Rule K k (plain after_sum) (Sum S) (λ i. sum (p i))
   unfolding sum
-  sum_rule = iff_rule (to_sum S) (from_sum S) (chain_rule spec.is_sum spec.sum_of part sum_part_rule (sum_tail_begins S) sum_off)
+  sum_rule = whole_chain_rule (sum_chain S) spec.is_sum part sum_part_rule (sum_tail_begins S) sum_off
 
 -- ---- comparisons
 
@@ -245,17 +182,8 @@ abbrev pub after_compare : Kinds
 after_compare = or spec.is_compare after_sum
 
 compare_off : (t : Word) → spec.is_compare t ≡ true → after_sum t ≡ false
-compare_off (Symbol symbol.Lt) h = refl
-compare_off (Symbol symbol.Le) h = refl
-compare_off (Symbol symbol.Gt) h = refl
-compare_off (Symbol symbol.Ge) h = refl
-compare_off (Symbol symbol.Eq) h = refl
-compare_off (Symbol symbol.Ne) h = refl
-compare_off (Symbol symbol.In) h = refl
-compare_off (Symbol symbol.Not) h = refl
-compare_off (Symbol symbol.Is) h = refl
-compare_off (Symbol _) h = absurd cc
-compare_off _ h = absurd cc
+compare_off (Symbol symbol.Lt) h = cc
+compare_off _ h = cc
 
 -- `not in`
 abbrev Outside : Rel CmpOp
@@ -268,14 +196,7 @@ to_compare_sign : (u : Words) (op : CmpOp) → CompareSignIs u op → CompareSig
 to_compare_sign u op (inl h) =
     let m = marked symbol.Not (Behind symbol.In (Nothing compares.NotIn)) u op h in
     subst (λ (w : Words). CompareSign w op) (sym m.1) (single (λ v o. CompareSign (Symbol symbol.Not ∷ v) o) symbol.In compares.NotIn CompareSign.outside m.0 op m.2)
-to_compare_sign u op (inr (inl h)) = single CompareSign symbol.Lt compares.Lt CompareSign.less u op h
-to_compare_sign u op (inr (inr (inl h))) = single CompareSign symbol.Le compares.Le CompareSign.at_most u op h
-to_compare_sign u op (inr (inr (inr (inl h)))) = single CompareSign symbol.Gt compares.Gt CompareSign.greater u op h
-to_compare_sign u op (inr (inr (inr (inr (inl h))))) = single CompareSign symbol.Ge compares.Ge CompareSign.at_least u op h
-to_compare_sign u op (inr (inr (inr (inr (inr (inl h)))))) = single CompareSign symbol.Eq compares.Eq CompareSign.equal u op h
-to_compare_sign u op (inr (inr (inr (inr (inr (inr (inl h))))))) = single CompareSign symbol.Ne compares.Ne CompareSign.unequal u op h
-to_compare_sign u op (inr (inr (inr (inr (inr (inr (inr (inl h)))))))) = single CompareSign symbol.In compares.In CompareSign.within u op h
-to_compare_sign u op (inr (inr (inr (inr (inr (inr (inr (inr h)))))))) = absurd h
+to_compare_sign u op (inr h) = to_each CompareSign spec.compare_ops (CompareSign.less, (CompareSign.at_most, (CompareSign.greater, (CompareSign.at_least, (CompareSign.equal, (CompareSign.unequal, (CompareSign.within, tt))))))) u op h
 
 from_compare_sign : (u : Words) (op : CmpOp) → CompareSign u op → CompareSignIs u op
 from_compare_sign _ _ CompareSign.less = inr (inl (alone symbol.Lt compares.Lt))
@@ -287,15 +208,12 @@ from_compare_sign _ _ CompareSign.unequal = inr (inr (inr (inr (inr (inr (inl (a
 from_compare_sign _ _ CompareSign.within = inr (inr (inr (inr (inr (inr (inr (inl (alone symbol.In compares.In))))))))
 from_compare_sign _ _ CompareSign.outside = inl (mark symbol.Not (Behind symbol.In (Nothing compares.NotIn)) (Symbol symbol.In ∷ []) compares.NotIn (alone symbol.In compares.NotIn))
 
-some_nothing : {A : Type 0} (a : A) → Exists (Nothing a)
-some_nothing a = record { tokens = []; tree = a; spells = (refl, refl) }
-
 compare_op_rule : {E : Type 0} {K : Knot E} {k : ℕ} → Rule K k (plain none) CompareSign (λ _. compare_op)
 unfolding compare_op
 compare_op_rule =
     iff_rule to_compare_sign from_compare_sign
     (choose_rule (is symbol.Not)
-    (behind_rule symbol.Not refl (some_behind symbol.In (some_nothing compares.NotIn)) (behind_rule symbol.In refl (some_nothing compares.NotIn) (pure_rule (plain none) compares.NotIn)))
+    (behind_rule symbol.Not refl (some_alone symbol.In compares.NotIn) (alone_rule symbol.In compares.NotIn refl))
     (one_of_rule spec.compare_ops (refl, (refl, (refl, (refl, (refl, (refl, (refl, tt)))))), (refl, (refl, (refl, (refl, (refl, (refl, tt))))), (refl, (refl, (refl, (refl, (refl, tt)))), (refl, (refl, (refl, (refl, tt))), (refl, (refl, (refl, tt)), (refl, (refl, tt), (refl, tt, tt))))))))
     (λ u rest op h s. sees_mark symbol.Not (Behind symbol.In (Nothing compares.NotIn)) (is symbol.Not) true refl u rest op h)
     (λ u rest op h s. one_of_not symbol.Not spec.compare_ops (refl, (refl, (refl, (refl, (refl, (refl, (refl, tt))))))) u rest op h))
@@ -318,31 +236,19 @@ unfolding none_test
 none_test_rule =
     behind_rule symbol.Is refl some_none_test
     (choose_rule (is symbol.Not)
-    (behind_rule symbol.Not refl (some_behind symbol.None (some_nothing made.IsNotNone)) (behind_rule symbol.None refl (some_nothing made.IsNotNone) (pure_rule (plain none) made.IsNotNone)))
-    (behind_rule symbol.None refl (some_nothing made.IsNone) (pure_rule (plain none) made.IsNone))
+    (behind_rule symbol.Not refl (some_alone symbol.None made.IsNotNone) (alone_rule symbol.None made.IsNotNone refl))
+    (alone_rule symbol.None made.IsNone refl)
     (λ u rest y h s. sees_mark symbol.Not (Behind symbol.None (Nothing made.IsNotNone)) (is symbol.Not) true refl u rest y h)
     (λ u rest y h s. sees_mark symbol.None (Nothing made.IsNone) (is symbol.Not) false refl u rest y h))
 
 -- no operator begins with `is`
 sign_not_is : (u rest : Words) (op : CmpOp) → CompareSign u op → sees (is symbol.Is) (u ++ rest) ≡ false
 sign_not_is _ rest _ CompareSign.less = refl
-sign_not_is _ rest _ CompareSign.at_most = refl
-sign_not_is _ rest _ CompareSign.greater = refl
-sign_not_is _ rest _ CompareSign.at_least = refl
-sign_not_is _ rest _ CompareSign.equal = refl
-sign_not_is _ rest _ CompareSign.unequal = refl
-sign_not_is _ rest _ CompareSign.within = refl
-sign_not_is _ rest _ CompareSign.outside = refl
+sign_not_is _ rest _ _ = refl
 
 sign_begins : (u rest : Words) (op : CmpOp) → CompareSign u op → sees spec.is_compare (u ++ rest) ≡ true
 sign_begins _ rest _ CompareSign.less = refl
-sign_begins _ rest _ CompareSign.at_most = refl
-sign_begins _ rest _ CompareSign.greater = refl
-sign_begins _ rest _ CompareSign.at_least = refl
-sign_begins _ rest _ CompareSign.equal = refl
-sign_begins _ rest _ CompareSign.unequal = refl
-sign_begins _ rest _ CompareSign.within = refl
-sign_begins _ rest _ CompareSign.outside = refl
+sign_begins _ rest _ _ = refl
 
 module _ (S : Rel Expr) where
   abbrev CompareTailIs : Rel Comparison
@@ -357,9 +263,7 @@ module _ (S : Rel Expr) where
             subst (λ (w : Words). CompareTail S (Symbol symbol.Is ∷ w) y) (sym n.1) (single (λ v o. CompareTail S (Symbol symbol.Is ∷ Symbol symbol.Not ∷ v) o) symbol.None made.IsNotNone CompareTail.some n.0 y n.2)
         | inr k ↦ single (λ v o. CompareTail S (Symbol symbol.Is ∷ v) o) symbol.None made.IsNone CompareTail.none m.0 y k
       ])
-  to_compare_tail u y (inr h) =
-      let t = tail_is CompareSign S made.Op u y h in
-      subst (λ (w : Words). CompareTail S w y) (sym t.parts) (subst (CompareTail S (t.left ++ t.right)) (sym t.tree) (CompareTail.tail t.sign t.spells))
+  to_compare_tail u y (inr h) = tail_is CompareSign S made.Op (CompareTail S) (λ v w op x k l. CompareTail.tail k l) u y h
 
   from_compare_tail : (u : Words) (y : Comparison) → CompareTail S u y → CompareTailIs u y
   from_compare_tail _ _ (CompareTail.tail {u} {v} {op} {x} h k) = inr (is_tail CompareSign S made.Op u v op x h k)
@@ -376,23 +280,12 @@ module _ (S : Rel Expr) where
   tailed_not_is : (u rest : Words) (y : Comparison) → Tailed CompareSign S made.Op u y → sees (is symbol.Is) (u ++ rest) ≡ false
   tailed_not_is u rest y h = ap (λ (w : Words). sees (is symbol.Is) (w ++ rest)) h.parts ∙ ap (sees (is symbol.Is)) (append_assoc h.left h.right rest) ∙ sign_not_is h.left (h.right ++ rest) h.tree h.first
 
-  compare_by : (u v : Words) (x : Expr) (ys : List Comparison) → S u x → Parts (CompareTail S) v ys → Compare S (u ++ v) (spec.compare_of x ys)
-  compare_by u _ x _ a Parts.none = subst (λ (w : Words). Compare S w x) (sym (append-nil u)) (Compare.alone a)
-  compare_by u _ x _ a (Parts.more h ps) = Compare.chain a (Parts.more h ps)
-
-  to_compare : (u : Words) (x : Expr) → Chained S (CompareTail S) spec.compare_of u x → Compare S u x
-  to_compare u x c = subst (λ (w : Words). Compare S w x) (sym c.parts) (subst (Compare S (c.left ++ c.right)) (sym c.tree) (compare_by c.left c.right c.head c.others c.first c.rest))
-
   from_compare : (u : Words) (x : Expr) → Compare S u x → Chained S (CompareTail S) spec.compare_of u x
   from_compare _ _ (Compare.alone {u} {x} a) = record { left = u; right = []; head = x; others = []; parts = sym (append-nil u); first = a; rest = Parts.none; tree = refl }
   from_compare _ _ (Compare.chain {u} {v} {x} {y} {ys} a ps) = record { left = u; right = v; head = x; others = y ∷ ys; parts = refl; first = a; rest = ps; tree = refl }
 
-  pub compare_starts : Starts S → Starts (Compare S)
-  compare_starts start _ rest _ (Compare.alone {u} {x} a) = start u rest x a
-  compare_starts start _ rest _ (Compare.chain {u} {v} {x} a ps) = ap (sees begins_signed) (append_assoc u v rest) ∙ start u (v ++ rest) x a
-
-  pub some_compare : Exists S → Exists (Compare S)
-  some_compare some = record { tokens = some.tokens; tree = some.tree; spells = Compare.alone some.spells }
+  pub compare_chain : Chain S (CompareTail S) spec.compare_of (Compare S)
+  compare_chain = record { alone = λ u x a. Compare.alone a; chain = λ u v x y ys a ps. Compare.chain a ps; from = from_compare }
 
 module _ {E : Type 0} {K : Knot E} {k : ℕ} {S : Rel Expr} {p : E → Parser Expr} (some : Exists S) (part : Rule K k (plain after_sum) S p) where
   pub comparison_rule : Rule K k (plain after_sum) (CompareTail S) (λ i. comparison (p i))
@@ -405,7 +298,7 @@ module _ {E : Type 0} {K : Knot E} {k : ℕ} {S : Rel Expr} {p : E → Parser Ex
 
   pub compare_rule : Rule K k (plain after_compare) (Compare S) (λ i. compare (p i))
   unfolding compare
-  compare_rule = iff_rule (to_compare S) (from_compare S) (chain_rule spec.is_compare spec.compare_of part comparison_rule (compare_tail_begins S) compare_off)
+  compare_rule = whole_chain_rule (compare_chain S) spec.is_compare part comparison_rule (compare_tail_begins S) compare_off
 
 -- ---- not
 
@@ -449,24 +342,12 @@ nots_rule : {E : Type 0} {K : Knot E} {k : ℕ} → Rule K k (plain (or (is symb
 nots_rule = iff_rule to_nots from_nots (gather_rule (is symbol.Not) spec.one_more (mark_rule symbol.Not refl) mark_begins (λ t h. refl) 0)
 
 no_not : (t : Word) → begins_signed t ≡ true → or (is symbol.Not) none t ≡ false
-no_not (Symbol symbol.Not) h = absurd cc
-no_not (Symbol _) h = refl
-no_not (Name n) h = refl
-no_not (Int n) h = refl
-no_not (Fix z) h = refl
-no_not (Text t) h = refl
+no_not (Symbol symbol.Not) h = cc
+no_not _ h = cc
 
 begins_too : (t : Word) → begins_signed t ≡ true → begins t ≡ true
 begins_too (Symbol symbol.Not) h = refl
-begins_too (Symbol _) h = h
-begins_too (Name n) h = refl
-begins_too (Int n) h = refl
-begins_too (Fix z) h = refl
-begins_too (Text t) h = refl
-
-along : (F G : Kinds) → ((t : Word) → F t ≡ true → G t ≡ true) → (ts : Words) → sees F ts ≡ true → sees G ts ≡ true
-along F G to [] h = absurd cc
-along F G to (t ∷ ts) h = to t h
+begins_too _ h = h
 
 -- each spelling of a part begins an expression
 abbrev pub Begins : Rel Expr → Type 0
@@ -517,75 +398,47 @@ abbrev pub after_either : Kinds
 after_either = or (is symbol.Or) after_and
 
 module _ (S : Rel Expr) where
-  to_and_tail : (u : Words) (y : Expr) → Behind symbol.And S u y → AndTail S u y
-  to_and_tail u y h = let m = marked symbol.And S u y h in subst (λ (w : Words). AndTail S w y) (sym m.1) (AndTail.tail m.2)
-
-  from_and_tail : (u : Words) (y : Expr) → AndTail S u y → Behind symbol.And S u y
-  from_and_tail _ _ (AndTail.tail {u} {x} h) = mark symbol.And S u x h
+  is_behind_and : (u : Words) (y : Expr) → AndTail S u y → Behind symbol.And S u y
+  is_behind_and _ _ (AndTail.tail {u} {x} h) = mark symbol.And S u x h
 
   pub and_tail_begins : BeginsWith (is symbol.And) (AndTail S)
   and_tail_begins _ rest _ (AndTail.tail h) = refl
-
-  and_by : (u v : Words) (x : Expr) (ys : List Expr) → S u x → Parts (AndTail S) v ys → And S (u ++ v) (spec.and_of x ys)
-  and_by u _ x _ a Parts.none = subst (λ (w : Words). And S w x) (sym (append-nil u)) (And.alone a)
-  and_by u _ x _ a (Parts.more h ps) = And.chain a (Parts.more h ps)
-
-  to_and : (u : Words) (x : Expr) → Chained S (AndTail S) spec.and_of u x → And S u x
-  to_and u x c = subst (λ (w : Words). And S w x) (sym c.parts) (subst (And S (c.left ++ c.right)) (sym c.tree) (and_by c.left c.right c.head c.others c.first c.rest))
 
   from_and : (u : Words) (x : Expr) → And S u x → Chained S (AndTail S) spec.and_of u x
   from_and _ _ (And.alone {u} {x} a) = record { left = u; right = []; head = x; others = []; parts = sym (append-nil u); first = a; rest = Parts.none; tree = refl }
   from_and _ _ (And.chain {u} {v} {x} {y} {ys} a ps) = record { left = u; right = v; head = x; others = y ∷ ys; parts = refl; first = a; rest = ps; tree = refl }
 
-  pub and_starts : Begins S → Begins (And S)
-  and_starts start _ rest _ (And.alone {u} {x} a) = start u rest x a
-  and_starts start _ rest _ (And.chain {u} {v} {x} a ps) = ap (sees begins) (append_assoc u v rest) ∙ start u (v ++ rest) x a
-
-  pub some_and : Exists S → Exists (And S)
-  some_and some = record { tokens = some.tokens; tree = some.tree; spells = And.alone some.spells }
+  pub and_chain : Chain S (AndTail S) spec.and_of (And S)
+  and_chain = record { alone = λ u x a. And.alone a; chain = λ u v x y ys a ps. And.chain a ps; from = from_and }
 
 module _ {E : Type 0} {K : Knot E} {k : ℕ} {S : Rel Expr} {p : E → Parser Expr} (some : Exists S) (part : Rule K k (plain after_compare) S p) where
   pub and_part_rule : Rule K k (plain after_compare) (AndTail S) (λ i. and_part (p i))
   unfolding and_part
-  and_part_rule = iff_rule (to_and_tail S) (from_and_tail S) (behind_rule symbol.And refl some part)
+  and_part_rule = iff_rule (behind_is symbol.And S (AndTail S) (λ u x h. AndTail.tail h)) (is_behind_and S) (behind_rule symbol.And refl some part)
 
   pub and_rule : Rule K k (plain after_and) (And S) (λ i. both (p i))
   unfolding both
-  and_rule = iff_rule (to_and S) (from_and S) (chain_rule (is symbol.And) spec.and_of part and_part_rule (and_tail_begins S) (at symbol.And after_compare false refl))
+  and_rule = whole_chain_rule (and_chain S) (is symbol.And) part and_part_rule (and_tail_begins S) (at symbol.And after_compare false refl)
 
 module _ (S : Rel Expr) where
-  to_or_tail : (u : Words) (y : Expr) → Behind symbol.Or S u y → OrTail S u y
-  to_or_tail u y h = let m = marked symbol.Or S u y h in subst (λ (w : Words). OrTail S w y) (sym m.1) (OrTail.tail m.2)
-
-  from_or_tail : (u : Words) (y : Expr) → OrTail S u y → Behind symbol.Or S u y
-  from_or_tail _ _ (OrTail.tail {u} {x} h) = mark symbol.Or S u x h
+  is_behind_or : (u : Words) (y : Expr) → OrTail S u y → Behind symbol.Or S u y
+  is_behind_or _ _ (OrTail.tail {u} {x} h) = mark symbol.Or S u x h
 
   pub or_tail_begins : BeginsWith (is symbol.Or) (OrTail S)
   or_tail_begins _ rest _ (OrTail.tail h) = refl
-
-  or_by : (u v : Words) (x : Expr) (ys : List Expr) → S u x → Parts (OrTail S) v ys → Or S (u ++ v) (spec.or_of x ys)
-  or_by u _ x _ a Parts.none = subst (λ (w : Words). Or S w x) (sym (append-nil u)) (Or.alone a)
-  or_by u _ x _ a (Parts.more h ps) = Or.chain a (Parts.more h ps)
-
-  to_or : (u : Words) (x : Expr) → Chained S (OrTail S) spec.or_of u x → Or S u x
-  to_or u x c = subst (λ (w : Words). Or S w x) (sym c.parts) (subst (Or S (c.left ++ c.right)) (sym c.tree) (or_by c.left c.right c.head c.others c.first c.rest))
 
   from_or : (u : Words) (x : Expr) → Or S u x → Chained S (OrTail S) spec.or_of u x
   from_or _ _ (Or.alone {u} {x} a) = record { left = u; right = []; head = x; others = []; parts = sym (append-nil u); first = a; rest = Parts.none; tree = refl }
   from_or _ _ (Or.chain {u} {v} {x} {y} {ys} a ps) = record { left = u; right = v; head = x; others = y ∷ ys; parts = refl; first = a; rest = ps; tree = refl }
 
-  pub or_starts : Begins S → Begins (Or S)
-  or_starts start _ rest _ (Or.alone {u} {x} a) = start u rest x a
-  or_starts start _ rest _ (Or.chain {u} {v} {x} a ps) = ap (sees begins) (append_assoc u v rest) ∙ start u (v ++ rest) x a
-
-  pub some_or : Exists S → Exists (Or S)
-  some_or some = record { tokens = some.tokens; tree = some.tree; spells = Or.alone some.spells }
+  pub or_chain : Chain S (OrTail S) spec.or_of (Or S)
+  or_chain = record { alone = λ u x a. Or.alone a; chain = λ u v x y ys a ps. Or.chain a ps; from = from_or }
 
 module _ {E : Type 0} {K : Knot E} {k : ℕ} {S : Rel Expr} {p : E → Parser Expr} (some : Exists S) (part : Rule K k (plain after_and) S p) where
   pub or_part_rule : Rule K k (plain after_and) (OrTail S) (λ i. or_part (p i))
   unfolding or_part
-  or_part_rule = iff_rule (to_or_tail S) (from_or_tail S) (behind_rule symbol.Or refl some part)
+  or_part_rule = iff_rule (behind_is symbol.Or S (OrTail S) (λ u x h. OrTail.tail h)) (is_behind_or S) (behind_rule symbol.Or refl some part)
 
   pub or_rule : Rule K k (plain after_either) (Or S) (λ i. either (p i))
   unfolding either
-  or_rule = iff_rule (to_or S) (from_or S) (chain_rule (is symbol.Or) spec.or_of part or_part_rule (or_tail_begins S) (at symbol.Or after_and false refl))
+  or_rule = whole_chain_rule (or_chain S) (is symbol.Or) part or_part_rule (or_tail_begins S) (at symbol.Or after_and false refl)

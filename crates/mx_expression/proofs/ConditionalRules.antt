@@ -11,14 +11,13 @@ use Rattle.mx_grammar.specs.Grammar.{Parts}
 use Rattle.mx_grammar.specs.Reading.{Words, Parser, ◌>>=◌, pure, sees}
 use Rattle.mx_grammar.proofs.Exact.{Rel, Kinds, Stops, or, Exists, Nothing, Then}
 use Rattle.mx_grammar.proofs.Symbols.{at}
-use Rattle.mx_grammar.proofs.Rules.{Knot, Rule, plain, then_rule, iff_rule, map_rule, behind_rule, Behind, marked, mark, mapped, mapping, sees_mark, some_mapped, some_then, some_behind}
+use Rattle.mx_grammar.proofs.Rules.{Knot, Rule, plain, then_rule, iff_rule, map_rule, behind_rule, Behind, marked, mark, mapped, mapping, sees_mark, some_mapped, some_then, some_behind, reached_rule}
 use Rattle.mx_grammar.proofs.Lists.{BeginsWith}
 use Rattle.mx_expression.specs.Chains.{ArmText, Conditional}
 use Rattle.mx_expression.specs.ChainParsers.{Armed, with_choice, choice_of, choice, unarmed, conditional_of, conditional}
 use Rattle.mx_expression.proofs.TokenKinds.{begins}
 use Rattle.mx_expression.proofs.ChainRules.{Begins}
-use Rattle.mx_expression.proofs.Reached.{reached_rule}
-use Rattle.mx_expression.proofs.Gather.{gathered, Gathered, some_gathered, gathered_stops, gather_rule}
+use Rattle.mx_grammar.proofs.Gather.{gathered, Gathered, some_gathered, gathered_stops, gather_rule}
 
 abbrev pub after_conditional : Kinds → Kinds
 after_conditional F = or (is symbol.If) F

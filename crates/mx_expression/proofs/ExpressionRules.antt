@@ -8,6 +8,7 @@ use Rattle.mx_grammar.specs.Reading.{Words, Parser, line}
 use Rattle.mx_grammar.proofs.Exact.{Rel, Kinds, Stops, none, Exists, refuse_exact}
 use Rattle.mx_grammar.proofs.Meets.{none_meets}
 use Rattle.mx_grammar.proofs.Rules.{Knot, Rule, plain, stops_rule}
+use Rattle.mx_grammar.proofs.Lists.{chain_begins, some_chain}
 use Rattle.mx_grammar.proofs.LoopCode.{Within as WithinText}
 use Rattle.mx_grammar.proofs.Lines.{line_rule, some_line}
 use Rattle.mx_grammar.proofs.Texts.{Exactly}
@@ -17,10 +18,10 @@ use Rattle.mx_expression.specs.Expressions.{OrOf, Ors, Expressions, expression_t
 use Rattle.mx_expression.specs.ChainParsers.{product, sum, compare, negated, both, either, or_from, conditional}
 use Rattle.mx_expression.specs.ExpressionParsers.{ors, expression, signed}
 use Rattle.mx_expression.proofs.TokenKinds as kinds
-use Rattle.mx_expression.proofs.TokenKinds.{after_signed, after_or}
+use Rattle.mx_expression.proofs.TokenKinds.{after_signed, after_or, begins_signed}
 use Rattle.mx_expression.proofs.OperandAtoms.{between, Brackets}
 use Rattle.mx_expression.proofs.OperandRules.{signed_rule, signed_begins, some_signed}
-use Rattle.mx_expression.proofs.ChainRules.{Starts, Begins, after_product, after_sum, after_compare, after_and, after_either, product_rule, product_starts, some_product, sum_rule, sum_starts, some_sum, compare_rule, compare_starts, some_compare, not_rule, not_begins, some_not, and_rule, and_starts, some_and, or_rule, or_starts, some_or}
+use Rattle.mx_expression.proofs.ChainRules.{Starts, Begins, after_product, after_sum, after_compare, after_and, after_either, product_chain, product_rule, sum_chain, sum_rule, compare_chain, compare_rule, some_not, not_rule, not_begins, and_chain, and_rule, or_chain, or_rule}
 use Rattle.mx_expression.proofs.ConditionalRules.{after_conditional, conditional_rule, conditional_begins, has_part, some_conditional}
 
 -- what may not follow an expression, and what begins one
@@ -33,32 +34,8 @@ begins = kinds.begins
 -- ---- tokens
 
 ends_or : (t : Word) → after_or t ≡ false → after_either t ≡ false
-ends_or (Symbol symbol.Times) h = absurd cc
-ends_or (Symbol symbol.Over) h = absurd cc
-ends_or (Symbol symbol.Floor) h = absurd cc
-ends_or (Symbol symbol.Rem) h = absurd cc
-ends_or (Symbol symbol.Plus) h = absurd cc
-ends_or (Symbol symbol.Minus) h = absurd cc
-ends_or (Symbol symbol.Lt) h = absurd cc
-ends_or (Symbol symbol.Le) h = absurd cc
-ends_or (Symbol symbol.Gt) h = absurd cc
-ends_or (Symbol symbol.Ge) h = absurd cc
-ends_or (Symbol symbol.Eq) h = absurd cc
-ends_or (Symbol symbol.Ne) h = absurd cc
-ends_or (Symbol symbol.In) h = absurd cc
-ends_or (Symbol symbol.Is) h = absurd cc
-ends_or (Symbol symbol.Not) h = absurd cc
-ends_or (Symbol symbol.And) h = absurd cc
-ends_or (Symbol symbol.Or) h = absurd cc
-ends_or (Symbol symbol.OpenRound) h = absurd cc
-ends_or (Symbol symbol.OpenSquare) h = absurd cc
-ends_or (Symbol symbol.Dot) h = absurd cc
-ends_or (Symbol symbol.Power) h = absurd cc
-ends_or (Symbol _) h = refl
-ends_or (Name n) h = refl
-ends_or (Int n) h = refl
-ends_or (Fix z) h = refl
-ends_or (Text t) h = refl
+ends_or (Symbol symbol.Times) h = cc
+ends_or _ h = cc
 
 or_stops : (ts : Words) → Stops after_or ts → Stops after_either ts
 or_stops [] h = refl
@@ -67,10 +44,7 @@ or_stops (t ∷ ts) h = ends_or t h
 ends_conditional : (t : Word) → follows t ≡ false → after_conditional after_or t ≡ false
 ends_conditional (Symbol symbol.If) h = absurd cc
 ends_conditional (Symbol _) h = h
-ends_conditional (Name n) h = refl
-ends_conditional (Int n) h = refl
-ends_conditional (Fix z) h = refl
-ends_conditional (Text t) h = refl
+ends_conditional _ h = refl
 
 conditional_stops : (ts : Words) → Stops follows ts → Stops (after_conditional after_or) ts
 conditional_stops [] h = refl
@@ -78,34 +52,50 @@ conditional_stops (t ∷ ts) h = ends_conditional t h
 
 -- ---- an `or` from its operands
 
+module _ {S : Rel Expr} (some : Exists S) where
+  pub some_product : Exists (Product S)
+  some_product = some_chain (product_chain S) some
+
+  pub some_sum : Exists (Sum (Product S))
+  some_sum = some_chain (sum_chain (Product S)) some_product
+
+  some_compare : Exists (Compare (Sum (Product S)))
+  some_compare = some_chain (compare_chain (Sum (Product S))) some_sum
+
+  pub some_negation : Exists (Not (Compare (Sum (Product S))))
+  some_negation = some_not (Compare (Sum (Product S))) some_compare
+
+  pub some_conjunction : Exists (And (Not (Compare (Sum (Product S)))))
+  some_conjunction = some_chain (and_chain (Not (Compare (Sum (Product S))))) some_negation
+
+  some_or_of : Exists (OrOf S)
+  some_or_of = some_chain (or_chain (And (Not (Compare (Sum (Product S)))))) some_conjunction
+
+module _ {S : Rel Expr} (start : Starts S) where
+  compares_start : Starts (Compare (Sum (Product S)))
+  compares_start = chain_begins (compare_chain (Sum (Product S))) begins_signed (chain_begins (sum_chain (Product S)) begins_signed (chain_begins (product_chain S) begins_signed start))
+
+  or_begins : Begins (OrOf S)
+  or_begins = chain_begins (or_chain (And (Not (Compare (Sum (Product S)))))) begins (chain_begins (and_chain (Not (Compare (Sum (Product S))))) begins (not_begins (Compare (Sum (Product S))) compares_start))
+
 module _ {E : Type 0} {K : Knot E} {k : ℕ} {S : Rel Expr} {p : E → Parser Expr} (some : Exists S) (start : Starts S) (operand : Rule K k (plain after_signed) S p) where
   pub products : Rule K k (plain after_product) (Product S) (λ i. product (p i))
   products = product_rule some operand
 
   pub sums : Rule K k (plain after_sum) (Sum (Product S)) (λ i. sum (product (p i)))
-  sums = sum_rule (some_product S some) products
+  sums = sum_rule (some_product some) products
 
-  pub compares : Rule K k (plain after_compare) (Compare (Sum (Product S))) (λ i. compare (sum (product (p i))))
-  compares = compare_rule (some_sum (Product S) (some_product S some)) sums
+  compares : Rule K k (plain after_compare) (Compare (Sum (Product S))) (λ i. compare (sum (product (p i))))
+  compares = compare_rule (some_sum some) sums
 
   pub negations : Rule K k (plain after_compare) (Not (Compare (Sum (Product S)))) (λ i. negated (compare (sum (product (p i)))))
-  negations = not_rule (some_compare (Sum (Product S)) (some_sum (Product S) (some_product S some))) (compare_starts (Sum (Product S)) (sum_starts (Product S) (product_starts S start))) compares
+  negations = not_rule (some_compare some) (compares_start start) compares
 
   pub boths : Rule K k (plain after_and) (And (Not (Compare (Sum (Product S))))) (λ i. both (negated (compare (sum (product (p i))))))
-  boths = and_rule (some_not (Compare (Sum (Product S))) (some_compare (Sum (Product S)) (some_sum (Product S) (some_product S some)))) negations
+  boths = and_rule (some_negation some) negations
 
-  pub or_of_rule : Rule K k (plain after_or) (OrOf S) (λ i. or_from (p i))
-  or_of_rule =
-      stops_rule (λ u rest x h s. or_stops rest s)
-      (or_rule (some_and (Not (Compare (Sum (Product S)))) (some_not (Compare (Sum (Product S))) (some_compare (Sum (Product S)) (some_sum (Product S) (some_product S some))))) boths)
-
-or_begins : (S : Rel Expr) → Starts S → Begins (OrOf S)
-or_begins S start =
-    or_starts (And (Not (Compare (Sum (Product S))))) (and_starts (Not (Compare (Sum (Product S)))) (not_begins (Compare (Sum (Product S))) (compare_starts (Sum (Product S)) (sum_starts (Product S) (product_starts S start)))))
-
-some_or_of : (S : Rel Expr) → Exists S → Exists (OrOf S)
-some_or_of S some =
-    some_or (And (Not (Compare (Sum (Product S))))) (some_and (Not (Compare (Sum (Product S)))) (some_not (Compare (Sum (Product S))) (some_compare (Sum (Product S)) (some_sum (Product S) (some_product S some)))))
+  or_of_rule : Rule K k (plain after_or) (OrOf S) (λ i. or_from (p i))
+  or_of_rule = stops_rule (λ u rest x h s. or_stops rest s) (or_rule (some_conjunction some) boths)
 
 -- ---- all levels
 
@@ -114,13 +104,13 @@ between_expressions = between
 
 ors_begin : (d : ℕ) → Begins (Ors d)
 ors_begin zero u rest x h = absurd h
-ors_begin (suc d) u rest x h = or_begins (SignedOf (Expressions d) (Ors d)) (signed_begins (Expressions d) (Ors d)) u rest x h
+ors_begin (suc d) u rest x h = or_begins (signed_begins (Expressions d) (Ors d)) u rest x h
 
 pub expressions_begin : (d : ℕ) → Begins (Expressions d)
 expressions_begin d = conditional_begins after_or (Ors d) (ors_begin d)
 
 some_ors : (d : ℕ) → Exists (Ors (suc d))
-some_ors d = some_or_of (SignedOf (Expressions d) (Ors d)) (some_signed (Expressions d) (Ors d))
+some_ors d = some_or_of (some_signed (Expressions d) (Ors d))
 
 pub some_expression : (d : ℕ) → Exists (Expressions (suc d))
 some_expression d = some_conditional after_or (Ors (suc d)) (some_ors d)

@@ -1,12 +1,9 @@
 pub mod TokenKinds
-pub mod Reached
-pub mod OperandLists
 pub mod OperandAtoms
 pub mod OperandTrailers
 pub mod OperandRules
 pub mod ManyCode
 pub mod OperandCode
-pub mod Gather
 pub mod ChainRules
 pub mod ConditionalRules
 pub mod ExpressionRules

@@ -14,9 +14,9 @@ use Rattle.mx_grammar.specs.Words.{is}
 use Rattle.mx_grammar.specs.Grammar.{Parts}
 use Rattle.mx_grammar.specs.Reading.{Words, Parser, sees}
 use Rattle.mx_grammar.proofs.Exact.{Rel, Kinds, Stops, none, or, Exists, Nothing, Then, Either}
-use Rattle.mx_grammar.proofs.Symbols.{apart, at}
-use Rattle.mx_grammar.proofs.Rules.{Knot, Rule, plain, pure_rule, then_rule, iff_rule, stops_rule, map_rule, choose_rule, behind_rule, Behind, marked, mark, mapped, mapping, sees_mark, some_mapped, some_then}
-use Rattle.mx_grammar.proofs.Lists.{Chained, chain_rule, many_rule}
+use Rattle.mx_grammar.proofs.Symbols.{apart, at, along}
+use Rattle.mx_grammar.proofs.Rules.{Knot, Rule, plain, pure_rule, then_rule, iff_rule, stops_rule, map_rule, choose_rule, behind_rule, Behind, marked, mark, mapped, mapping, sees_mark, some_mapped, some_then, alone, single, alone_rule}
+use Rattle.mx_grammar.proofs.Lists.{BeginsWith, Chained, Chain, chain_begins, some_chain, whole_chain_rule, many_rule}
 use Rattle.mx_expression.specs.Operands.{Atom, Trailing, Post, OneSign, PowerTail, Power, SignedOf}
 use Rattle.mx_expression.specs.OperandParsers.{begins_trailer, is_sign, one_sign, post_of, power_of, signed_by, power_part_of, signs, post, power_part, power, signed_of}
 use Rattle.mx_expression.proofs.TokenKinds.{after_signed, begins_signed}
@@ -32,40 +32,16 @@ abbrev after_power : Kinds
 after_power = or (is symbol.Power) after_post
 
 no_sign : (t : Word) → begins_atom t ≡ true → or is_sign none t ≡ false
-no_sign (Symbol symbol.Plus) h = absurd cc
-no_sign (Symbol symbol.Minus) h = absurd cc
-no_sign (Symbol _) h = refl
-no_sign (Int n) h = refl
-no_sign (Fix z) h = refl
-no_sign (Text t) h = refl
-no_sign (Name n) h = refl
+no_sign (Symbol symbol.Plus) h = cc
+no_sign _ h = cc
 
 atom_first : (t : Word) → begins_atom t ≡ true → begins_signed t ≡ true
-atom_first (Symbol symbol.None) h = refl
-atom_first (Symbol symbol.True) h = refl
-atom_first (Symbol symbol.False) h = refl
-atom_first (Symbol symbol.OpenRound) h = refl
-atom_first (Symbol _) h = absurd cc
-atom_first (Int n) h = refl
-atom_first (Fix z) h = refl
-atom_first (Text t) h = refl
-atom_first (Name n) h = refl
-
--- what is of one kind is of another
-along : (F G : Kinds) → ((t : Word) → F t ≡ true → G t ≡ true) → (ts : Words) → sees F ts ≡ true → sees G ts ≡ true
-along F G to [] h = absurd cc
-along F G to (t ∷ ts) h = to t h
+atom_first (Symbol symbol.None) h = cc
+atom_first _ h = cc
 
 ends_power : (t : Word) → after_signed t ≡ false → after_power t ≡ false
-ends_power (Symbol symbol.OpenRound) h = absurd cc
-ends_power (Symbol symbol.OpenSquare) h = absurd cc
-ends_power (Symbol symbol.Dot) h = absurd cc
-ends_power (Symbol symbol.Power) h = absurd cc
-ends_power (Symbol _) h = refl
-ends_power (Int n) h = refl
-ends_power (Fix z) h = refl
-ends_power (Text t) h = refl
-ends_power (Name n) h = refl
+ends_power (Symbol symbol.OpenRound) h = cc
+ends_power _ h = cc
 
 power_stops : (ts : Words) → Stops after_signed ts → Stops after_power ts
 power_stops [] h = refl
@@ -77,23 +53,19 @@ abbrev SignIs : Rel Sign
 SignIs = Either (Behind symbol.Plus (Nothing sign.Plus)) (Behind symbol.Minus (Nothing sign.Minus))
 
 to_sign : (u : Words) (s : Sign) → SignIs u s → OneSign u s
-to_sign u s (inl h) =
-    let m = marked symbol.Plus (Nothing sign.Plus) u s h in
-    subst (λ (v : Words). OneSign v s) (sym (m.1 ∙ ap (λ (v : Words). Symbol symbol.Plus ∷ v) m.2.0)) (subst (OneSign (Symbol symbol.Plus ∷ [])) (sym m.2.1) OneSign.plus)
-to_sign u s (inr h) =
-    let m = marked symbol.Minus (Nothing sign.Minus) u s h in
-    subst (λ (v : Words). OneSign v s) (sym (m.1 ∙ ap (λ (v : Words). Symbol symbol.Minus ∷ v) m.2.0)) (subst (OneSign (Symbol symbol.Minus ∷ [])) (sym m.2.1) OneSign.minus)
+to_sign u s (inl h) = single OneSign symbol.Plus sign.Plus OneSign.plus u s h
+to_sign u s (inr h) = single OneSign symbol.Minus sign.Minus OneSign.minus u s h
 
 from_sign : (u : Words) (s : Sign) → OneSign u s → SignIs u s
-from_sign _ _ OneSign.plus = inl (mark symbol.Plus (Nothing sign.Plus) [] sign.Plus (refl, refl))
-from_sign _ _ OneSign.minus = inr (mark symbol.Minus (Nothing sign.Minus) [] sign.Minus (refl, refl))
+from_sign _ _ OneSign.plus = inl (alone symbol.Plus sign.Plus)
+from_sign _ _ OneSign.minus = inr (alone symbol.Minus sign.Minus)
 
 pub sign_rule : {E : Type 0} {K : Knot E} {k : ℕ} → Rule K k (plain none) OneSign (λ _. one_sign)
 unfolding one_sign
 sign_rule =
     iff_rule to_sign from_sign
-    (choose_rule (is symbol.Plus) (behind_rule symbol.Plus refl (record { tokens = []; tree = sign.Plus; spells = (refl, refl) }) (pure_rule (plain none) sign.Plus))
-    (behind_rule symbol.Minus refl (record { tokens = []; tree = sign.Minus; spells = (refl, refl) }) (pure_rule (plain none) sign.Minus))
+    (choose_rule (is symbol.Plus) (alone_rule symbol.Plus sign.Plus refl)
+    (alone_rule symbol.Minus sign.Minus refl)
     (λ u rest s h t. sees_mark symbol.Plus (Nothing sign.Plus) (is symbol.Plus) true refl u rest s h)
     (λ u rest s h t. sees_mark symbol.Minus (Nothing sign.Minus) (is symbol.Plus) false refl u rest s h))
 
@@ -112,20 +84,15 @@ signs_begin _ rest _ s others (Parts.more OneSign.minus ps) e = refl
 module _ (Inside In : Rel Expr) where
   -- ---- calls, subscripts and attributes behind an atom
 
-  post_by : (u v : Words) (x : Expr) (ys : List Trailer) → Atom Inside u x → Parts (Trailing Inside In) v ys → Post Inside In (u ++ v) (post_of x ys)
-  post_by u _ x _ a Parts.none = subst (λ (w : Words). Post Inside In w x) (sym (append-nil u)) (Post.alone a)
-  post_by u _ x _ a (Parts.more h ps) = Post.chain a (Parts.more h ps)
-
-  to_post : (u : Words) (x : Expr) → Chained (Atom Inside) (Trailing Inside In) post_of u x → Post Inside In u x
-  to_post u x c = subst (λ (w : Words). Post Inside In w x) (sym c.parts) (subst (Post Inside In (c.left ++ c.right)) (sym c.tree) (post_by c.left c.right c.head c.others c.first c.rest))
-
   from_post : (u : Words) (x : Expr) → Post Inside In u x → Chained (Atom Inside) (Trailing Inside In) post_of u x
   from_post _ _ (Post.alone {u} {x} a) = record { left = u; right = []; head = x; others = []; parts = sym (append-nil u); first = a; rest = Parts.none; tree = refl }
   from_post _ _ (Post.chain {u} {v} {x} {y} {ys} a ps) = record { left = u; right = v; head = x; others = y ∷ ys; parts = refl; first = a; rest = ps; tree = refl }
 
-  post_begins : (u rest : Words) (x : Expr) → Post Inside In u x → sees begins_atom (u ++ rest) ≡ true
-  post_begins _ rest _ (Post.alone {u} {x} a) = atom_begins Inside u rest x a
-  post_begins _ rest _ (Post.chain {u} {v} {x} a ps) = ap (sees begins_atom) (append_assoc u v rest) ∙ atom_begins Inside u (v ++ rest) x a
+  post_chain : Chain (Atom Inside) (Trailing Inside In) post_of (Post Inside In)
+  post_chain = record { alone = λ u x a. Post.alone a; chain = λ u v x y ys a ps. Post.chain a ps; from = from_post }
+
+  post_begins : BeginsWith begins_atom (Post Inside In)
+  post_begins = chain_begins post_chain begins_atom (atom_begins Inside)
 
   some_post : Exists (Post Inside In)
   some_post = record { tokens = Name [] ∷ []; tree = expr.Name []; spells = Post.alone Atom.name }
@@ -149,23 +116,18 @@ module _ (Inside In : Rel Expr) where
   pub tail_begins : (u rest : Words) (y : PowerPart) → PowerTail Inside In u y → sees (is symbol.Power) (u ++ rest) ≡ true
   tail_begins _ rest _ (PowerTail.power h p) = refl
 
-  power_by : (u v : Words) (x : Expr) (ys : List PowerPart) → Post Inside In u x → Parts (PowerTail Inside In) v ys → Power Inside In (u ++ v) (power_of x ys)
-  power_by u _ x _ a Parts.none = subst (λ (w : Words). Power Inside In w x) (sym (append-nil u)) (Power.alone a)
-  power_by u _ x _ a (Parts.more h ps) = Power.chain a (Parts.more h ps)
-
-  to_power : (u : Words) (x : Expr) → Chained (Post Inside In) (PowerTail Inside In) power_of u x → Power Inside In u x
-  to_power u x c = subst (λ (w : Words). Power Inside In w x) (sym c.parts) (subst (Power Inside In (c.left ++ c.right)) (sym c.tree) (power_by c.left c.right c.head c.others c.first c.rest))
-
   from_power : (u : Words) (x : Expr) → Power Inside In u x → Chained (Post Inside In) (PowerTail Inside In) power_of u x
   from_power _ _ (Power.alone {u} {x} a) = record { left = u; right = []; head = x; others = []; parts = sym (append-nil u); first = a; rest = Parts.none; tree = refl }
   from_power _ _ (Power.chain {u} {v} {x} {y} {ys} a ps) = record { left = u; right = v; head = x; others = y ∷ ys; parts = refl; first = a; rest = ps; tree = refl }
 
-  power_begins : (u rest : Words) (x : Expr) → Power Inside In u x → sees begins_atom (u ++ rest) ≡ true
-  power_begins _ rest _ (Power.alone {u} {x} a) = post_begins u rest x a
-  power_begins _ rest _ (Power.chain {u} {v} {x} a ps) = ap (sees begins_atom) (append_assoc u v rest) ∙ post_begins u (v ++ rest) x a
+  power_chain : Chain (Post Inside In) (PowerTail Inside In) power_of (Power Inside In)
+  power_chain = record { alone = λ u x a. Power.alone a; chain = λ u v x y ys a ps. Power.chain a ps; from = from_power }
+
+  power_begins : BeginsWith begins_atom (Power Inside In)
+  power_begins = chain_begins power_chain begins_atom post_begins
 
   some_power : Exists (Power Inside In)
-  some_power = record { tokens = Name [] ∷ []; tree = expr.Name []; spells = Power.alone (Post.alone Atom.name) }
+  some_power = some_chain power_chain some_post
 
   -- ---- signs before a power
 
@@ -193,7 +155,7 @@ module _ (Inside In : Rel Expr) where
   some_signed = record { tokens = Name [] ∷ []; tree = expr.Name []; spells = SignedOf.alone (Power.alone (Post.alone Atom.name)) }
 
   -- no sign begins a part of a power, or what is made of it
-  part_stops : {A : Type 0} (R : Rel Expr) (build : Expr → A) → ((u rest : Words) (x : Expr) → R u x → sees begins_atom (u ++ rest) ≡ true)
+  part_stops : {A : Type 0} (R : Rel Expr) (build : Expr → A) → BeginsWith begins_atom R
       → (v rest : Words) (y : A) → Then R (λ x. Nothing (build x)) v y → Stops (or is_sign none) (v ++ rest)
   part_stops R build start v rest y h = let m = mapped R build v y h in apart begins_atom (or is_sign none) no_sign (v ++ rest) (start v rest m.0 m.1)
 
@@ -202,7 +164,7 @@ module _ (Inside In : Rel Expr) where
 module _ {d m : ℕ} {Inside In : Rel Expr} {inside inner : ℕ → Parser Expr} (b : Brackets d m Inside In inside inner) where
   pub post_rule : Rule (between d m) (suc d) (plain after_post) (Post Inside In) (λ i. post i (inside i) (inner i))
   unfolding post
-  post_rule = iff_rule (to_post Inside In) (from_post Inside In) (chain_rule begins_trailer post_of (atom_rule b) (trailer_rule b) (trailing_begins Inside In) (λ t h. refl))
+  post_rule = whole_chain_rule (post_chain Inside In) begins_trailer (atom_rule b) (trailer_rule b) (trailing_begins Inside In) (λ t h. refl)
 
   pub power_part_rule : Rule (between d m) (suc d) (plain after_post) (PowerTail Inside In) (λ i. power_part i (inside i) (inner i))
   unfolding power_part
@@ -213,7 +175,7 @@ module _ {d m : ℕ} {Inside In : Rel Expr} {inside inner : ℕ → Parser Expr}
 
   pub power_rule : Rule (between d m) (suc d) (plain after_power) (Power Inside In) (λ i. power i (inside i) (inner i))
   unfolding power
-  power_rule = iff_rule (to_power Inside In) (from_power Inside In) (chain_rule (is symbol.Power) power_of post_rule power_part_rule (tail_begins Inside In) (at symbol.Power after_post false refl))
+  power_rule = whole_chain_rule (power_chain Inside In) (is symbol.Power) post_rule power_part_rule (tail_begins Inside In) (at symbol.Power after_post false refl)
 
   pub signed_rule : Rule (between d m) (suc d) (plain after_signed) (SignedOf Inside In) (λ i. signed_of i (inside i) (inner i))
   unfolding signed_of
@@ -221,7 +183,3 @@ module _ {d m : ℕ} {Inside In : Rel Expr} {inside inner : ℕ → Parser Expr}
       stops_rule (λ u rest x h s. power_stops rest s)
       (iff_rule (to_signed Inside In) (from_signed Inside In)
       (then_rule signs_rule (λ ss. map_rule (signed_by ss) power_rule) (λ ss v rest y h s. part_stops Inside In (Power Inside In) (signed_by ss) (power_begins Inside In) v rest y h) (λ ss. some_mapped (signed_by ss) (some_power Inside In))))
-
-  -- no more tokens are left than before
-  pub signed_within : (ts rest : Words) (x : Expr) → signed_of d (inside d) (inner d) ts ≡ Ok (x, rest) → length rest ≤ length ts
-  signed_within = signed_rule.meets.within

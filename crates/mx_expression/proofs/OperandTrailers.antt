@@ -13,15 +13,13 @@ use Rattle.mx_grammar.specs.Reading.{Words, Parser, ◌>>=◌, ◌>>◌, pure, r
 use Rattle.mx_grammar.specs.AddressParsers.{name_of}
 use Rattle.mx_grammar.proofs.Exact.{Rel, Kinds, Stops, none, stops_none, or, or_stops, Exists, Nothing, Never, Then, Either, One, iff_exact, refuse_exact}
 use Rattle.mx_grammar.proofs.Meets.{Meets}
-use Rattle.mx_grammar.proofs.Rules.{Rule, plain, pure_rule, accept_rule, then_rule, iff_rule, stops_rule, map_rule, choose_rule, behind_rule, open_rule, Behind, marked, mark, mapped, mapping, some_mapped, some_then, some_behind, sees_mark}
-use Rattle.mx_grammar.proofs.Lists.{SomeClosed, some_listed_rule}
+use Rattle.mx_grammar.proofs.Rules.{Rule, plain, pure_rule, accept_rule, then_rule, iff_rule, stops_rule, map_rule, choose_rule, behind_rule, open_rule, Behind, marked, mark, mapped, mapping, some_mapped, some_then, some_behind, sees_mark, reached_rule, alone, marked_alone, alone_rule}
+use Rattle.mx_grammar.proofs.Lists.{SomeClosed, some_listed_rule, Others, others, some_others, others_are, others_rule}
 use Rattle.mx_grammar.proofs.AddressRules.{name_inner, one_name, named}
 use Rattle.mx_expression.specs.declared.tree.Source.{Source}
 use Rattle.mx_expression.specs.Operands.{Test, Arguments, Trailing}
 use Rattle.mx_expression.specs.OperandParsers.{begins_trailer, test_of, source_of, source, generator_of, generator, arguments_rest, arguments, subscripts, trailer}
 use Rattle.mx_expression.proofs.TokenKinds.{follows, after_or}
-use Rattle.mx_expression.proofs.Reached.{reached_rule}
-use Rattle.mx_expression.proofs.OperandLists.{Others, others, some_others, others_are, others_rule}
 use Rattle.mx_expression.proofs.OperandAtoms.{between, Brackets, closes_round, closes_square, opens}
 
 -- the arguments of a call up to the bracket that closes
@@ -117,16 +115,10 @@ module _ (Inside In : Rel Expr) where
   abbrev ArgumentsIs : Rel Args
   ArgumentsIs = Either (Ended (args.List [])) (Then Inside ArgumentsRest)
 
-  ended : (a b : Args) (u : Words) → Ended a u b → (u ≡ Symbol symbol.CloseRound ∷ []) × (b ≡ a)
-  ended a b u h = let m = marked symbol.CloseRound (Nothing a) u b h in (m.1 ∙ ap (λ (v : Words). Symbol symbol.CloseRound ∷ v) m.2.0, m.2.1)
-
-  ending : (a : Args) → Ended a (Symbol symbol.CloseRound ∷ []) a
-  ending a = mark symbol.CloseRound (Nothing a) [] a (refl, refl)
-
   to_called_rest : (x : Expr) (u v : Words) (a : Args) → Inside u x → ArgumentsRest x v a → Called Inside In (u ++ v) a
   to_called_rest x u v a h (inl k) =
       let g = to_generator x k.left k.tree k.first in
-      let e = ended k.tree a k.right k.second in
+      let e = marked_alone symbol.CloseRound k.tree k.right a k.second in
       record {
         words = u ++ (Symbol symbol.For ∷ Name g.name ∷ Symbol symbol.In ∷ g.over_words ++ g.test_words);
         parts =
@@ -143,7 +135,7 @@ module _ (Inside In : Rel Expr) where
         spells = subst (Arguments Inside In (u ++ Symbol symbol.Comma ∷ o.items)) (sym o.tree) (Arguments.list (Listed.more h o.spells));
       }
   to_called_rest x u v a h (inr (inr k)) =
-      let e = ended (args.List (x ∷ [])) a v k in
+      let e = marked_alone symbol.CloseRound (args.List (x ∷ [])) v a k in
       record {
         words = u;
         parts = ap (λ (w : Words). u ++ w) e.0;
@@ -152,15 +144,15 @@ module _ (Inside In : Rel Expr) where
 
   to_called : (u : Words) (a : Args) → ArgumentsIs u a → Called Inside In u a
   to_called u a (inl h) =
-      let e = ended (args.List []) a u h in
+      let e = marked_alone symbol.CloseRound (args.List []) u a h in
       record { words = []; parts = e.0; spells = subst (Arguments Inside In []) (sym e.1) (Arguments.list Listed.none) }
   to_called u a (inr h) =
       let c = to_called_rest h.tree h.left h.right a h.first h.second in
       record { words = c.words; parts = h.parts ∙ c.parts; spells = c.spells }
 
   from_list : (u : Words) (xs : List Expr) → Listed Inside u xs → ArgumentsIs (u ++ Symbol symbol.CloseRound ∷ []) (args.List xs)
-  from_list _ _ Listed.none = inl (ending (args.List []))
-  from_list _ _ (Listed.one {u} {x} h) = inr (record { left = u; right = Symbol symbol.CloseRound ∷ []; tree = x; parts = refl; first = h; second = inr (inr (ending (args.List (x ∷ [])))) })
+  from_list _ _ Listed.none = inl (alone symbol.CloseRound (args.List []))
+  from_list _ _ (Listed.one {u} {x} h) = inr (record { left = u; right = Symbol symbol.CloseRound ∷ []; tree = x; parts = refl; first = h; second = inr (inr (alone symbol.CloseRound (args.List (x ∷ [])))) })
   from_list _ _ (Listed.more {u} {v} {x} {xs} h k) =
       inr (record {
         left = u;
@@ -186,7 +178,7 @@ module _ (Inside In : Rel Expr) where
           tree = args.Gen element n over test;
           parts = refl;
           first = from_generator element n v w over test k t;
-          second = ending (args.Gen element n over test);
+          second = alone symbol.CloseRound (args.Gen element n over test);
         });
       })
 
@@ -278,7 +270,7 @@ module _ {d m : ℕ} {Inside In : Rel Expr} {inside inner : ℕ → Parser Expr}
   generator_rule some x = map_rule (generator_of x) (source_rule some)
 
   end_rule : (a : Args) → Rule (between d m) d (plain none) (Ended Inside In a) (λ _. expect symbol.CloseRound >> pure a)
-  end_rule a = behind_rule symbol.CloseRound refl (record { tokens = []; tree = a; spells = (refl, refl) }) (pure_rule (plain none) a)
+  end_rule a = alone_rule symbol.CloseRound a refl
 
   generator_sees : (F : Kinds) (c : Bool) → F (Symbol symbol.For) ≡ c → (x : Expr) (u rest : Words) (a : Args) → Then (GeneratorIs Inside In x) (Ended Inside In) u a → sees F (u ++ rest) ≡ c
   generator_sees F c is x u rest a h =
@@ -290,7 +282,7 @@ module _ {d m : ℕ} {Inside In : Rel Expr} {inside inner : ℕ → Parser Expr}
   unfolding arguments_rest
   arguments_rest_rule some x =
       choose_rule (is symbol.For)
-      (then_rule (generator_rule some x) end_rule (λ g v rest a h s. sees_mark symbol.CloseRound (Nothing g) after_test false refl v rest a h) (λ g. record { tokens = Symbol symbol.CloseRound ∷ []; tree = g; spells = ending Inside In g }))
+      (then_rule (generator_rule some x) end_rule (λ g v rest a h s. sees_mark symbol.CloseRound (Nothing g) after_test false refl v rest a h) (λ g. record { tokens = Symbol symbol.CloseRound ∷ []; tree = g; spells = alone symbol.CloseRound g }))
       (choose_rule (is symbol.Comma) (behind_rule symbol.Comma refl (some_others Inside symbol.CloseRound args.List x) (others_rule symbol.CloseRound args.List (closes_round b) b.expr x)) (end_rule (args.List (x ∷ [])))
       (λ u rest a h s. sees_mark symbol.Comma (Others Inside symbol.CloseRound args.List x) (is symbol.Comma) true refl u rest a h)
       (λ u rest a h s. sees_mark symbol.CloseRound (Nothing (args.List (x ∷ []))) (is symbol.Comma) false refl u rest a h))
@@ -310,7 +302,7 @@ module _ {d m : ℕ} {Inside In : Rel Expr} {inside inner : ℕ → Parser Expr}
   arguments_rule =
       iff_rule (to_called Inside In) (from_called Inside In)
       (choose_rule (is symbol.CloseRound) (end_rule (args.List []))
-      (reached_rule b.expr (λ u x h. arguments_rest_rule (b.has u x h) x) (λ x v rest a h s. rest_stops x v rest a h) (λ u x h. record { tokens = Symbol symbol.CloseRound ∷ []; tree = args.List (x ∷ []); spells = inr (inr (ending Inside In (args.List (x ∷ [])))) }))
+      (reached_rule b.expr (λ u x h. arguments_rest_rule (b.has u x h) x) (λ x v rest a h s. rest_stops x v rest a h) (λ u x h. record { tokens = Symbol symbol.CloseRound ∷ []; tree = args.List (x ∷ []); spells = inr (inr (alone symbol.CloseRound (args.List (x ∷ [])))) }))
       (λ u rest a h s. sees_mark symbol.CloseRound (Nothing (args.List [])) (is symbol.CloseRound) true refl u rest a h)
       (λ u rest a h s. opens b (ArgumentsRest Inside In) u rest a h))
 

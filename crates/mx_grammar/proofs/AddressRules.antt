@@ -15,14 +15,14 @@ use Rattle.mx_grammar.specs.Reading.{Words, Parser, sees, Turn, On, Done}
 use Rattle.mx_grammar.specs.Literals.{Index, Step, Leading, Addr, space_of, NodeText}
 use Rattle.mx_grammar.specs.AddressParsers.{name_of, index, arguments, dotted, addr_turn, addr, node_turn, node_by}
 use Rattle.mx_grammar.proofs.Exact.{Rel, Kinds, Stops, none, stops_none, or, or_stops, Exists, Nothing, Then, Either, One, Inner}
+use Rattle.mx_grammar.proofs.Symbols.{unsaid}
 use Rattle.mx_grammar.proofs.Loops.{Turns, last, next, Shrinks}
 use Rattle.mx_grammar.proofs.Rules.{Knot, Rule, plain, pure_rule, accept_rule, then_rule, iff_rule, stops_rule, choose_rule, behind_rule, loop_rule, Behind, marked, mark, sees_mark}
 use Rattle.mx_grammar.proofs.Lists.{Closed, SomeClosed, all_listed_rule, some_listed_rule, shorter, on_done, on_same, done_same}
 use Rattle.mx_grammar.proofs.LiteralRules.{Begins, closes_round, closes_square}
 
 pub name_inner : Inner name_of
-name_inner (Name n) a h = refl
-name_inner _ a h = absurd cc
+name_inner = unsaid name_of symbol.End refl
 
 pub name_is : (t : Word) (n : List ℕ) → name_of t ≡ Some n → t ≡ Name n
 name_is (Name m) n h = cc

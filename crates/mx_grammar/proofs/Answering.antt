@@ -167,12 +167,10 @@ module _ {A : Type 0} (L : Language A) (P : ℕ → Parser A) (x : Exactly L P) 
   one_answer (Err (Unexpected p)) (Err (Lex e)) a b = absurd (no_tokens a.tokens e (tokens_of source) a.lexed b)
   one_answer (Err (Unexpected p)) (Err (TooNested q)) a b = absurd (not_nested a.tokens a.lexed a.shallow q b)
   one_answer (Err (Unexpected p)) (Err (Unexpected q)) a b = ap (λ (n : ℕ). refused (Unexpected n)) (unexpected_same p q a b)
-  one_answer (Err TooManyLoops) s a b = absurd a
-  one_answer (Err PrintsTooLong) s a b = absurd a
-  one_answer (Err NoMemory) s a b = absurd a
   one_answer r (Err TooManyLoops) a b = absurd b
   one_answer r (Err PrintsTooLong) a b = absurd b
   one_answer r (Err NoMemory) a b = absurd b
+  one_answer (Err _) s a b = absurd a
 
   -- what is an answer wherever there is memory is the only one
   pub only_answer : (r : Result A ParseRefusal) → (r ≢ Err NoMemory → Answers L source r) → (answer : Result A ParseRefusal) → Answers L source answer → Unless answer r
@@ -214,19 +212,12 @@ module _ {A : Type 0} (L : Language A) (P : ℕ → Parser A) (x : Exactly L P) 
         unexpected = subst (λ (ts : Words). UnexpectedIn L ts u.left) o.are u.unexpected;
         at = subst (λ (k : ℕ). PlaceOf tokens k place) same at;
       }
-  refused_answer tokens words o (trouble.Unexpected n) (Lex e) g at memory = absurd at
-  refused_answer tokens words o (trouble.Unexpected n) (TooNested p) g at memory = absurd at
-  refused_answer tokens words o (trouble.Unexpected n) TooManyLoops g at memory = absurd at
-  refused_answer tokens words o (trouble.Unexpected n) PrintsTooLong g at memory = absurd at
-  refused_answer tokens words o (trouble.Unexpected n) NoMemory g at memory = absurd at
+  refused_answer tokens words o (trouble.Unexpected n) _ g at memory = absurd at
 
   pub unread_answer : (e : ParseRefusal) → Unread source e → Refused L source e
   unread_answer (Lex e) h = h
   unread_answer (TooNested p) h = h
-  unread_answer (Unexpected p) h = absurd h
-  unread_answer TooManyLoops h = absurd h
-  unread_answer PrintsTooLong h = absurd h
-  unread_answer NoMemory h = absurd h
+  unread_answer _ h = absurd h
 
   -- ---- the exits of a public parser
 

@@ -266,7 +266,10 @@ module _ {A B : Type 0} (R : Rel A) (Q : A → Rel B) (P : Parser A) (f : A → 
     free = free_append one.used two.used one.free two.free;
   }
 
-  pub first_fails : ((a : A) → Exists (Q a)) → (ts : Words) (e : Trouble) → Fails R P ts e → Fails (Then R Q) (P >>= f) ts e
+  abbrev Further : Type 0
+  Further = (u : Words) (a : A) → R u a → Exists (Q a)
+
+  pub first_fails : Further → (ts : Words) (e : Trouble) → Fails R P ts e → Fails (Then R Q) (P >>= f) ts e
   first_fails more ts e one = record {
     front = one.front;
     rest = one.rest;
@@ -275,14 +278,14 @@ module _ {A B : Type 0} (R : Rel A) (Q : A → Rel B) (P : Parser A) (f : A → 
     viable = elim one.viable [
       | inl nil ↦ inl nil
       | inr v ↦
-          let m = more v.tree in
+          let m = more (one.front ++ v.tail) v.tree v.spells in
           inr (record { tail = v.tail ++ m.tokens; tree = m.tree; spells = record { left = one.front ++ v.tail; right = m.tokens; tree = v.tree; parts = sym (append_assoc one.front v.tail m.tokens); first = v.spells; second = m.spells } })
     ];
     refuses = λ t x y is. ap (λ (r : Outcome A). and_then r f) (one.refuses t x y is);
     inside = one.inside;
   }
 
-  pub second_fails : ((a : A) → Exists (Q a)) → (ts mid : Words) (a : A) (e : Trouble) → Took R P ts mid a → Fails (Q a) (f a) mid e → Fails (Then R Q) (P >>= f) ts e
+  pub second_fails : Further → (ts mid : Words) (a : A) (e : Trouble) → Took R P ts mid a → Fails (Q a) (f a) mid e → Fails (Then R Q) (P >>= f) ts e
   second_fails more ts mid a e one two = record {
     front = one.used ++ two.front;
     rest = two.rest;
@@ -290,7 +293,7 @@ module _ {A B : Type 0} (R : Rel A) (Q : A → Rel B) (P : Parser A) (f : A → 
     why = two.why;
     viable = elim two.viable [
       | inl nil ↦
-          let m = more a in
+          let m = more one.used a one.spells in
           inr (record { tail = m.tokens; tree = m.tree; spells = record { left = one.used; right = m.tokens; tree = a; parts = ap (λ (x : Words). (one.used ++ x) ++ m.tokens) nil ∙ ap (λ (x : Words). x ++ m.tokens) (append-nil one.used); first = one.spells; second = m.spells } })
       | inr v ↦ inr (record { tail = v.tail; tree = v.tree; spells = record { left = one.used; right = two.front ++ v.tail; tree = a; parts = append_assoc one.used two.front v.tail; first = one.spells; second = v.spells } })
     ];
@@ -301,21 +304,25 @@ module _ {A B : Type 0} (R : Rel A) (Q : A → Rel B) (P : Parser A) (f : A → 
     inside = λ has. two.inside (ends_behind ts one.used mid one.parts one.free has);
   }
 
-  pub then_exact : (F : A → Kinds) (G : B → Kinds) → Exact F R P → ((a : A) → Exact G (Q a) (f a))
+  -- the second is to be exact only behind what spells the first
+  pub then_exact : (F : A → Kinds) (G : B → Kinds) → Exact F R P → ((u : Words) (a : A) → R u a → Exact G (Q a) (f a))
       → ((a : A) (v rest : Words) (b : B) → Q a v b → Stops (G b) rest → Stops (F a) (v ++ rest))
-      → ((a : A) → Exists (Q a)) → Exact G (Then R Q) (P >>= f)
+      → Further → Exact G (Then R Q) (P >>= f)
   then_exact F G p q fits more = record {
     sound = λ ts rest b e.
         let o = bind_ok (P ts) f b rest e in
-        both ts o.1 rest o.0 b (p.sound ts o.1 o.0 o.2) ((q o.0).sound o.1 rest b o.3);
+        let one = p.sound ts o.1 o.0 o.2 in
+        both ts o.1 rest o.0 b one ((q one.used o.0 one.spells).sound o.1 rest b o.3);
     complete = λ u rest b h s.
         let regrouped : u ++ rest ≡ h.left ++ (h.right ++ rest) = ap (λ (x : Words). x ++ rest) h.parts ∙ append_assoc h.left h.right rest in
         ap (P >>= f) regrouped
         ∙ ap (λ (r : Outcome A). and_then r f) (p.complete h.left (h.right ++ rest) h.tree h.first (fits h.tree h.right rest b h.second s))
-        ∙ (q h.tree).complete h.right rest b h.second s;
+        ∙ (q h.left h.tree h.first).complete h.right rest b h.second s;
     errs = λ ts e h. elim (bind_err (P ts) f e h) [
       | inl at ↦ first_fails more ts e (p.errs ts e at)
-      | inr went ↦ second_fails more ts went.rest went.tree e (p.sound ts went.rest went.tree went.was) ((q went.tree).errs went.rest e went.next)
+      | inr went ↦
+          let one = p.sound ts went.rest went.tree went.was in
+          second_fails more ts went.rest went.tree e one ((q one.used went.tree one.spells).errs went.rest e went.next)
     ];
   }
 

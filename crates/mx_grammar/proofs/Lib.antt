@@ -3,6 +3,7 @@ pub mod Loops
 pub mod Meets
 pub mod Symbols
 pub mod Rules
+pub mod Gather
 pub mod Lists
 pub mod LoopCode
 pub mod LiteralRules

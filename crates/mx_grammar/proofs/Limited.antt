@@ -1,7 +1,7 @@
 -- There is one answer for each source of a language with limits.
-use Rattle.std.proofs.Common.{◌≡◌, ◌≢◌, ℕ, ◌<◌, ◌≤◌, List, length, Option, Some, None, Result, Ok, Err, refl, sym, ap, subst, arith, inl, inr}
+use Rattle.std.proofs.Common.{◌≡◌, ◌≢◌, ℕ, ◌≤◌, List, length, Option, Some, None, Result, Ok, Err, refl, sym, ap, subst, arith, inl, inr}
 use Rattle.mx_grammar.specs.declared.refusal.ParseRefusal.{ParseRefusal}
-use Rattle.mx_grammar.specs.declared.refusal.ParseRefusal.TheVariants.{Lex, TooNested, Unexpected, TooManyLoops, PrintsTooLong, NoMemory}
+use Rattle.mx_grammar.specs.declared.refusal.ParseRefusal.TheVariants.{TooManyLoops, PrintsTooLong, NoMemory}
 use Rattle.mx_grammar.specs.Reading.{Parser}
 use Rattle.mx_grammar.specs.Spelling.{Language, SpellsIn, Unless}
 use Rattle.mx_grammar.specs.Limits.{Limits, IsShort, IsLong, IsWithin, IsPast, SpellsPast, AnswersWithin}
@@ -17,28 +17,16 @@ module _ {A : Type 0} (limits : Limits A) where
   pub not_past : (x : A) (e : ParseRefusal) → IsWithin limits x → IsPast limits x e → ⊥
   not_past x TooManyLoops within past = absurd (let less : limits.loops x ≤ 8 = within.loops in omega (arith, past, less))
   not_past x PrintsTooLong within past = not_long (limits.printed x) within.short past.1
-  not_past x (Lex e) within past = past
-  not_past x (TooNested p) within past = past
-  not_past x (Unexpected p) within past = past
-  not_past x NoMemory within past = past
+  not_past x _ within past = past
 
   past_same : (x : A) (d e : ParseRefusal) → IsPast limits x d → IsPast limits x e → d ≡ e
   past_same x TooManyLoops TooManyLoops p q = refl
   past_same x TooManyLoops PrintsTooLong p q = absurd (let less : limits.loops x ≤ 8 = q.0 in omega (arith, p, less))
   past_same x PrintsTooLong TooManyLoops p q = absurd (let less : limits.loops x ≤ 8 = p.0 in omega (arith, q, less))
   past_same x PrintsTooLong PrintsTooLong p q = refl
-  past_same x TooManyLoops (Lex e) p q = absurd q
-  past_same x TooManyLoops (TooNested n) p q = absurd q
-  past_same x TooManyLoops (Unexpected n) p q = absurd q
-  past_same x TooManyLoops NoMemory p q = absurd q
-  past_same x PrintsTooLong (Lex e) p q = absurd q
-  past_same x PrintsTooLong (TooNested n) p q = absurd q
-  past_same x PrintsTooLong (Unexpected n) p q = absurd q
-  past_same x PrintsTooLong NoMemory p q = absurd q
-  past_same x (Lex d) e p q = absurd p
-  past_same x (TooNested n) e p q = absurd p
-  past_same x (Unexpected n) e p q = absurd p
-  past_same x NoMemory e p q = absurd p
+  past_same x TooManyLoops _ p q = absurd q
+  past_same x PrintsTooLong _ p q = absurd q
+  past_same x _ e p q = absurd p
 
 module _ {A : Type 0} (L : Language A) (P : ℕ → Parser A) (x : Exactly L P) (limits : Limits A) (source : List ℕ) where
   abbrev okay : A → Result A ParseRefusal

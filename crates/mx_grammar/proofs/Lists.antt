@@ -1,5 +1,5 @@
 -- Parsers of lists and chains.
-use Rattle.std.proofs.Common.{◌≡◌, ℕ, ◌<◌, Bool, true, false, cond, List, [], ◌∷◌, ◌++◌, length, refl, sym, ap, subst, ◌∙◌, append_assoc, arith, inl, inr}
+use Rattle.std.proofs.Common.{◌≡◌, ℕ, ◌<◌, true, false, List, [], ◌∷◌, ◌++◌, length, refl, sym, ap, subst, ◌∙◌, append_assoc, arith, inl, inr}
 use Rattle.std.proofs.lemmas.List.{append-nil, length-append}
 use Rattle.mx_grammar.specs.declared.word.Symbol.{Symbol}
 use Rattle.mx_grammar.specs.declared.word.Symbol.TheVariants as symbol
@@ -7,138 +7,38 @@ use Rattle.mx_grammar.specs.declared.word.Word.{Word}
 use Rattle.mx_grammar.specs.declared.word.Word.TheVariants as word
 use Rattle.mx_grammar.specs.Words.{is}
 use Rattle.mx_grammar.specs.Grammar.{Parts, Listed}
-use Rattle.mx_grammar.specs.Reading.{Words, Outcome, Parser, ◌>>=◌, pure, sees, Turn, On, Done, turning, many_turn, many, item_turn, listed, some_listed}
-use Rattle.mx_grammar.proofs.Exact.{Rel, Kinds, Stops, none, stops_none, or, or_stops, Exists, Exact, bind_ok, ok_pair, read, Nothing, Then, Either}
+use Rattle.mx_grammar.specs.Reading.{Words, Parser, ◌>>=◌, ◌>>◌, pure, sees, expect, choose, Turn, On, Done, turning, many_turn, many, item_turn, listed, some_listed}
+use Rattle.mx_grammar.proofs.Exact.{Rel, Kinds, none, stops_none, or, Exists, Nothing, Then, Either}
 use Rattle.mx_grammar.proofs.Meets.{Shorter}
-use Rattle.mx_grammar.proofs.Symbols.{here, apart}
+use Rattle.mx_grammar.proofs.Symbols.{here}
 use Rattle.mx_grammar.proofs.Loops.{Turns, last, next, Shrinks}
-use Rattle.mx_grammar.proofs.Rules.{Knot, Rule, plain, pure_rule, then_rule, iff_rule, map_rule, choose_rule, behind_rule, loop_rule, Behind, marked, mark, mapped, mapping, sees_mark}
-
--- a turn takes a token where the items that it goes on behind have one
-pub shorter : (ts used rest : Words) → ts ≡ used ++ rest → 0 < length used → length rest < length ts
-shorter ts used rest e lt = omega (arith, ap length e, length-append used rest)
-
-pub not_nothing : (is : Kinds) (u : Words) → sees is (u ++ []) ≡ true → 0 < length u
-not_nothing is [] h = absurd cc
-not_nothing is (t ∷ u) h = omega arith
-
-abbrev pub BeginsWith : {A : Type 0} → Kinds → Rel A → Type 0
-BeginsWith {A} is R = (u rest : Words) (a : A) → R u a → sees is (u ++ rest) ≡ true
-
--- A parser that is exact takes a token where each spelling begins with one.
-pub exact_shorter : {A : Type 0} {F : A → Kinds} {R : Rel A} {P : Parser A} (is : Kinds) → Exact F R P → BeginsWith is R → Shorter P
-exact_shorter is p begins ts rest a e =
-    let h = p.sound ts rest a e in shorter ts h.used rest h.parts (not_nothing is h.used (begins h.used [] a h.spells))
-
-pub chosen_left : {A : Type 0} (b : Bool) (x y r : Outcome A) → cond b x y ≡ r → (y ≡ r → ⊥) → x ≡ r
-chosen_left true x y r e n = e
-chosen_left false x y r e n = absurd (n e)
-
-pub chosen_right : {A : Type 0} (b : Bool) (x y r : Outcome A) → cond b x y ≡ r → (x ≡ r → ⊥) → y ≡ r
-chosen_right true x y r e n = absurd (n e)
-chosen_right false x y r e n = e
+use Rattle.mx_grammar.proofs.Rules.{Knot, Rule, plain, then_rule, iff_rule, map_rule, unmapped_rule, choose_rule, behind_rule, loop_rule, Behind, marked, mark, marked_alone, alone, alone_rule, mapped, mapping, remapped, sees_mark}
+use Rattle.mx_grammar.proofs.Gather.{gathered, gather_shrinks, gather_rule, parts_stop}
+pub use Rattle.mx_grammar.proofs.Gather.{shorter, not_nothing, BeginsWith, exact_shorter, chosen_left, chosen_right, on_done, on_same, done_same}
 
 abbrev pub Loop : Type 0 → Type 0
 Loop A = Turn (List A) (List A)
 
-abbrev goes : (S B : Type 0) → S → Turn S B
-goes S B s = On s
-
-abbrev stops : (S B : Type 0) → B → Turn S B
-stops S B b = Done b
-
-pub on_done : {S B : Type 0} (s : S) (b : B) → goes S B s ≡ Done b → ⊥
-on_done s b e = absurd cc
-
-pub on_same : {S B : Type 0} (s t : S) → goes S B s ≡ On t → s ≡ t
-on_same s t e = cc
-
-pub done_same : {S B : Type 0} (b c : B) → stops S B b ≡ Done c → b ≡ c
-done_same b c e = cc
-
 -- ---- parts while the next token is of one kind
 
+abbrev pub put : {A : Type 0} → List A → A → List A
+put found a = found ++ a ∷ []
+
+pub all_put : {A : Type 0} (found xs : List A) → gathered put found xs ≡ found ++ xs
+all_put found [] = sym (append-nil found)
+all_put found (x ∷ xs) = all_put (found ++ x ∷ []) xs ∙ append_assoc found (x ∷ []) xs
+
 pub many_shrinks : {A : Type 0} (is : Kinds) (P : Parser A) → Shorter P → Shrinks (many_turn is P)
-many_shrinks is P short found ts rest t e =
-    let l = chosen_left (sees is ts) ((P >>= λ a. pure (On (found ++ a ∷ []))) ts) (pure (Done found) ts) (read (On t, rest)) e (λ w. let q = ok_pair w in on_done t found (sym q.0)) in
-    let o = bind_ok (P ts) (λ a. pure (On (found ++ a ∷ []))) (On t) rest l in
-    let q = ok_pair o.3 in
-    subst (λ (x : Words). length x < length ts) q.1 (short ts o.1 o.0 o.2)
-
-module _ {A : Type 0} (is F : Kinds) (R : Rel A) where
-  abbrev TurnIs : List A → Rel (Loop A)
-  TurnIs found = Either (Then R (λ a. Nothing (On (found ++ a ∷ [])))) (Nothing (Done found))
-
-  follows : Loop A → Kinds
-  follows (On s) = F
-  follows (Done s) = or is F
-
-  record Found (found : List A) (u : Words) (all : List A) : Type 0 where
-    others : List A
-    spells : Parts R u others
-    whole : all ≡ found ++ others
-
-  to_found : (found : List A) (u : Words) (all : List A) → Turns TurnIs found u all → Found found u all
-  to_found _ _ _ (last {s} {u} {b} (inl h)) = absurd (on_done (s ++ h.tree ∷ []) b (sym h.second.1))
-  to_found _ _ _ (last {s} {u} {b} (inr h)) = record { others = []; spells = subst (λ (x : Words). Parts R x []) (sym h.0) Parts.none; whole = done_same b s h.1 ∙ sym (append-nil s) }
-  to_found _ _ _ (next {s} {t} {u} {v} {b} (inl h) more) =
-      let k = to_found t v b more in
-      let e : t ≡ s ++ h.tree ∷ [] = on_same t (s ++ h.tree ∷ []) h.second.1 in
-      let p : u ≡ h.left = h.parts ∙ ap (λ (x : Words). h.left ++ x) h.second.0 ∙ append-nil h.left in
-      record {
-        others = h.tree ∷ k.others;
-        spells = subst (λ (x : Words). Parts R (x ++ v) (h.tree ∷ k.others)) (sym p) (Parts.more h.first k.spells);
-        whole = k.whole ∙ ap (λ (l : List A). l ++ k.others) e ∙ append_assoc s (h.tree ∷ []) k.others;
-      }
-  to_found _ _ _ (next {s} {t} {u} {v} {b} (inr h) more) = absurd (on_done t s h.1)
-
-  to_parts : (u : Words) (xs : List A) → Turns TurnIs [] u xs → Parts R u xs
-  to_parts u xs h = let k = to_found [] u xs h in subst (Parts R u) (sym k.whole) k.spells
-
-  from_found : (found : List A) (u : Words) (xs : List A) → Parts R u xs → Turns TurnIs found u (found ++ xs)
-  from_found found _ _ Parts.none = last (inr (refl, ap Done (append-nil found)))
-  from_found found _ _ (Parts.more {u} {v} {x} {xs} h others) =
-      subst (Turns TurnIs found (u ++ v)) (append_assoc found (x ∷ []) xs)
-      (next {t = found ++ x ∷ []} (inl (record { left = u; right = []; tree = x; parts = sym (append-nil u); first = h; second = (refl, refl) })) (from_found (found ++ x ∷ []) v xs others))
-
-  fits : BeginsWith is R → ((ts : Words) → sees is ts ≡ true → Stops F ts) → (found : List A) (u rest : Words) (r : Loop A) → TurnIs found u r → Stops (follows r) rest → (t : List A) → Stops F (u ++ rest)
-  unfolding follows
-  fits begins away found u rest r (inl h) s t =
-      let e : u ++ rest ≡ h.left ++ rest = ap (λ (x : Words). x ++ rest) (h.parts ∙ ap (λ (x : Words). h.left ++ x) h.second.0 ∙ append-nil h.left) in
-      away (u ++ rest) (ap (sees is) e ∙ begins h.left rest h.tree h.first)
-  fits begins away found u rest r (inr h) s t =
-      (or_stops is F (u ++ rest) (subst (λ (x : Words). Stops (or is F) (x ++ rest)) (sym h.0) (subst (λ (q : Loop A). Stops (follows q) rest) h.1 s))).1
-
-  many_turn_rule : {E : Type 0} {K : Knot E} {k : ℕ} {P : E → Parser A} → Rule K k (plain F) R P → BeginsWith is R → (found : List A) → Rule K k follows (TurnIs found) (λ i. many_turn is (P i) found)
-  unfolding follows
-  many_turn_rule p begins found =
-      choose_rule is
-      (then_rule p (λ a. pure_rule follows (On (found ++ a ∷ [])))
-      (λ a v rest b h s. subst (λ (x : Words). Stops F (x ++ rest)) (sym h.0) (subst (λ (r : Loop A). Stops (follows r) rest) h.1 s))
-      (λ a. record { tokens = []; tree = On (found ++ a ∷ []); spells = (refl, refl) }))
-      (pure_rule follows (Done found))
-      (λ u rest r h s.
-      let e : u ++ rest ≡ h.left ++ rest = ap (λ (x : Words). x ++ rest) (h.parts ∙ ap (λ (x : Words). h.left ++ x) h.second.0 ∙ append-nil h.left) in
-      ap (sees is) e ∙ begins h.left rest h.tree h.first)
-      (λ u rest r h s. (or_stops is F (u ++ rest) (subst (λ (x : Words). Stops (or is F) (x ++ rest)) (sym h.0) (subst (λ (q : Loop A). Stops (follows q) rest) h.1 s))).0)
-
-  pub the_many_rule : {E : Type 0} {K : Knot E} {k : ℕ} {P : E → Parser A} → Rule K k (plain F) R P → BeginsWith is R → ((t : Word) → is t ≡ true → F t ≡ false) → Rule K k (plain (or is F)) (Parts R) (λ i. many is (P i))
-  unfolding follows
-  the_many_rule {K} {P} p begins off =
-      iff_rule to_parts (from_found [])
-      (loop_rule {F = follows} (many_turn_rule p begins) (many_shrinks is (P K.inner) (exact_shorter is p.exact begins)) (fits begins (apart is F off)) (λ rest xs s. s) (λ found. record { tokens = []; tree = found; spells = last (inr (refl, refl)) }) [])
-
-  -- behind those found before
-  pub found_rule : {E : Type 0} {K : Knot E} {k : ℕ} {P : E → Parser A} → Rule K k (plain F) R P → BeginsWith is R → ((t : Word) → is t ≡ true → F t ≡ false) → (found : List A)
-      → Rule K k (plain (or is F)) (Then (Parts R) (λ xs. Nothing (found ++ xs))) (λ i. turning (many_turn is (P i)) found)
-  unfolding follows
-  found_rule {K} {P} p begins off found =
-      iff_rule (λ u all h. let k = to_found found u all h in subst (Then (Parts R) (λ xs. Nothing (found ++ xs)) u) (sym k.whole) (mapping (Parts R) (λ xs. found ++ xs) u k.others k.spells))
-      (λ u all h. let m = mapped (Parts R) (λ xs. found ++ xs) u all h in subst (Turns TurnIs found u) (sym m.2) (from_found found u m.0 m.1))
-      (loop_rule {F = follows} (many_turn_rule p begins) (many_shrinks is (P K.inner) (exact_shorter is p.exact begins)) (fits begins (apart is F off)) (λ rest xs s. s) (λ s. record { tokens = []; tree = s; spells = last (inr (refl, refl)) }) found)
+many_shrinks is P short = gather_shrinks is P put short
 
 pub many_rule : {E A : Type 0} {K : Knot E} {k : ℕ} {F : Kinds} {R : Rel A} {P : E → Parser A} (is : Kinds) → Rule K k (plain F) R P → BeginsWith is R → ((t : Word) → is t ≡ true → F t ≡ false) → Rule K k (plain (or is F)) (Parts R) (λ i. many is (P i))
-many_rule {F} {R} is p begins off = the_many_rule is F R p begins off
+many_rule is p begins off = unmapped_rule (gathered put []) (all_put []) (gather_rule is put p begins off [])
+
+-- behind those found before
+pub found_rule : {E A : Type 0} {K : Knot E} {k : ℕ} {P : E → Parser A} (is F : Kinds) (R : Rel A) → Rule K k (plain F) R P → BeginsWith is R → ((t : Word) → is t ≡ true → F t ≡ false) → (found : List A)
+    → Rule K k (plain (or is F)) (Then (Parts R) (λ xs. Nothing (found ++ xs))) (λ i. turning (many_turn is (P i)) found)
+found_rule is F R p begins off found =
+    iff_rule (remapped (Parts R) (gathered put found) (λ xs. found ++ xs) (all_put found)) (remapped (Parts R) (λ xs. found ++ xs) (gathered put found) (λ xs. sym (all_put found xs))) (gather_rule is put p begins off found)
 
 -- ---- a first part, and any number of further ones
 
@@ -152,104 +52,209 @@ pub record Chained {A B C : Type 0} (Sub : Rel A) (Tail : Rel B) (build : A → 
   pub rest : Parts Tail right others
   pub tree : c ≡ build head others
 
-module _ {A B C : Type 0} (is F : Kinds) (Sub : Rel A) (Tail : Rel B) (build : A → List B → C) where
+module _ {A B C : Type 0} (Sub : Rel A) (Tail : Rel B) (build : A → List B → C) where
   abbrev Links : A → Rel C
   Links x = Then (Parts Tail) (λ ys. Nothing (build x ys))
 
   chain_to : (u : Words) (c : C) → Then Sub Links u c → Chained Sub Tail build u c
-  chain_to u c h =
-      let k = h.second in
-      record { left = h.left; right = k.left; head = h.tree; others = k.tree; parts = h.parts ∙ ap (λ (x : Words). h.left ++ x) (k.parts ∙ ap (λ (x : Words). k.left ++ x) k.second.0 ∙ append-nil k.left); first = h.first; rest = k.first; tree = k.second.1 }
+  chain_to u c h = let k = mapped (Parts Tail) (build h.tree) h.right c h.second in record { left = h.left; right = h.right; head = h.tree; others = k.0; parts = h.parts; first = h.first; rest = k.1; tree = k.2 }
 
   chain_from : (u : Words) (c : C) → Chained Sub Tail build u c → Then Sub Links u c
-  chain_from u c h = record { left = h.left; right = h.right; tree = h.head; parts = h.parts; first = h.first; second = record { left = h.right; right = []; tree = h.others; parts = sym (append-nil h.right); first = h.rest; second = (refl, h.tree) } }
-
-  parts_fit : BeginsWith is Tail → ((ts : Words) → sees is ts ≡ true → Stops F ts) → (v rest : Words) (ys : List B) → Parts Tail v ys → Stops (or is F) rest → Stops F (v ++ rest)
-  parts_fit begins off _ rest _ Parts.none s = (or_stops is F rest s).1
-  parts_fit begins off _ rest _ (Parts.more {u} {v} {x} {xs} h others) s = off ((u ++ v) ++ rest) (ap (sees is) (append_assoc u v rest) ∙ begins u (v ++ rest) x h)
+  chain_from u c h = record { left = h.left; right = h.right; tree = h.head; parts = h.parts; first = h.first; second = subst (Links h.head h.right) (sym h.tree) (mapping (Parts Tail) (build h.head) h.right h.others h.rest) }
 
 pub chain_rule : {E A B C : Type 0} {K : Knot E} {k : ℕ} {F : Kinds} {Sub : Rel A} {Tail : Rel B} {P : E → Parser A} {T : E → Parser B} (is : Kinds) (build : A → List B → C) → Rule K k (plain F) Sub P → Rule K k (plain F) Tail T → BeginsWith is Tail
     → ((t : Word) → is t ≡ true → F t ≡ false) → Rule K k (plain (or is F)) (Chained Sub Tail build) (λ i. P i >>= λ x. many is (T i) >>= λ ys. pure (build x ys))
 chain_rule {F} {Sub} {Tail} is build p t begins off =
-    iff_rule (chain_to is F Sub Tail build) (chain_from is F Sub Tail build)
+    iff_rule (chain_to Sub Tail build) (chain_from Sub Tail build)
     (then_rule p (λ x. map_rule (build x) (many_rule is t begins off))
-    (λ x v rest c h s. subst (λ (y : Words). Stops F (y ++ rest)) (sym (h.parts ∙ ap (λ (y : Words). h.left ++ y) h.second.0 ∙ append-nil h.left)) (parts_fit is F Sub Tail build begins (apart is F off) h.left rest h.tree h.first s))
-    (λ x. record { tokens = []; tree = build x []; spells = record { left = []; right = []; tree = []; parts = refl; first = Parts.none; second = (refl, refl) } }))
+    (λ x v rest c h s. let m = mapped (Parts Tail) (build x) v c h in parts_stop is F Tail begins off v rest m.0 m.1 s)
+    (λ x. record { tokens = []; tree = build x []; spells = mapping (Parts Tail) (build x) [] [] Parts.none }))
 
--- ---- items with commas between, up to a symbol that closes
+-- a chain, where one of one part is that part
+pub record Chain {A B : Type 0} (Sub : Rel A) (Tail : Rel B) (build : A → List B → A) (R : Rel A) : Type 0 where
+  pub alone : (u : Words) (x : A) → Sub u x → R u (build x [])
+  pub chain : (u v : Words) (x : A) (y : B) (ys : List B) → Sub u x → Parts Tail v (y ∷ ys) → R (u ++ v) (build x (y ∷ ys))
+  pub from : (u : Words) (x : A) → R u x → Chained Sub Tail build u x
 
-pub record Closed {A : Type 0} (R : Rel A) (close : Symbol) (u : Words) (xs : List A) : Type 0 where
+module _ {A B : Type 0} {Sub : Rel A} {Tail : Rel B} {build : A → List B → A} {R : Rel A} (c : Chain Sub Tail build R) where
+  chain_by : (u v : Words) (x : A) (ys : List B) → Sub u x → Parts Tail v ys → R (u ++ v) (build x ys)
+  chain_by u _ x _ a Parts.none = subst (λ (w : Words). R w (build x [])) (sym (append-nil u)) (c.alone u x a)
+  chain_by u _ x _ a (Parts.more {u = w} {v} {x = y} {xs} h ps) = c.chain u (w ++ v) x y xs a (Parts.more h ps)
+
+  to_chain : (u : Words) (x : A) → Chained Sub Tail build u x → R u x
+  to_chain u x h = subst (λ (w : Words). R w x) (sym h.parts) (subst (R (h.left ++ h.right)) (sym h.tree) (chain_by h.left h.right h.head h.others h.first h.rest))
+
+  pub chain_begins : (F : Kinds) → BeginsWith F Sub → BeginsWith F R
+  chain_begins F begins u rest x h = let k = c.from u x h in ap (sees F) (ap (λ (w : Words). w ++ rest) k.parts ∙ append_assoc k.left k.right rest) ∙ begins k.left (k.right ++ rest) k.head k.first
+
+  pub some_chain : Exists Sub → Exists R
+  some_chain some = record { tokens = some.tokens; tree = build some.tree []; spells = c.alone some.tokens some.tree some.spells }
+
+  pub whole_chain_rule : {E : Type 0} {K : Knot E} {k : ℕ} {F : Kinds} {P : E → Parser A} {T : E → Parser B} (is : Kinds) → Rule K k (plain F) Sub P → Rule K k (plain F) Tail T → BeginsWith is Tail → ((t : Word) → is t ≡ true → F t ≡ false)
+      → Rule K k (plain (or is F)) R (λ i. P i >>= λ x. many is (T i) >>= λ ys. pure (build x ys))
+  whole_chain_rule is p t begins off = iff_rule to_chain c.from (chain_rule is build p t begins off)
+
+-- ---- items with commas between, where what may stand as one depends on those before it
+
+pub data Items {A : Type 0} (R : List A → Rel A) : List A → Words → List A → Type 0 where
+  empty : {before : List A} → Items R before [] []
+  one : {before : List A} {u : Words} {x : A} → R before u x → Items R before u (x ∷ [])
+  more : {before : List A} {u v : Words} {x : A} {xs : List A} → R before u x → Items R (before ++ x ∷ []) v xs → Items R before (u ++ word.Symbol symbol.Comma ∷ v) (x ∷ xs)
+
+-- a relation says the same
+pub record Same {A : Type 0} (R : List A → Rel A) (L : List A → Rel (List A)) : Type 0 where
+  pub to : (before : List A) (u : Words) (xs : List A) → Items R before u xs → L before u xs
+  pub from : (before : List A) (u : Words) (xs : List A) → L before u xs → Items R before u xs
+
+-- ---- up to a symbol that closes
+
+pub record Shut {A : Type 0} (L : Rel (List A)) (close : Symbol) (u : Words) (xs : List A) : Type 0 where
   pub items : Words
   pub parts : u ≡ items ++ word.Symbol close ∷ []
-  pub spells : Listed R items xs
+  pub spells : L items xs
 
-module _ {A : Type 0} (close : Symbol) (R : Rel A) where
+-- at least one item
+pub record SomeShut {A : Type 0} (L : Rel (List A)) (close : Symbol) (u : Words) (xs : List A) : Type 0 where
+  pub first : A
+  pub others : List A
+  pub items : Words
+  pub parts : u ≡ items ++ word.Symbol close ∷ []
+  pub spells : L items (first ∷ others)
+  pub are : xs ≡ first ∷ others
+
+module _ {A : Type 0} (close : Symbol) (R : List A → Rel A) where
+  abbrev stop : List A → Loop A
+  stop all = Done all
+
+  abbrev go : List A → Loop A
+  go found = On found
+
   abbrev Ending : List A → Rel (Loop A)
-  Ending all = Behind close (Nothing (Done all))
+  Ending all = Behind close (Nothing (stop all))
 
   abbrev Going : List A → Rel (Loop A)
-  Going found = Behind symbol.Comma (Nothing (On found))
+  Going found = Behind symbol.Comma (Nothing (go found))
 
   abbrev ItemIs : List A → Rel (Loop A)
-  ItemIs found = Either (Ending found) (Then R (λ a. Either (Going (found ++ a ∷ [])) (Ending (found ++ a ∷ []))))
-
-  ended : (all : List A) (u : Words) (r : Loop A) → Ending all u r → (u ≡ word.Symbol close ∷ []) × (r ≡ Done all)
-  ended all u r h = let m = marked close (Nothing (Done all)) u r h in (m.1 ∙ ap (λ (x : Words). word.Symbol close ∷ x) m.2.0, m.2.1)
-
-  went_on : (found : List A) (u : Words) (r : Loop A) → Going found u r → (u ≡ word.Symbol symbol.Comma ∷ []) × (r ≡ On found)
-  went_on found u r h = let m = marked symbol.Comma (Nothing (On found)) u r h in (m.1 ∙ ap (λ (x : Words). word.Symbol symbol.Comma ∷ x) m.2.0, m.2.1)
+  ItemIs found = Either (Ending found) (Then (R found) (λ a. Either (Going (found ++ a ∷ [])) (Ending (found ++ a ∷ []))))
 
   record Rest (found : List A) (u : Words) (all : List A) : Type 0 where
     others : List A
-    closed : Closed R close u others
+    closed : Shut (Items R found) close u others
     whole : all ≡ found ++ others
+
+  rest_more : (s t : List A) (a : A) (left right u v : Words) (b : List A) → R s left a → u ≡ left ++ right → right ≡ word.Symbol symbol.Comma ∷ [] → t ≡ s ++ a ∷ [] → Rest t v b → Rest s (u ++ v) b
+  rest_more s t a left right u v b h parts comma e k =
+      let c = k.closed in
+      record {
+        others = a ∷ k.others;
+        closed = record {
+          items = left ++ word.Symbol symbol.Comma ∷ c.items;
+          parts = ap (λ (x : Words). x ++ v) (parts ∙ ap (λ (x : Words). left ++ x) comma) ∙ append_assoc left (word.Symbol symbol.Comma ∷ []) v ∙ ap (λ (x : Words). left ++ word.Symbol symbol.Comma ∷ x) c.parts ∙ sym (append_assoc left (word.Symbol symbol.Comma ∷ c.items) (word.Symbol close ∷ []));
+          spells = Items.more h (subst (λ (l : List A). Items R l c.items k.others) e c.spells);
+        };
+        whole = k.whole ∙ ap (λ (l : List A). l ++ k.others) e ∙ append_assoc s (a ∷ []) k.others;
+      }
 
   to_rest : (found : List A) (u : Words) (all : List A) → Turns ItemIs found u all → Rest found u all
   to_rest _ _ _ (last {s} {u} {b} (inl h)) =
-      let e = ended s u (Done b) h in
-      record { others = []; closed = record { items = []; parts = e.0; spells = Listed.none }; whole = done_same b s e.1 ∙ sym (append-nil s) }
+      let e = marked_alone close (stop s) u (Done b) h in
+      record { others = []; closed = record { items = []; parts = e.0; spells = Items.empty }; whole = done_same b s e.1 ∙ sym (append-nil s) }
   to_rest _ _ _ (last {s} {u} {b} (inr h)) = elim h.second [
-    | inl w ↦ absurd (on_done (s ++ h.tree ∷ []) b (sym (went_on (s ++ h.tree ∷ []) h.right (Done b) w).1))
+    | inl w ↦ absurd (on_done (s ++ h.tree ∷ []) b (sym (marked_alone symbol.Comma (go (s ++ h.tree ∷ [])) h.right (Done b) w).1))
     | inr w ↦
-        let e = ended (s ++ h.tree ∷ []) h.right (Done b) w in
-        record { others = h.tree ∷ []; closed = record { items = h.left; parts = h.parts ∙ ap (λ (x : Words). h.left ++ x) e.0; spells = Listed.one h.first }; whole = done_same b (s ++ h.tree ∷ []) e.1 }
+        let e = marked_alone close (stop (s ++ h.tree ∷ [])) h.right (Done b) w in
+        record { others = h.tree ∷ []; closed = record { items = h.left; parts = h.parts ∙ ap (λ (x : Words). h.left ++ x) e.0; spells = Items.one h.first }; whole = done_same b (s ++ h.tree ∷ []) e.1 }
   ]
-  to_rest _ _ _ (next {s} {t} {u} {v} {b} (inl h) more) = absurd (on_done t s (ended s u (On t) h).1)
-  to_rest _ _ _ (next {s} {t} {u} {v} {b} (inr h) more) = elim h.second [
+  to_rest _ _ _ (next {s} {t} {u} {v} {b} (inl h) further) = absurd (on_done t s (marked_alone close (stop s) u (On t) h).1)
+  to_rest _ _ _ (next {s} {t} {u} {v} {b} (inr h) further) = elim h.second [
     | inl w ↦
-        let e = went_on (s ++ h.tree ∷ []) h.right (On t) w in
-        let k = to_rest t v b more in
-        let c = k.closed in
-        record {
-          others = h.tree ∷ k.others;
-          closed = record {
-            items = h.left ++ word.Symbol symbol.Comma ∷ c.items;
-            parts = ap (λ (x : Words). x ++ v) (h.parts ∙ ap (λ (x : Words). h.left ++ x) e.0) ∙ append_assoc h.left (word.Symbol symbol.Comma ∷ []) v ∙ ap (λ (x : Words). h.left ++ word.Symbol symbol.Comma ∷ x) c.parts ∙ sym (append_assoc h.left (word.Symbol symbol.Comma ∷ c.items) (word.Symbol close ∷ []));
-            spells = Listed.more h.first c.spells;
-          };
-          whole = k.whole ∙ ap (λ (l : List A). l ++ k.others) (on_same t (s ++ h.tree ∷ []) e.1) ∙ append_assoc s (h.tree ∷ []) k.others;
-        }
-    | inr w ↦ absurd (on_done t (s ++ h.tree ∷ []) (ended (s ++ h.tree ∷ []) h.right (On t) w).1)
+        let e = marked_alone symbol.Comma (go (s ++ h.tree ∷ [])) h.right (On t) w in
+        rest_more s t h.tree h.left h.right u v b h.first h.parts e.0 (on_same t (s ++ h.tree ∷ []) e.1) (to_rest t v b further)
+    | inr w ↦ absurd (on_done t (s ++ h.tree ∷ []) (marked_alone close (stop (s ++ h.tree ∷ [])) h.right (On t) w).1)
   ]
 
-  ending : (all : List A) → Ending all (word.Symbol close ∷ []) (Done all)
-  ending all = mark close (Nothing (Done all)) [] (Done all) (refl, refl)
-
-  from_listed : (found : List A) (u : Words) (xs : List A) → Listed R u xs → Turns ItemIs found (u ++ word.Symbol close ∷ []) (found ++ xs)
-  from_listed found _ _ Listed.none = subst (Turns ItemIs found (word.Symbol close ∷ [])) (sym (append-nil found)) (last (inl (ending found)))
-  from_listed found _ _ (Listed.one {u} {x} h) = last (inr (record { left = u; right = word.Symbol close ∷ []; tree = x; parts = refl; first = h; second = inr (ending (found ++ x ∷ [])) }))
-  from_listed found _ _ (Listed.more {u} {v} {x} {xs} h others) =
+  from_items : (found : List A) (u : Words) (xs : List A) → Items R found u xs → Turns ItemIs found (u ++ word.Symbol close ∷ []) (found ++ xs)
+  from_items _ _ _ (Items.empty {before}) = subst (Turns ItemIs before (word.Symbol close ∷ [])) (sym (append-nil before)) (last (inl (alone close (stop before))))
+  from_items _ _ _ (Items.one {before} {u} {x} h) = last (inr (record { left = u; right = word.Symbol close ∷ []; tree = x; parts = refl; first = h; second = inr (alone close (stop (before ++ x ∷ []))) }))
+  from_items _ _ _ (Items.more {before} {u} {v} {x} {xs} h others) =
       let e : (u ++ word.Symbol symbol.Comma ∷ v) ++ word.Symbol close ∷ [] ≡ (u ++ word.Symbol symbol.Comma ∷ []) ++ (v ++ word.Symbol close ∷ []) = append_assoc u (word.Symbol symbol.Comma ∷ v) (word.Symbol close ∷ []) ∙ sym (append_assoc u (word.Symbol symbol.Comma ∷ []) (v ++ word.Symbol close ∷ [])) in
-      subst (λ (y : Words). Turns ItemIs found y (found ++ x ∷ xs)) (sym e)
-      (subst (Turns ItemIs found ((u ++ word.Symbol symbol.Comma ∷ []) ++ (v ++ word.Symbol close ∷ []))) (append_assoc found (x ∷ []) xs)
-      (next {t = found ++ x ∷ []} (inr (record { left = u; right = word.Symbol symbol.Comma ∷ []; tree = x; parts = refl; first = h; second = inl (mark symbol.Comma (Nothing (On (found ++ x ∷ []))) [] (On (found ++ x ∷ [])) (refl, refl)) })) (from_listed (found ++ x ∷ []) v xs others)))
+      subst (λ (y : Words). Turns ItemIs before y (before ++ x ∷ xs)) (sym e)
+      (subst (Turns ItemIs before ((u ++ word.Symbol symbol.Comma ∷ []) ++ (v ++ word.Symbol close ∷ []))) (append_assoc before (x ∷ []) xs)
+      (next {t = before ++ x ∷ []} (inr (record { left = u; right = word.Symbol symbol.Comma ∷ []; tree = x; parts = refl; first = h; second = inl (alone symbol.Comma (go (before ++ x ∷ []))) })) (from_items (before ++ x ∷ []) v xs others)))
 
   takes : (found : List A) (u : Words) (t : List A) → ItemIs found u (On t) → 0 < length u
-  takes found u t (inl h) = absurd (on_done t found (ended found u (On t) h).1)
+  takes found u t (inl h) = absurd (on_done t found (marked_alone close (stop found) u (On t) h).1)
   takes found u t (inr h) = elim h.second [
-    | inl w ↦ omega (arith, ap length h.parts, length-append h.left h.right, ap length (went_on (found ++ h.tree ∷ []) h.right (On t) w).0)
-    | inr w ↦ absurd (on_done t (found ++ h.tree ∷ []) (ended (found ++ h.tree ∷ []) h.right (On t) w).1)
+    | inl w ↦ omega (arith, ap length h.parts, length-append h.left h.right, ap length (marked_alone symbol.Comma (go (found ++ h.tree ∷ [])) h.right (On t) w).0)
+    | inr w ↦ absurd (on_done t (found ++ h.tree ∷ []) (marked_alone close (stop (found ++ h.tree ∷ [])) h.right (On t) w).1)
   ]
+
+  module _ (L : List A → Rel (List A)) (same : Same R L) where
+    abbrev pub Behind_found : List A → Rel (List A)
+    Behind_found found = Then (Shut (L found) close) (λ xs. Nothing (found ++ xs))
+
+    to_behind : (found : List A) (u : Words) (all : List A) → Turns ItemIs found u all → Behind_found found u all
+    to_behind found u all h =
+        let k = to_rest found u all h in
+        let c = k.closed in
+        subst (Behind_found found u) (sym k.whole) (mapping (Shut (L found) close) (λ xs. found ++ xs) u k.others (record { items = c.items; parts = c.parts; spells = same.to found c.items k.others c.spells }))
+
+    from_behind : (found : List A) (u : Words) (all : List A) → Behind_found found u all → Turns ItemIs found u all
+    from_behind found u all h =
+        let m = mapped (Shut (L found) close) (λ xs. found ++ xs) u all h in
+        subst (Turns ItemIs found u) (sym m.2) (subst (λ (y : Words). Turns ItemIs found y (found ++ m.0)) (sym m.1.parts) (from_items found m.1.items m.0 (same.from found m.1.items m.0 m.1.spells)))
+
+    some_behind_found : (found : List A) → Exists (Behind_found found)
+    some_behind_found found = record { tokens = word.Symbol close ∷ []; tree = found ++ []; spells = mapping (Shut (L found) close) (λ xs. found ++ xs) (word.Symbol close ∷ []) [] (record { items = []; parts = refl; spells = same.to found [] [] Items.empty }) }
+
+    -- ---- at least one item
+
+    abbrev SomeIs : Rel (List A)
+    SomeIs = Then (R []) (λ a. Either (Behind symbol.Comma (Behind_found (a ∷ []))) (Behind close (Nothing (a ∷ []))))
+
+    to_some : (u : Words) (xs : List A) → SomeIs u xs → SomeShut (L []) close u xs
+    to_some u xs h = elim h.second [
+      | inl w ↦
+          let m = marked symbol.Comma (Behind_found (h.tree ∷ [])) h.right xs w in
+          let k = mapped (Shut (L (h.tree ∷ [])) close) (λ ys. (h.tree ∷ []) ++ ys) m.0 xs m.2 in
+          record {
+            first = h.tree;
+            others = k.0;
+            items = h.left ++ word.Symbol symbol.Comma ∷ k.1.items;
+            parts = h.parts ∙ ap (λ (x : Words). h.left ++ x) (m.1 ∙ ap (λ (x : Words). word.Symbol symbol.Comma ∷ x) k.1.parts) ∙ sym (append_assoc h.left (word.Symbol symbol.Comma ∷ k.1.items) (word.Symbol close ∷ []));
+            spells = same.to [] (h.left ++ word.Symbol symbol.Comma ∷ k.1.items) (h.tree ∷ k.0) (Items.more h.first (same.from (h.tree ∷ []) k.1.items k.0 k.1.spells));
+            are = k.2;
+          }
+      | inr w ↦
+          let m = marked_alone close (h.tree ∷ []) h.right xs w in
+          record {
+            first = h.tree;
+            others = [];
+            items = h.left;
+            parts = h.parts ∙ ap (λ (x : Words). h.left ++ x) m.0;
+            spells = same.to [] h.left (h.tree ∷ []) (Items.one h.first);
+            are = m.1;
+          }
+    ]
+
+    from_some_items : (before : List A) (items : Words) (all : List A) (first : A) (others : List A) → Items R before items all → before ≡ [] → all ≡ first ∷ others → SomeIs (items ++ word.Symbol close ∷ []) (first ∷ others)
+    from_some_items _ _ _ first others Items.empty nil e = absurd cc
+    from_some_items _ _ _ first others (Items.one {before} {u} {x} h) nil e =
+        subst (SomeIs (u ++ word.Symbol close ∷ [])) e (record { left = u; right = word.Symbol close ∷ []; tree = x; parts = refl; first = subst (λ (l : List A). R l u x) nil h; second = inr (alone close (x ∷ [])) })
+    from_some_items _ _ _ first others (Items.more {before} {u} {v} {x} {xs} h k) nil e =
+        subst (SomeIs ((u ++ word.Symbol symbol.Comma ∷ v) ++ word.Symbol close ∷ [])) e
+        (record {
+          left = u;
+          right = word.Symbol symbol.Comma ∷ v ++ word.Symbol close ∷ [];
+          tree = x;
+          parts = append_assoc u (word.Symbol symbol.Comma ∷ v) (word.Symbol close ∷ []);
+          first = subst (λ (l : List A). R l u x) nil h;
+          second = inl (mark symbol.Comma (Behind_found (x ∷ [])) (v ++ word.Symbol close ∷ []) (x ∷ xs) (mapping (Shut (L (x ∷ [])) close) (λ ys. (x ∷ []) ++ ys) (v ++ word.Symbol close ∷ []) xs (record { items = v; parts = refl; spells = same.to (x ∷ []) v xs (subst (λ (l : List A). Items R (l ++ x ∷ []) v xs) nil k) })));
+        })
+
+    from_some : (u : Words) (xs : List A) → SomeShut (L []) close u xs → SomeIs u xs
+    from_some u xs h = subst (λ (y : Words). SomeIs y xs) (sym h.parts) (subst (SomeIs (h.items ++ word.Symbol close ∷ [])) (sym h.are) (from_some_items [] h.items (h.first ∷ h.others) h.first h.others (same.from [] h.items (h.first ∷ h.others) h.spells) refl refl))
 
 -- what is asked of a symbol that closes and of what stands before it
 pub record Closes {A : Type 0} (close : Symbol) (F : Kinds) (R : Rel A) : Type 0 where
@@ -259,100 +264,107 @@ pub record Closes {A : Type 0} (close : Symbol) (F : Kinds) (R : Rel A) : Type 0
   pub stops_close : F (word.Symbol close) ≡ false
   pub begins : (u rest : Words) (a : A) → R u a → sees (is close) (u ++ rest) ≡ false
 
-pub item_rule : {E A : Type 0} {K : Knot E} {k : ℕ} {F : Kinds} {R : Rel A} {P : E → Parser A} (close : Symbol) → Closes close F R → Rule K k (plain F) R P → (found : List A) → Rule K k (plain none) (ItemIs close R found) (λ i. item_turn close (P i) found)
-item_rule {A} {F} {R} close c p found =
-    let some_end : (all : List A) → Exists {A = Loop A} (Nothing (Done all)) = λ all. record { tokens = []; tree = Done all; spells = (refl, refl) } in
-    let some_on : (all : List A) → Exists {A = Loop A} (Nothing (On all)) = λ all. record { tokens = []; tree = On all; spells = (refl, refl) } in
-    choose_rule (is close) (behind_rule close c.inner (some_end found) (pure_rule (plain none) (Done found)))
-    (then_rule p
-    (λ a. choose_rule (is symbol.Comma) (behind_rule symbol.Comma refl (some_on (found ++ a ∷ [])) (pure_rule (plain none) (On (found ++ a ∷ [])))) (behind_rule close c.inner (some_end (found ++ a ∷ [])) (pure_rule (plain none) (Done (found ++ a ∷ []))))
-    (λ u rest r h s. sees_mark symbol.Comma (Nothing (On (found ++ a ∷ []))) (is symbol.Comma) true refl u rest r h)
-    (λ u rest r h s. sees_mark close (Nothing (Done (found ++ a ∷ []))) (is symbol.Comma) false c.no_comma u rest r h))
-    (λ a v rest r h s. elim h [ inl w ↦ sees_mark symbol.Comma (Nothing (On (found ++ a ∷ []))) F false c.stops_comma v rest r w | inr w ↦ sees_mark close (Nothing (Done (found ++ a ∷ []))) F false c.stops_close v rest r w ])
-    (λ a. record { tokens = word.Symbol close ∷ []; tree = Done (found ++ a ∷ []); spells = inr (ending close R (found ++ a ∷ [])) }))
-    (λ u rest r h s. sees_mark close (Nothing (Done found)) (is close) true (here close) u rest r h)
-    (λ u rest r h s. ap (λ (x : Words). sees (is close) (x ++ rest)) h.parts ∙ ap (sees (is close)) (append_assoc h.left h.right rest) ∙ c.begins h.left (h.right ++ rest) h.tree h.first)
+-- ---- the rules
 
-pub listed_rule : {E A : Type 0} {K : Knot E} {k : ℕ} {F : Kinds} {R : Rel A} {P : E → Parser A} (close : Symbol) → Closes close F R → Rule K k (plain F) R P → (found : List A)
-    → Rule K k (plain none) (Then (Closed R close) (λ xs. Nothing (found ++ xs))) (λ i. listed close (P i) found)
-listed_rule {R} close c p found =
-    iff_rule (λ u all h. let k = to_rest close R found u all h in subst (Then (Closed R close) (λ xs. Nothing (found ++ xs)) u) (sym k.whole) (mapping (Closed R close) (λ xs. found ++ xs) u k.others k.closed))
-    (λ u all h. let m = mapped (Closed R close) (λ xs. found ++ xs) u all h in subst (Turns (ItemIs close R) found u) (sym m.2) (subst (λ (y : Words). Turns (ItemIs close R) found y (found ++ m.0)) (sym m.1.parts) (from_listed close R found m.1.items m.0 m.1.spells)))
-    (loop_rule (item_rule close c p) (λ s ts rest t e. let h = (item_rule close c p s).exact.sound ts rest (On t) e in shorter ts h.used rest h.parts (takes close R s h.used t h.spells)) (λ s u rest r h st t. stops_none (u ++ rest)) (λ rest xs st. st)
-    (λ s. record { tokens = word.Symbol close ∷ []; tree = s; spells = last (inl (ending close R s)) }) found)
+module _ {E A : Type 0} {K : Knot E} {k : ℕ} {F : Kinds} {R : List A → Rel A} {L : List A → Rel (List A)} {P : E → List A → Parser A} (close : Symbol) (same : Same R L)
+    (c : (found : List A) → Closes close F (R found)) (p : (found : List A) → Rule K k (plain F) (R found) (λ i. P i found)) where
+  abbrev turn_of : E → List A → Parser (Loop A)
+  turn_of i s = item_turn close (P i s) s
 
--- a list from its first item on
-pub all_listed_rule : {E A : Type 0} {K : Knot E} {k : ℕ} {F : Kinds} {R : Rel A} {P : E → Parser A} (close : Symbol) → Closes close F R → Rule K k (plain F) R P → Rule K k (plain none) (Closed R close) (λ i. listed close (P i) [])
-all_listed_rule {R} close c p =
-    iff_rule (λ u all h. let m = mapped (Closed R close) (λ xs. [] ++ xs) u all h in subst (Closed R close u) (sym m.2) m.1) (λ u all h. mapping (Closed R close) (λ xs. [] ++ xs) u all h) (listed_rule close c p [])
+  item_rule : (found : List A) → Rule K k (plain none) (ItemIs close R found) (λ i. turn_of i found)
+  item_rule found =
+      let a_close = c found in
+      choose_rule (is close) (alone_rule close (Done found) a_close.inner)
+      (then_rule (p found)
+      (λ a. choose_rule (is symbol.Comma) (alone_rule symbol.Comma (On (found ++ a ∷ [])) refl) (alone_rule close (Done (found ++ a ∷ [])) a_close.inner)
+      (λ u rest r h s. sees_mark symbol.Comma (Nothing (On (found ++ a ∷ []))) (is symbol.Comma) true refl u rest r h)
+      (λ u rest r h s. sees_mark close (Nothing (Done (found ++ a ∷ []))) (is symbol.Comma) false a_close.no_comma u rest r h))
+      (λ a v rest r h s. elim h [ inl w ↦ sees_mark symbol.Comma (Nothing (On (found ++ a ∷ []))) F false a_close.stops_comma v rest r w | inr w ↦ sees_mark close (Nothing (Done (found ++ a ∷ []))) F false a_close.stops_close v rest r w ])
+      (λ a. record { tokens = word.Symbol close ∷ []; tree = Done (found ++ a ∷ []); spells = inr (alone close (Done (found ++ a ∷ []))) }))
+      (λ u rest r h s. sees_mark close (Nothing (Done found)) (is close) true (here close) u rest r h)
+      (λ u rest r h s. ap (λ (x : Words). sees (is close) (x ++ rest)) h.parts ∙ ap (sees (is close)) (append_assoc h.left h.right rest) ∙ a_close.begins h.left (h.right ++ rest) h.tree h.first)
 
--- ---- at least one item
+  pub items_rule : (found : List A) → Rule K k (plain none) (Behind_found close R L same found) (λ i. turning (turn_of i) found)
+  items_rule found =
+      iff_rule (to_behind close R L same found) (from_behind close R L same found)
+      (loop_rule {turn = turn_of} item_rule (λ s ts rest t e. let h = (item_rule s).exact.sound ts rest (On t) e in shorter ts h.used rest h.parts (takes close R s h.used t h.spells)) (λ s u rest r h st t. stops_none (u ++ rest)) (λ rest xs st. st)
+      (λ s. record { tokens = word.Symbol close ∷ []; tree = s; spells = last (inl (alone close (Done s))) }) found)
 
-pub record SomeClosed {A : Type 0} (R : Rel A) (close : Symbol) (u : Words) (xs : List A) : Type 0 where
-  pub first : A
-  pub others : List A
-  pub items : Words
-  pub parts : u ≡ items ++ word.Symbol close ∷ []
-  pub spells : Listed R items (first ∷ others)
-  pub are : xs ≡ first ∷ others
+  -- a list from its first item on
+  pub all_items_rule : Rule K k (plain none) (Shut (L []) close) (λ i. turning (turn_of i) [])
+  all_items_rule = unmapped_rule (λ xs. [] ++ xs) (λ xs. refl) (items_rule [])
 
-module _ {A : Type 0} (close : Symbol) (R : Rel A) where
-  abbrev Others : A → Rel (List A)
-  Others a = Then (Closed R close) (λ xs. Nothing ((a ∷ []) ++ xs))
+  pub some_items_rule : Rule K k (plain none) (SomeShut (L []) close) (λ i. P i [] >>= λ a. choose (is symbol.Comma) (expect symbol.Comma >> turning (turn_of i) (a ∷ [])) (expect close >> pure (a ∷ [])))
+  some_items_rule =
+      let first = c [] in
+      iff_rule (to_some close R L same) (from_some close R L same)
+      (then_rule (p [])
+      (λ a. choose_rule (is symbol.Comma) (behind_rule symbol.Comma refl (some_behind_found close R L same (a ∷ [])) (items_rule (a ∷ []))) (alone_rule close (a ∷ []) first.inner)
+      (λ u rest r h s. sees_mark symbol.Comma (Behind_found close R L same (a ∷ [])) (is symbol.Comma) true refl u rest r h)
+      (λ u rest r h s. sees_mark close (Nothing (a ∷ [])) (is symbol.Comma) false first.no_comma u rest r h))
+      (λ a v rest r h s. elim h [ inl w ↦ sees_mark symbol.Comma (Behind_found close R L same (a ∷ [])) F false first.stops_comma v rest r w | inr w ↦ sees_mark close (Nothing (a ∷ [])) F false first.stops_close v rest r w ])
+      (λ a. record { tokens = word.Symbol close ∷ []; tree = a ∷ []; spells = inr (alone close (a ∷ [])) }))
 
-  abbrev SomeIs : Rel (List A)
-  SomeIs = Then R (λ a. Either (Behind symbol.Comma (Others a)) (Behind close (Nothing (a ∷ []))))
+-- ---- lists where each item stands for itself
 
-  to_some : (u : Words) (xs : List A) → SomeIs u xs → SomeClosed R close u xs
-  to_some u xs h = elim h.second [
-    | inl w ↦
-        let m = marked symbol.Comma (Others h.tree) h.right xs w in
-        let k = mapped (Closed R close) (λ ys. (h.tree ∷ []) ++ ys) m.0 xs m.2 in
-        record {
-          first = h.tree;
-          others = k.0;
-          items = h.left ++ word.Symbol symbol.Comma ∷ k.1.items;
-          parts = h.parts ∙ ap (λ (x : Words). h.left ++ x) (m.1 ∙ ap (λ (x : Words). word.Symbol symbol.Comma ∷ x) k.1.parts) ∙ sym (append_assoc h.left (word.Symbol symbol.Comma ∷ k.1.items) (word.Symbol close ∷ []));
-          spells = Listed.more h.first k.1.spells;
-          are = k.2;
-        }
-    | inr w ↦
-        let m = marked close (Nothing (h.tree ∷ [])) h.right xs w in
-        record {
-          first = h.tree;
-          others = [];
-          items = h.left;
-          parts = h.parts ∙ ap (λ (x : Words). h.left ++ x) (m.1 ∙ ap (λ (x : Words). word.Symbol close ∷ x) m.2.0);
-          spells = Listed.one h.first;
-          are = m.2.1;
-        }
-  ]
+module _ {A : Type 0} (R : Rel A) where
+  abbrev pub Closed : Symbol → Rel (List A)
+  Closed = Shut (Listed R)
 
-  from_items : (items : Words) (all : List A) (first : A) (others : List A) → Listed R items all → all ≡ first ∷ others → SomeIs (items ++ word.Symbol close ∷ []) (first ∷ others)
-  from_items _ _ first others Listed.none e = absurd cc
-  from_items _ _ first others (Listed.one {u} {x} h) e =
-      subst (SomeIs (u ++ word.Symbol close ∷ [])) e (record { left = u; right = word.Symbol close ∷ []; tree = x; parts = refl; first = h; second = inr (mark close (Nothing (x ∷ [])) [] (x ∷ []) (refl, refl)) })
-  from_items _ _ first others (Listed.more {u} {v} {x} {xs} h k) e =
-      subst (SomeIs ((u ++ word.Symbol symbol.Comma ∷ v) ++ word.Symbol close ∷ [])) e
-      (record {
-        left = u;
-        right = word.Symbol symbol.Comma ∷ v ++ word.Symbol close ∷ [];
-        tree = x;
-        parts = append_assoc u (word.Symbol symbol.Comma ∷ v) (word.Symbol close ∷ []);
-        first = h;
-        second = inl (mark symbol.Comma (Others x) (v ++ word.Symbol close ∷ []) (x ∷ xs) (mapping (Closed R close) (λ ys. (x ∷ []) ++ ys) (v ++ word.Symbol close ∷ []) xs (record { items = v; parts = refl; spells = k })));
-      })
+  abbrev pub SomeClosed : Symbol → Rel (List A)
+  SomeClosed = SomeShut (Listed R)
 
-  from_some : (u : Words) (xs : List A) → SomeClosed R close u xs → SomeIs u xs
-  from_some u xs h = subst (λ (y : Words). SomeIs y xs) (sym h.parts) (subst (SomeIs (h.items ++ word.Symbol close ∷ [])) (sym h.are) (from_items h.items (h.first ∷ h.others) h.first h.others h.spells refl))
+  to_listed : (before : List A) (u : Words) (xs : List A) → Items (λ _. R) before u xs → Listed R u xs
+  to_listed _ _ _ Items.empty = Listed.none
+  to_listed _ _ _ (Items.one h) = Listed.one h
+  to_listed _ _ _ (Items.more {before} {v} {x} {xs} h others) = Listed.more h (to_listed (before ++ x ∷ []) v xs others)
 
-pub some_listed_rule : {E A : Type 0} {K : Knot E} {k : ℕ} {F : Kinds} {R : Rel A} {P : E → Parser A} (close : Symbol) → Closes close F R → Rule K k (plain F) R P → Rule K k (plain none) (SomeClosed R close) (λ i. some_listed close (P i))
-some_listed_rule {F} {R} close c p =
-    let some_others : (a : _) → Exists (Others close R a) = λ a. record { tokens = word.Symbol close ∷ []; tree = (a ∷ []) ++ []; spells = mapping (Closed R close) (λ ys. (a ∷ []) ++ ys) (word.Symbol close ∷ []) [] (record { items = []; parts = refl; spells = Listed.none }) } in
-    iff_rule (to_some close R) (from_some close R)
-    (then_rule p
-    (λ a. choose_rule (is symbol.Comma) (behind_rule symbol.Comma refl (some_others a) (listed_rule close c p (a ∷ []))) (behind_rule close c.inner (record { tokens = []; tree = a ∷ []; spells = (refl, refl) }) (pure_rule (plain none) (a ∷ [])))
-    (λ u rest r h s. sees_mark symbol.Comma (Others close R a) (is symbol.Comma) true refl u rest r h)
-    (λ u rest r h s. sees_mark close (Nothing (a ∷ [])) (is symbol.Comma) false c.no_comma u rest r h))
-    (λ a v rest r h s. elim h [ inl w ↦ sees_mark symbol.Comma (Others close R a) F false c.stops_comma v rest r w | inr w ↦ sees_mark close (Nothing (a ∷ [])) F false c.stops_close v rest r w ])
-    (λ a. record { tokens = word.Symbol close ∷ []; tree = a ∷ []; spells = inr (mark close (Nothing (a ∷ [])) [] (a ∷ []) (refl, refl)) }))
+  from_listed : (before : List A) (u : Words) (xs : List A) → Listed R u xs → Items (λ _. R) before u xs
+  from_listed before _ _ Listed.none = Items.empty
+  from_listed before _ _ (Listed.one h) = Items.one h
+  from_listed before _ _ (Listed.more {v} {x} {xs} h others) = Items.more h (from_listed (before ++ x ∷ []) v xs others)
+
+  same_listed : Same (λ _. R) (λ _. Listed R)
+  same_listed = record { to = to_listed; from = from_listed }
+
+module _ {E A : Type 0} {K : Knot E} {k : ℕ} {F : Kinds} {R : Rel A} {P : E → Parser A} (close : Symbol) (c : Closes close F R) (p : Rule K k (plain F) R P) where
+  pub listed_rule : (found : List A) → Rule K k (plain none) (Then (Closed R close) (λ xs. Nothing (found ++ xs))) (λ i. listed close (P i) found)
+  listed_rule = items_rule {P = λ (i : E) _. P i} close (same_listed R) (λ _. c) (λ _. p)
+
+  pub all_listed_rule : Rule K k (plain none) (Closed R close) (λ i. listed close (P i) [])
+  all_listed_rule = all_items_rule {P = λ (i : E) _. P i} close (same_listed R) (λ _. c) (λ _. p)
+
+  pub some_listed_rule : Rule K k (plain none) (SomeClosed R close) (λ i. some_listed close (P i))
+  some_listed_rule = some_items_rule {P = λ (i : E) _. P i} close (same_listed R) (λ _. c) (λ _. p)
+
+-- ---- what is left of a list behind its first item
+
+module _ {A B : Type 0} (R : Rel A) (close : Symbol) (build : List A → B) where
+  -- what a symbol that closes makes of the items behind the first
+  abbrev pub Others : A → Rel B
+  Others x = Then (Then (Closed R close) (λ xs. Nothing ((x ∷ []) ++ xs))) (λ xs. Nothing (build xs))
+
+  pub others : (x : A) (v : Words) (xs : List A) → Listed R v xs → Others x (v ++ word.Symbol close ∷ []) (build (x ∷ xs))
+  others x v xs h =
+      mapping (Then (Closed R close) (λ ys. Nothing ((x ∷ []) ++ ys))) build (v ++ word.Symbol close ∷ []) (x ∷ xs)
+      (mapping (Closed R close) (λ ys. (x ∷ []) ++ ys) (v ++ word.Symbol close ∷ []) xs (record { items = v; parts = refl; spells = h }))
+
+  pub some_others : (x : A) → Exists (Others x)
+  some_others x = record { tokens = word.Symbol close ∷ []; tree = build (x ∷ []); spells = others x [] [] Listed.none }
+
+  pub record OthersAre (x : A) (u : Words) (y : B) : Type 0 where
+    pub items : Words
+    pub values : List A
+    pub parts : u ≡ items ++ word.Symbol close ∷ []
+    pub spells : Listed R items values
+    pub tree : y ≡ build (x ∷ values)
+
+  pub others_are : (x : A) (y : B) (u : Words) → Others x u y → OthersAre x u y
+  others_are x y u h =
+      let a = mapped (Then (Closed R close) (λ ys. Nothing ((x ∷ []) ++ ys))) build u y h in
+      let b = mapped (Closed R close) (λ ys. (x ∷ []) ++ ys) u a.0 a.1 in
+      record { items = b.1.items; values = b.0; parts = b.1.parts; spells = b.1.spells; tree = a.2 ∙ ap build b.2 }
+
+pub others_rule : {E A B : Type 0} {K : Knot E} {k : ℕ} {F : Kinds} {R : Rel A} {P : E → Parser A} (close : Symbol) (build : List A → B) → Closes close F R → Rule K k (plain F) R P → (x : A)
+    → Rule K k (plain none) (Others R close build x) (λ i. listed close (P i) (x ∷ []) >>= λ xs. pure (build xs))
+others_rule close build c p x = map_rule build (listed_rule close c p (x ∷ []))

@@ -1,5 +1,5 @@
 -- The parser of literals is exact.
-use Rattle.std.proofs.Common.{◌≡◌, ℕ, zero, suc, ◌≤◌, ◌^◌, Bool, true, false, nat_lt, nat_le, List, [], ◌∷◌, ◌++◌, Option, Some, pos, neg_ℤ, refl, sym, ap, subst, ◌∙◌, append_assoc, arith, inl, inr}
+use Rattle.std.proofs.Common.{◌≡◌, ℕ, ℤ, zero, suc, ◌<◌, ◌≤◌, ◌^◌, Bool, true, false, nat_lt, nat_le, List, [], ◌∷◌, ◌++◌, Some, None, pos, neg_ℤ, refl, sym, ap, subst, ◌∙◌, append_assoc, arith, inl, inr}
 use Rattle.std.proofs.lemmas.Bool.Decides.{Decides-ltb, leb_tells}
 use Rattle.mx_value.specs.declared.value.Value.{Value}
 use Rattle.mx_value.specs.declared.value.Value.TheVariants as value
@@ -8,15 +8,15 @@ use Rattle.mx_grammar.specs.declared.word.Symbol.TheVariants as symbol
 use Rattle.mx_grammar.specs.declared.word.Word.{Word}
 use Rattle.mx_grammar.specs.declared.word.Word.TheVariants.{Name, Int, Fix, Text, Symbol}
 use Rattle.mx_grammar.specs.Words.{is}
-use Rattle.mx_grammar.specs.Grammar.{Listed, Within}
+use Rattle.mx_grammar.specs.Grammar.{Within}
 use Rattle.mx_grammar.specs.Reading.{Words, Parser, sees, levels}
 use Rattle.mx_grammar.specs.Literals.{Literal}
 use Rattle.mx_grammar.specs.LiteralParsers.{fitting, constant, simple_of, negative_of, tuple_rest, tupled, literal_rule, literal}
-use Rattle.mx_grammar.proofs.Exact.{Rel, none, stops_none, Exists, Nothing, Then, Either, One, Inner, refuse_exact}
+use Rattle.mx_grammar.proofs.Exact.{Rel, none, stops_none, Exists, Nothing, Then, Either, One, refuse_exact}
 use Rattle.mx_grammar.proofs.Meets.{none_meets}
-use Rattle.mx_grammar.proofs.Symbols.{apart}
-use Rattle.mx_grammar.proofs.Rules.{Knot, Rule, plain, pure_rule, accept_rule, then_rule, iff_rule, map_rule, choose_rule, behind_rule, open_rule, Behind, marked, mark, mapped, mapping, sees_mark, some_behind}
-use Rattle.mx_grammar.proofs.Lists.{Closed, Closes, listed_rule}
+use Rattle.mx_grammar.proofs.Symbols.{apart, unlike, unsaid}
+use Rattle.mx_grammar.proofs.Rules.{Knot, Rule, plain, pure_rule, accept_rule, then_rule, iff_rule, choose_rule, behind_rule, open_rule, Behind, marked, mark, sees_mark, some_behind}
+use Rattle.mx_grammar.proofs.Lists.{Closes, Others, others, some_others, others_are, others_rule}
 use Rattle.mx_grammar.proofs.LoopCode.{Within as WithinText}
 
 -- ---- tokens
@@ -32,35 +32,6 @@ begins (Symbol symbol.False) = true
 begins (Symbol symbol.OpenRound) = true
 begins _ = false
 
-pub no_round : (t : Word) → begins t ≡ true → is symbol.CloseRound t ≡ false
-no_round (Symbol symbol.CloseRound) h = absurd cc
-no_round (Symbol _) h = refl
-no_round (Int n) h = refl
-no_round (Fix z) h = refl
-no_round (Text t) h = refl
-no_round (Name n) h = refl
-
-pub no_square : (t : Word) → begins t ≡ true → is symbol.CloseSquare t ≡ false
-no_square (Symbol symbol.CloseSquare) h = absurd cc
-no_square (Symbol _) h = refl
-no_square (Int n) h = refl
-no_square (Fix z) h = refl
-no_square (Text t) h = refl
-no_square (Name n) h = refl
-
-simple_inner : Inner simple_of
-simple_inner (Symbol symbol.End) a h = absurd cc
-simple_inner (Symbol _) a h = refl
-simple_inner (Int n) a h = refl
-simple_inner (Fix z) a h = refl
-simple_inner (Text t) a h = refl
-simple_inner (Name n) a h = refl
-
-negative_inner : Inner negative_of
-negative_inner (Int n) a h = refl
-negative_inner (Fix n) a h = refl
-negative_inner _ a h = absurd cc
-
 fits : {A : Type 0} (b : Bool) (x a : A) → fitting b x ≡ Some a → (b ≡ true) × (a ≡ x)
 fits true x a h = (refl, cc)
 fits false x a h = absurd cc
@@ -71,37 +42,57 @@ at_most n m h = elim (leb_tells n m) [ inl t ↦ t.1 | inr t ↦ absurd (let e =
 within : (n m : ℕ) → n ≤ m → nat_le n m ≡ true
 within n m h = elim (leb_tells n m) [ inl t ↦ t.0 | inr t ↦ absurd (omega (arith, t.1)) ]
 
+-- what each literal of one token spells
+pub record Simple (P : Rel Value) : Type 0 where
+  pub int : (n : ℕ) → n < 2 ^ 63 → P (Int n ∷ []) (value.Int (pos n))
+  pub fix : (z : ℤ) → P (Fix z ∷ []) (value.Fix z)
+  pub text : (t : List ℕ) → P (Text t ∷ []) (value.Text t)
+  pub none : P (Symbol symbol.None ∷ []) value.Nothing
+  pub holds : P (Symbol symbol.True ∷ []) (value.Flag true)
+  pub fails : P (Symbol symbol.False ∷ []) (value.Flag false)
+
+constant_is : (P : Rel Value) → Simple P → (s : Symbols) (v : Value) → constant s ≡ Some v → P (Symbol s ∷ []) v
+constant_is P p symbol.None v h = let same : value.Nothing ≡ v = cc in subst (P (Symbol symbol.None ∷ [])) same p.none
+constant_is P p symbol.True v h = let same : value.Flag true ≡ v = cc in subst (P (Symbol symbol.True ∷ [])) same p.holds
+constant_is P p symbol.False v h = let same : value.Flag false ≡ v = cc in subst (P (Symbol symbol.False ∷ [])) same p.fails
+constant_is P p _ v h = absurd cc
+
+pub simple_is : (P : Rel Value) → Simple P → (t : Word) (v : Value) → simple_of t ≡ Some v → P (t ∷ []) v
+simple_is P p (Int n) v h = let f = fits (nat_lt n (2 ^ 63)) (value.Int (pos n)) v h in subst (P (Int n ∷ [])) (sym f.1) (p.int n ((Decides-ltb n (2 ^ 63)).0 f.0))
+simple_is P p (Fix z) v h = let same : value.Fix z ≡ v = cc in subst (P (Fix z ∷ [])) same (p.fix z)
+simple_is P p (Text t) v h = let same : value.Text t ≡ v = cc in subst (P (Text t ∷ [])) same (p.text t)
+simple_is P p (Symbol s) v h = constant_is P p s v h
+simple_is P p (Name n) v h = absurd cc
+
+-- and what says it
+pub simple_one : Simple (One simple_of)
+simple_one = record {
+  int = λ n h. record { token = Int n; is = refl; what = ap (λ (b : Bool). fitting b (value.Int (pos n))) ((Decides-ltb n (2 ^ 63)).1 h) };
+  fix = λ z. record { token = Fix z; is = refl; what = refl };
+  text = λ t. record { token = Text t; is = refl; what = refl };
+  none = record { token = Symbol symbol.None; is = refl; what = refl };
+  holds = record { token = Symbol symbol.True; is = refl; what = refl };
+  fails = record { token = Symbol symbol.False; is = refl; what = refl };
+}
+
 module _ (In : Rel Value) where
   -- ---- one token
 
-  constant_is : (s : Symbols) (v : Value) → constant s ≡ Some v → Literal In (Symbol s ∷ []) v
-  constant_is symbol.None v h = let same : v ≡ value.Nothing = cc in subst (Literal In (Symbol symbol.None ∷ [])) (sym same) Literal.none
-  constant_is symbol.True v h = let same : v ≡ value.Flag true = cc in subst (Literal In (Symbol symbol.True ∷ [])) (sym same) Literal.holds
-  constant_is symbol.False v h = let same : v ≡ value.Flag false = cc in subst (Literal In (Symbol symbol.False ∷ [])) (sym same) Literal.fails
-  constant_is _ v h = absurd cc
-
-  simple_is : (t : Word) (v : Value) → simple_of t ≡ Some v → Literal In (t ∷ []) v
-  simple_is (Int n) v h = let f = fits (nat_lt n (2 ^ 63)) (value.Int (pos n)) v h in subst (Literal In (Int n ∷ [])) (sym f.1) (Literal.int ((Decides-ltb n (2 ^ 63)).0 f.0))
-  simple_is (Fix z) v h = let same : v ≡ value.Fix z = cc in subst (Literal In (Fix z ∷ [])) (sym same) Literal.fix
-  simple_is (Text t) v h = let same : v ≡ value.Text t = cc in subst (Literal In (Text t ∷ [])) (sym same) Literal.text
-  simple_is (Symbol s) v h = constant_is s v h
-  simple_is (Name n) v h = absurd cc
+  simple : Simple (Literal In)
+  simple = record { int = λ n h. Literal.int h; fix = λ z. Literal.fix; text = λ t. Literal.text; none = Literal.none; holds = Literal.holds; fails = Literal.fails }
 
   negative_is : (t : Word) (v : Value) → negative_of t ≡ Some v → Literal In (Symbol symbol.Minus ∷ t ∷ []) v
   negative_is (Int n) v h = let f = fits (nat_le n (2 ^ 63)) (value.Int (neg_ℤ (pos n))) v h in subst (Literal In (Symbol symbol.Minus ∷ Int n ∷ [])) (sym f.1) (Literal.negative_int (at_most n (2 ^ 63) f.0))
   negative_is (Fix z) v h = let same : v ≡ value.Fix (neg_ℤ z) = cc in subst (Literal In (Symbol symbol.Minus ∷ Fix z ∷ [])) (sym same) Literal.negative_fix
   negative_is _ v h = absurd cc
 
-  one : {A : Type 0} (says : Word → Option A) (t : Word) (a : A) → says t ≡ Some a → One says (t ∷ []) a
-  one says t a h = record { token = t; is = refl; what = h }
-
   -- ---- tuples
 
-  abbrev Others : Value → Rel Value
-  Others x = Then (Then (Closed In symbol.CloseRound) (λ xs. Nothing ((x ∷ []) ++ xs))) (λ xs. Nothing (value.Tup xs))
+  abbrev Other : Value → Rel Value
+  Other = Others In symbol.CloseRound value.Tup
 
   abbrev TupleRest : Value → Rel Value
-  TupleRest x = Behind symbol.Comma (Others x)
+  TupleRest x = Behind symbol.Comma (Other x)
 
   abbrev Tupled : Rel Value
   Tupled = Either (Behind symbol.CloseRound (Nothing (value.Tup []))) (Then In TupleRest)
@@ -109,29 +100,8 @@ module _ (In : Rel Value) where
   abbrev LiteralIs : Rel Value
   LiteralIs = Either (Behind symbol.Minus (One negative_of)) (Either (Behind symbol.OpenRound Tupled) (One simple_of))
 
-  others : (x : Value) (v : Words) (xs : List Value) → Listed In v xs → Others x (v ++ Symbol symbol.CloseRound ∷ []) (value.Tup (x ∷ xs))
-  others x v xs h =
-      mapping (Then (Closed In symbol.CloseRound) (λ ys. Nothing ((x ∷ []) ++ ys))) value.Tup (v ++ Symbol symbol.CloseRound ∷ []) (x ∷ xs)
-      (mapping (Closed In symbol.CloseRound) (λ ys. (x ∷ []) ++ ys) (v ++ Symbol symbol.CloseRound ∷ []) xs (record { items = v; parts = refl; spells = h }))
-
-  some_others : (x : Value) → Exists (Others x)
-  some_others x = record { tokens = Symbol symbol.CloseRound ∷ []; tree = value.Tup (x ∷ []); spells = others x [] [] Listed.none }
-
   some_tupled : Exists Tupled
   some_tupled = record { tokens = Symbol symbol.CloseRound ∷ []; tree = value.Tup []; spells = inl (mark symbol.CloseRound (Nothing (value.Tup [])) [] (value.Tup []) (refl, refl)) }
-
-  record OthersAre (x : Value) (u : Words) (y : Value) : Type 0 where
-    items : Words
-    values : List Value
-    parts : u ≡ items ++ Symbol symbol.CloseRound ∷ []
-    spells : Listed In items values
-    tree : y ≡ value.Tup (x ∷ values)
-
-  others_are : (x y : Value) (u : Words) → Others x u y → OthersAre x u y
-  others_are x y u h =
-      let a = mapped (Then (Closed In symbol.CloseRound) (λ ys. Nothing ((x ∷ []) ++ ys))) value.Tup u y h in
-      let b = mapped (Closed In symbol.CloseRound) (λ ys. (x ∷ []) ++ ys) u a.0 a.1 in
-      record { items = b.1.items; values = b.0; parts = b.1.parts; spells = b.1.spells; tree = a.2 ∙ ap value.Tup b.2 }
 
   to_tupled : (u : Words) (y : Value) → Tupled u y → Literal In (Symbol symbol.OpenRound ∷ u) y
   to_tupled u y (inl h) =
@@ -139,8 +109,8 @@ module _ (In : Rel Value) where
       let e : u ≡ Symbol symbol.CloseRound ∷ [] = m.1 ∙ ap (λ (v : Words). Symbol symbol.CloseRound ∷ v) m.2.0 in
       subst (λ (v : Words). Literal In (Symbol symbol.OpenRound ∷ v) y) (sym e) (subst (Literal In (Symbol symbol.OpenRound ∷ Symbol symbol.CloseRound ∷ [])) (sym m.2.1) Literal.empty)
   to_tupled u y (inr h) =
-      let m = marked symbol.Comma (Others h.tree) h.right y h.second in
-      let o = others_are h.tree y m.0 m.2 in
+      let m = marked symbol.Comma (Other h.tree) h.right y h.second in
+      let o = others_are In symbol.CloseRound value.Tup h.tree y m.0 m.2 in
       let e : u ≡ h.left ++ Symbol symbol.Comma ∷ o.items ++ Symbol symbol.CloseRound ∷ [] = h.parts ∙ ap (λ (v : Words). h.left ++ v) (m.1 ∙ ap (λ (v : Words). Symbol symbol.Comma ∷ v) o.parts) ∙ sym (append_assoc h.left (Symbol symbol.Comma ∷ o.items) (Symbol symbol.CloseRound ∷ [])) in
       subst (λ (v : Words). Literal In (Symbol symbol.OpenRound ∷ v) y) (sym e) (subst (Literal In (Symbol symbol.OpenRound ∷ h.left ++ Symbol symbol.Comma ∷ o.items ++ Symbol symbol.CloseRound ∷ [])) (sym o.tree) (Literal.tuple h.first o.spells))
 
@@ -150,24 +120,21 @@ module _ (In : Rel Value) where
       let o = m.2 in
       subst (λ (v : Words). Literal In v y) (sym (m.1 ∙ ap (λ (v : Words). Symbol symbol.Minus ∷ v) o.is)) (negative_is o.token y o.what)
   to_literal u y (inr (inl h)) = let m = marked symbol.OpenRound Tupled u y h in subst (λ (v : Words). Literal In v y) (sym m.1) (to_tupled m.0 y m.2)
-  to_literal u y (inr (inr o)) = subst (λ (v : Words). Literal In v y) (sym o.is) (simple_is o.token y o.what)
-
-  from_simple : (t : Word) (y : Value) → simple_of t ≡ Some y → LiteralIs (t ∷ []) y
-  from_simple t y h = inr (inr (one simple_of t y h))
+  to_literal u y (inr (inr o)) = subst (λ (v : Words). Literal In v y) (sym o.is) (simple_is (Literal In) simple o.token y o.what)
 
   from_negative : (t : Word) (y : Value) → negative_of t ≡ Some y → LiteralIs (Symbol symbol.Minus ∷ t ∷ []) y
-  from_negative t y h = inl (mark symbol.Minus (One negative_of) (t ∷ []) y (one negative_of t y h))
+  from_negative t y h = inl (mark symbol.Minus (One negative_of) (t ∷ []) y (record { token = t; is = refl; what = h }))
 
   from_literal : (u : Words) (y : Value) → Literal In u y → LiteralIs u y
   unfolding some_tupled
-  from_literal _ _ (Literal.int {n} h) = from_simple (Int n) (value.Int (pos n)) (ap (λ (b : Bool). fitting b (value.Int (pos n))) ((Decides-ltb n (2 ^ 63)).1 h))
+  from_literal _ _ (Literal.int {n} h) = inr (inr (simple_one.int n h))
   from_literal _ _ (Literal.negative_int {n} h) = from_negative (Int n) (value.Int (neg_ℤ (pos n))) (ap (λ (b : Bool). fitting b (value.Int (neg_ℤ (pos n)))) (within n (2 ^ 63) h))
-  from_literal _ _ (Literal.fix {z}) = from_simple (Fix z) (value.Fix z) refl
+  from_literal _ _ (Literal.fix {z}) = inr (inr (simple_one.fix z))
   from_literal _ _ (Literal.negative_fix {z}) = from_negative (Fix z) (value.Fix (neg_ℤ z)) refl
-  from_literal _ _ (Literal.text {t}) = from_simple (Text t) (value.Text t) refl
-  from_literal _ _ Literal.none = from_simple (Symbol symbol.None) value.Nothing refl
-  from_literal _ _ Literal.holds = from_simple (Symbol symbol.True) (value.Flag true) refl
-  from_literal _ _ Literal.fails = from_simple (Symbol symbol.False) (value.Flag false) refl
+  from_literal _ _ (Literal.text {t}) = inr (inr (simple_one.text t))
+  from_literal _ _ Literal.none = inr (inr simple_one.none)
+  from_literal _ _ Literal.holds = inr (inr simple_one.holds)
+  from_literal _ _ Literal.fails = inr (inr simple_one.fails)
   from_literal _ _ Literal.empty = inr (inl (mark symbol.OpenRound Tupled (Symbol symbol.CloseRound ∷ []) (value.Tup []) some_tupled.spells))
   from_literal _ _ (Literal.tuple {u} {v} {x} {xs} h k) =
       inr (inl (mark symbol.OpenRound Tupled (u ++ Symbol symbol.Comma ∷ v ++ Symbol symbol.CloseRound ∷ []) (value.Tup (x ∷ xs)) (inr (record {
@@ -176,72 +143,48 @@ module _ (In : Rel Value) where
         tree = x;
         parts = append_assoc u (Symbol symbol.Comma ∷ v) (Symbol symbol.CloseRound ∷ []);
         first = h;
-        second = mark symbol.Comma (Others x) (v ++ Symbol symbol.CloseRound ∷ []) (value.Tup (x ∷ xs)) (others x v xs k);
+        second = mark symbol.Comma (Other x) (v ++ Symbol symbol.CloseRound ∷ []) (value.Tup (x ∷ xs)) (others In symbol.CloseRound value.Tup x v xs k);
       }))))
 
   pub literal_begins : (u rest : Words) (y : Value) → Literal In u y → sees begins (u ++ rest) ≡ true
   literal_begins _ rest _ (Literal.int h) = refl
-  literal_begins _ rest _ (Literal.negative_int h) = refl
-  literal_begins _ rest _ Literal.fix = refl
-  literal_begins _ rest _ Literal.negative_fix = refl
-  literal_begins _ rest _ Literal.text = refl
-  literal_begins _ rest _ Literal.none = refl
-  literal_begins _ rest _ Literal.holds = refl
-  literal_begins _ rest _ Literal.fails = refl
-  literal_begins _ rest _ Literal.empty = refl
-  literal_begins _ rest _ (Literal.tuple h k) = refl
+  literal_begins _ rest _ _ = refl
 
 abbrev pub Begins : Rel Value → Type 0
 Begins In = (u rest : Words) (y : Value) → In u y → sees begins (u ++ rest) ≡ true
 
 pub closes_round : (In : Rel Value) → Begins In → Closes symbol.CloseRound none In
-closes_round In start = record { inner = refl; no_comma = refl; stops_comma = refl; stops_close = refl; begins = λ u rest y h. apart begins (is symbol.CloseRound) no_round (u ++ rest) (start u rest y h) }
+closes_round In start = record { inner = refl; no_comma = refl; stops_comma = refl; stops_close = refl; begins = λ u rest y h. apart begins (is symbol.CloseRound) (unlike begins symbol.CloseRound refl) (u ++ rest) (start u rest y h) }
 
 pub closes_square : (In : Rel Value) → Begins In → Closes symbol.CloseSquare none In
-closes_square In start = record { inner = refl; no_comma = refl; stops_comma = refl; stops_close = refl; begins = λ u rest y h. apart begins (is symbol.CloseSquare) no_square (u ++ rest) (start u rest y h) }
+closes_square In start = record { inner = refl; no_comma = refl; stops_comma = refl; stops_close = refl; begins = λ u rest y h. apart begins (is symbol.CloseSquare) (unlike begins symbol.CloseSquare refl) (u ++ rest) (start u rest y h) }
 
 module _ {K : Knot (Parser Value)} {k : ℕ} {In : Rel Value} (start : Begins In) (i : Rule K k (plain none) In (λ inner. inner)) where
   rest_rule : (x : Value) → Rule K k (plain none) (TupleRest In x) (λ inner. tuple_rest inner x)
   unfolding tuple_rest
-  rest_rule x = behind_rule symbol.Comma refl (some_others In x) (map_rule value.Tup (listed_rule symbol.CloseRound (closes_round In start) i (x ∷ [])))
+  rest_rule x = behind_rule symbol.Comma refl (some_others In symbol.CloseRound value.Tup x) (others_rule symbol.CloseRound value.Tup (closes_round In start) i x)
 
   tupled_rule : Rule K k (plain none) (Tupled In) tupled
   unfolding tupled
   tupled_rule =
       choose_rule (is symbol.CloseRound) (behind_rule symbol.CloseRound refl (record { tokens = []; tree = value.Tup []; spells = (refl, refl) }) (pure_rule (plain none) (value.Tup [])))
-      (then_rule i rest_rule (λ a v rest b h s. stops_none (v ++ rest)) (λ x. some_behind symbol.Comma (some_others In x)))
+      (then_rule i rest_rule (λ a v rest b h s. stops_none (v ++ rest)) (λ x. some_behind symbol.Comma (some_others In symbol.CloseRound value.Tup x)))
       (λ u rest y h s. sees_mark symbol.CloseRound (Nothing (value.Tup [])) (is symbol.CloseRound) true refl u rest y h)
-      (λ u rest y h s. ap (sees (is symbol.CloseRound)) (ap (λ (v : Words). v ++ rest) h.parts ∙ append_assoc h.left h.right rest) ∙ apart begins (is symbol.CloseRound) no_round (h.left ++ (h.right ++ rest)) (start h.left (h.right ++ rest) h.tree h.first))
+      (λ u rest y h s. ap (sees (is symbol.CloseRound)) (ap (λ (v : Words). v ++ rest) h.parts ∙ append_assoc h.left h.right rest) ∙ apart begins (is symbol.CloseRound) (unlike begins symbol.CloseRound refl) (h.left ++ (h.right ++ rest)) (start h.left (h.right ++ rest) h.tree h.first))
 
-  simple_no : (c : Symbols) → ((t : Word) (y : Value) → simple_of t ≡ Some y → is c t ≡ false) → (u rest : Words) (y : Value) → One simple_of u y → sees (is c) (u ++ rest) ≡ false
-  simple_no c off u rest y o = ap (λ (v : Words). sees (is c) (v ++ rest)) o.is ∙ off o.token y o.what
-
-  no_minus : (t : Word) (y : Value) → simple_of t ≡ Some y → is symbol.Minus t ≡ false
-  no_minus (Symbol symbol.Minus) y h = absurd cc
-  no_minus (Symbol _) y h = refl
-  no_minus (Int n) y h = refl
-  no_minus (Fix z) y h = refl
-  no_minus (Text t) y h = refl
-  no_minus (Name n) y h = refl
-
-  no_open : (t : Word) (y : Value) → simple_of t ≡ Some y → is symbol.OpenRound t ≡ false
-  no_open (Symbol symbol.OpenRound) y h = absurd cc
-  no_open (Symbol _) y h = refl
-  no_open (Int n) y h = refl
-  no_open (Fix z) y h = refl
-  no_open (Text t) y h = refl
-  no_open (Name n) y h = refl
+  simple_no : (c : Symbols) → simple_of (Symbol c) ≡ None → (u rest : Words) (y : Value) → One simple_of u y → sees (is c) (u ++ rest) ≡ false
+  simple_no c off u rest y o = ap (λ (v : Words). sees (is c) (v ++ rest)) o.is ∙ unsaid simple_of c off o.token y o.what
 
   pub the_literal_rule : Rule K (suc k) (plain none) (Literal In) literal_rule
   unfolding literal_rule
   the_literal_rule =
       iff_rule (to_literal In) (from_literal In)
-      (choose_rule (is symbol.Minus) (behind_rule symbol.Minus refl (record { tokens = Int 0 ∷ []; tree = value.Int (neg_ℤ (pos 0)); spells = record { token = Int 0; is = refl; what = refl } }) (accept_rule negative_of negative_inner))
-      (choose_rule (is symbol.OpenRound) (open_rule symbol.OpenRound refl (some_tupled In) tupled_rule) (accept_rule simple_of simple_inner)
+      (choose_rule (is symbol.Minus) (behind_rule symbol.Minus refl (record { tokens = Int 0 ∷ []; tree = value.Int (neg_ℤ (pos 0)); spells = record { token = Int 0; is = refl; what = refl } }) (accept_rule negative_of (unsaid negative_of symbol.End refl)))
+      (choose_rule (is symbol.OpenRound) (open_rule symbol.OpenRound refl (some_tupled In) tupled_rule) (accept_rule simple_of (unsaid simple_of symbol.End refl))
       (λ u rest y h s. sees_mark symbol.OpenRound (Tupled In) (is symbol.OpenRound) true refl u rest y h)
-      (λ u rest y h s. simple_no symbol.OpenRound no_open u rest y h))
+      (λ u rest y h s. simple_no symbol.OpenRound refl u rest y h))
       (λ u rest y h s. sees_mark symbol.Minus (One negative_of) (is symbol.Minus) true refl u rest y h)
-      (λ u rest y h s. elim h [ inl o ↦ sees_mark symbol.OpenRound (Tupled In) (is symbol.Minus) false refl u rest y o | inr o ↦ simple_no symbol.Minus no_minus u rest y o ]))
+      (λ u rest y h s. elim h [ inl o ↦ sees_mark symbol.OpenRound (Tupled In) (is symbol.Minus) false refl u rest y o | inr o ↦ simple_no symbol.Minus refl u rest y o ]))
 
 -- ---- all levels
 

@@ -103,9 +103,9 @@ module _ {S B : Type 0} (R : S → Rel (Turn S B)) (turn : S → Parser (Turn S 
   errs_to F p some (suc k) s ts lt e h =
       fails_map (Then (R s) (After R)) (Turns R s) (turn s >>= after_turn (turning turn)) (turning turn s) (to_turns R s) (back s) ts e
       (elim (bind_err (turn s ts) (after_turn (turning turn)) e (back s ts ∙ h)) [
-        | inl at ↦ first_fails (R s) (After R) (turn s) (after_turn (turning turn)) (some_after R some) ts e ((p s).errs ts e at)
+        | inl at ↦ first_fails (R s) (After R) (turn s) (after_turn (turning turn)) (λ u r h. some_after R some r) ts e ((p s).errs ts e at)
         | inr went ↦
-            second_fails (R s) (After R) (turn s) (after_turn (turning turn)) (some_after R some) ts went.rest went.tree e ((p s).sound ts went.rest went.tree went.was)
+            second_fails (R s) (After R) (turn s) (after_turn (turning turn)) (λ u r h. some_after R some r) ts went.rest went.tree e ((p s).sound ts went.rest went.tree went.was)
             (errs_after went.rest went.tree e (λ t goes_on. errs_to F p some k t went.rest (let lt2 : length went.rest < length ts = shrinks s ts went.rest t (went.was ∙ ap (λ (r : Turn S B). read (r, went.rest)) goes_on) in omega arith)) went.next)
       ])
 

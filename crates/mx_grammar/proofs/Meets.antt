@@ -34,33 +34,27 @@ pub accept_meets : {A : Type 0} (k : ℕ) (says : Word → Option A) → Meets k
 accept_meets k says = record { grows = λ ts rest b e. e; same = λ ts lt. refl; within = λ ts rest a e. let h = accept_shorter says ts rest a e in omega arith }
 
 module _ {A B : Type 0} (P P' : Parser A) (f f' : A → Parser B) where
-  then_same : (k m : ℕ) (ts : Words) (o : Outcome A) → P ts ≡ o → ((rest : Words) (a : A) → P ts ≡ Ok (a, rest) → length rest < k) → ((a : A) → Meets k (f a) (f' a)) → and_then o f ≡ and_then o f'
-  then_same k m ts (Ok (a, rest)) h lt q = (q a).same rest (lt rest a h)
-  then_same k m ts (Err e) h lt q = refl
+  -- of what is behind what is read
+  abbrev Further : ℕ → Type 0
+  Further k = (ts rest : Words) (a : A) → P ts ≡ Ok (a, rest) → Meets k (f a) (f' a)
 
-  then_grows : (k m : ℕ) → Meets m P P' → ((a : A) → Meets k (f a) (f' a)) → (ts rest : Words) (b : B) → (P >>= f) ts ≡ Ok (b, rest) → (P' >>= f') ts ≡ Ok (b, rest)
-  then_grows k m p q ts rest b e = let o = bind_ok (P ts) f b rest e in ap (λ (r : Outcome A). and_then r f') (p.grows ts o.1 o.0 o.2) ∙ (q o.0).grows o.1 rest b o.3
+  same_by : (k : ℕ) (ts : Words) (o : Outcome A) → P ts ≡ o → ((rest : Words) (a : A) → P ts ≡ Ok (a, rest) → length rest < k) → Further k → and_then o f ≡ and_then o f'
+  same_by k ts (Ok (a, rest)) h lt q = (q ts rest a h).same rest (lt rest a h)
+  same_by k ts (Err e) h lt q = refl
 
-  then_within : (k m : ℕ) → Meets m P P' → ((a : A) → Meets k (f a) (f' a)) → (ts rest : Words) (b : B) → (P >>= f) ts ≡ Ok (b, rest) → length rest ≤ length ts
-  then_within k m p q ts rest b e = let o = bind_ok (P ts) f b rest e in let one = p.within ts o.1 o.0 o.2 in let two = (q o.0).within o.1 rest b o.3 in omega arith
-
-  pub then_meets : (k : ℕ) → Meets k P P' → ((a : A) → Meets k (f a) (f' a)) → Meets k (P >>= f) (P' >>= f')
-  then_meets k p q = record {
-    grows = then_grows k k p q;
-    same = λ ts lt. then_same k k ts (P ts) refl (λ rest a e. let h = p.within ts rest a e in omega arith) q ∙ ap (λ (r : Outcome A). and_then r f') (p.same ts lt);
-    within = then_within k k p q;
+  read_meets : (k m : ℕ) → Meets m P P' → ((ts rest : Words) (a : A) → P ts ≡ Ok (a, rest) → length ts < m → length rest < k) → Further k → Meets m (P >>= f) (P' >>= f')
+  read_meets k m p fewer q = record {
+    grows = λ ts rest b e. let o = bind_ok (P ts) f b rest e in ap (λ (r : Outcome A). and_then r f') (p.grows ts o.1 o.0 o.2) ∙ (q ts o.1 o.0 o.2).grows o.1 rest b o.3;
+    same = λ ts lt. same_by k ts (P ts) refl (λ rest a e. fewer ts rest a e lt) q ∙ ap (λ (r : Outcome A). and_then r f') (p.same ts lt);
+    within = λ ts rest b e. let o = bind_ok (P ts) f b rest e in let one = p.within ts o.1 o.0 o.2 in let two = (q ts o.1 o.0 o.2).within o.1 rest b o.3 in omega arith;
   }
 
-  -- behind a token
-  pub behind_meets : (k : ℕ) → Meets (suc k) P P' → Shorter P → ((a : A) → Meets k (f a) (f' a)) → Meets (suc k) (P >>= f) (P' >>= f')
-  behind_meets k p short q = record {
-    grows = then_grows k (suc k) p q;
-    same = λ ts lt. then_same k (suc k) ts (P ts) refl (λ rest a e. let h = short ts rest a e in omega arith) q ∙ ap (λ (r : Outcome A). and_then r f') (p.same ts lt);
-    within = then_within k (suc k) p q;
-  }
+  pub then_meets : (k : ℕ) → Meets k P P' → Further k → Meets k (P >>= f) (P' >>= f')
+  then_meets k p q = read_meets k k p (λ ts rest a e lt. let h = p.within ts rest a e in omega arith) q
 
+-- behind a token
 pub open_meets : {A B : Type 0} (k : ℕ) (says : Word → Option A) (f f' : A → Parser B) → ((a : A) → Meets k (f a) (f' a)) → Meets (suc k) (accept says >>= f) (accept says >>= f')
-open_meets k says f f' q = behind_meets (accept says) (accept says) f f' k (accept_meets (suc k) says) (accept_shorter says) q
+open_meets k says f f' q = read_meets (accept says) (accept says) f f' k (suc k) (accept_meets (suc k) says) (λ ts rest a e lt. let h = accept_shorter says ts rest a e in omega arith) (λ ts rest a e. q a)
 
 choose_grows : {A : Type 0} (b : Bool) (x x' y y' r : Outcome A) → (x ≡ r → x' ≡ r) → (y ≡ r → y' ≡ r) → cond b x y ≡ r → cond b x' y' ≡ r
 choose_grows true x x' y y' r p q e = p e
@@ -85,7 +79,7 @@ module _ {S B : Type 0} (k : ℕ) (turn turn' : S → Parser (Turn S B)) (t : (s
   turns_meet : (n : ℕ) (s : S) → Meets k (turns turn n s) (turns turn' n s)
   unfolding turns
   turns_meet zero s = record { grows = λ ts rest b e. absurd cc; same = λ ts lt. refl; within = λ ts rest b e. absurd cc }
-  turns_meet (suc n) s = then_meets (turn s) (turn' s) (after_turn (turns turn n)) (after_turn (turns turn' n)) k (t s) (after_meets (turns turn n) (turns turn' n) (turns_meet n))
+  turns_meet (suc n) s = then_meets (turn s) (turn' s) (after_turn (turns turn n)) (after_turn (turns turn' n)) k (t s) (λ ts rest r e. after_meets (turns turn n) (turns turn' n) (turns_meet n) r)
 
   pub loop_meets : (s : S) → Meets k (turning turn s) (turning turn' s)
   unfolding turning

@@ -1,7 +1,6 @@
 -- Tokens at which too many brackets are open, and those at which none are.
-use Rattle.std.proofs.Common.{◌≡◌, ℕ, suc, ◌≤◌, ◌<◌, [], ◌∷◌, length, refl, arith, inl, inr}
+use Rattle.std.proofs.Common.{◌≡◌, ℕ, ◌≤◌, ◌<◌, [], ◌∷◌, length, arith, inl, inr}
 use Rattle.mx_grammar.specs.declared.nesting.Open.{Open}
-use Rattle.mx_grammar.specs.declared.word.Word.{Word}
 use Rattle.mx_grammar.specs.Reading.{Words}
 use Rattle.mx_grammar.specs.Spelling.{Shallow, DeepAt, behind_word, open_count, unopened}
 
@@ -29,15 +28,3 @@ deep_within d n (t ∷ ts) a (inr p) = let h = deep_within d (behind_word t n) t
 pub record Keeps (d : ℕ) (n : Open) (rest all : Words) : Type 0 where
   pub shallow : Shallow d n rest → Shallow d unopened all
   pub deep : (left : ℕ) → DeepAt d n rest left → DeepAt d unopened all left
-
-pub keeps_all : (d : ℕ) (all : Words) → Keeps d unopened all all
-keeps_all d all = record { shallow = λ s. s; deep = λ left h. h }
-
-pub keeps_more : (d : ℕ) (n : Open) (t : Word) (rest all : Words) → open_count (behind_word t n) ≤ d → Keeps d n (t ∷ rest) all → Keeps d (behind_word t n) rest all
-keeps_more d n t rest all le k = record { shallow = λ s. k.shallow (le, s); deep = λ left h. k.deep left (inr (le, h)) }
-
-pub keeps_deep : (d : ℕ) (n : Open) (t : Word) (rest all : Words) → d < open_count (behind_word t n) → Keeps d n (t ∷ rest) all → DeepAt d unopened all (suc (length rest))
-keeps_deep d n t rest all lt k = k.deep (suc (length rest)) (inl (lt, refl))
-
-pub keeps_none : (d : ℕ) (n : Open) (all : Words) → Keeps d n [] all → Shallow d unopened all
-keeps_none d n all k = k.shallow tt

@@ -35,14 +35,21 @@ accept_rule {k} says inner = record { exact = accept_exact says inner; meets = a
 
 -- ---- one after the other
 
+-- where the second is known to be a rule only behind what spells the first
+pub reached_rule : {E A B : Type 0} {K : Knot E} {k : ℕ} {F : A → Kinds} {G : B → Kinds} {R : Rel A} {Q : A → Rel B} {P : E → Parser A} {f : E → A → Parser B}
+    → Rule K k F R P → ((u : Words) (a : A) → R u a → Rule K k G (Q a) (λ i. f i a))
+    → ((a : A) (v rest : Words) (b : B) → Q a v b → Stops (G b) rest → Stops (F a) (v ++ rest)) → ((u : Words) (a : A) → R u a → Exists (Q a))
+    → Rule K k G (Then R Q) (λ i. P i >>= f i)
+reached_rule {K} {k} {F} {G} {R} {Q} {P} {f} p q fits more = record {
+  exact = then_exact R Q (P K.inner) (f K.inner) F G p.exact (λ u a h. (q u a h).exact) fits more;
+  meets = then_meets (P K.inner) (P K.more) (f K.inner) (f K.more) k p.meets (λ ts rest a e. let one = p.exact.sound ts rest a e in (q one.used a one.spells).meets);
+}
+
 pub then_rule : {E A B : Type 0} {K : Knot E} {k : ℕ} {F : A → Kinds} {G : B → Kinds} {R : Rel A} {Q : A → Rel B} {P : E → Parser A} {f : E → A → Parser B}
     → Rule K k F R P → ((a : A) → Rule K k G (Q a) (λ i. f i a))
     → ((a : A) (v rest : Words) (b : B) → Q a v b → Stops (G b) rest → Stops (F a) (v ++ rest)) → ((a : A) → Exists (Q a))
     → Rule K k G (Then R Q) (λ i. P i >>= f i)
-then_rule {K} {k} {F} {G} {R} {Q} {P} {f} p q fits more = record {
-  exact = then_exact R Q (P K.inner) (f K.inner) F G p.exact (λ a. (q a).exact) fits more;
-  meets = then_meets (P K.inner) (P K.more) (f K.inner) (f K.more) k p.meets (λ a. (q a).meets);
-}
+then_rule p q fits more = reached_rule p (λ u a h. q a) fits (λ u a h. more a)
 
 pub iff_rule : {E A : Type 0} {K : Knot E} {k : ℕ} {F : A → Kinds} {R S : Rel A} {P : E → Parser A} → ((u : Words) (a : A) → R u a → S u a) → ((u : Words) (a : A) → S u a → R u a) → Rule K k F R P → Rule K k F S P
 iff_rule {K} {F} {R} {S} {P} to from p = record { exact = iff_exact F R S (P K.inner) to from p.exact; meets = p.meets }
@@ -63,6 +70,14 @@ mapped R f u b h = (h.tree, subst (λ (x : Words). R x h.tree) (sym (h.parts ∙
 
 pub mapping : {A B : Type 0} (R : Rel A) (f : A → B) (u : Words) (a : A) → R u a → Then R (λ a. Nothing (f a)) u (f a)
 mapping R f u a h = record { left = u; right = []; tree = a; parts = sym (append-nil u); first = h; second = (refl, refl) }
+
+pub remapped : {A B : Type 0} (R : Rel A) (f g : A → B) → ((a : A) → f a ≡ g a) → (u : Words) (b : B) → Then R (λ a. Nothing (f a)) u b → Then R (λ a. Nothing (g a)) u b
+remapped R f g same u b h = record { left = h.left; right = h.right; tree = h.tree; parts = h.parts; first = h.first; second = (h.second.0, h.second.1 ∙ same h.tree) }
+
+-- a function that changes nothing
+pub unmapped_rule : {E A : Type 0} {K : Knot E} {k : ℕ} {F : Kinds} {R : Rel A} {P : E → Parser A} (f : A → A) → ((a : A) → f a ≡ a) → Rule K k (plain F) (Then R (λ a. Nothing (f a))) P → Rule K k (plain F) R P
+unmapped_rule {R} f same p =
+    iff_rule (λ u b h. let m = mapped R f u b h in subst (R u) (sym (m.2 ∙ same m.0)) m.1) (λ u b h. subst (Then R (λ a. Nothing (f a)) u) (same b) (mapping R f u b h)) p
 
 pub some_mapped : {A B : Type 0} {R : Rel A} (f : A → B) → Exists R → Exists (Then R (λ a. Nothing (f a)))
 some_mapped {R} f some = record { tokens = some.tokens; tree = f some.tree; spells = mapping R f some.tokens some.tree some.spells }
@@ -100,7 +115,7 @@ behind_rule s inner some q = then_rule (mark_rule s inner) (λ _. q) (λ a v res
 -- behind a bracket one level more is there
 pub open_rule : {E B : Type 0} {K : Knot E} {k : ℕ} {G : B → Kinds} {Q : Rel B} {f : E → Parser B} (s : Symbol) → is symbol.End (word.Symbol s) ≡ false → Exists Q → Rule K k G Q f → Rule K (suc k) G (Behind s Q) (λ i. expect s >> f i)
 open_rule {K} {k} {G} {Q} {f} s inner some q = record {
-  exact = then_exact (Mark s) (λ _. Q) (expect s) (λ _. f K.inner) (plain none) G (mark_exact s inner) (λ _. q.exact) (λ a v rest b h t. stops_none (v ++ rest)) (λ _. some);
+  exact = then_exact (Mark s) (λ _. Q) (expect s) (λ _. f K.inner) (plain none) G (mark_exact s inner) (λ _ _ _. q.exact) (λ a v rest b h t. stops_none (v ++ rest)) (λ _ _ _. some);
   meets = open_meets k (says (is s)) (λ _. f K.inner) (λ _. f K.more) (λ _. q.meets);
 }
 
@@ -112,6 +127,25 @@ mark s Q v b h = record { left = word.Symbol s ∷ []; right = v; tree = tt; par
 
 pub some_behind : {B : Type 0} (s : Symbol) {Q : Rel B} → Exists Q → Exists (Behind s Q)
 some_behind s {Q} some = record { tokens = word.Symbol s ∷ some.tokens; tree = some.tree; spells = mark s Q some.tokens some.tree some.spells }
+
+-- a symbol that says something, alone
+pub marked_alone : {A : Type 0} (s : Symbol) (a : A) (u : Words) (b : A) → Behind s (Nothing a) u b → (u ≡ word.Symbol s ∷ []) × (b ≡ a)
+marked_alone s a u b h = let m = marked s (Nothing a) u b h in (m.1 ∙ ap (λ (x : Words). word.Symbol s ∷ x) m.2.0, m.2.1)
+
+pub alone : {A : Type 0} (s : Symbol) (a : A) → Behind s (Nothing a) (word.Symbol s ∷ []) a
+alone s a = mark s (Nothing a) [] a (refl, refl)
+
+pub single : {A : Type 0} (P : Rel A) (s : Symbol) (a : A) → P (word.Symbol s ∷ []) a → (u : Words) (b : A) → Behind s (Nothing a) u b → P u b
+single P s a h u b k = let m = marked_alone s a u b k in subst (λ (v : Words). P v b) (sym m.0) (subst (P (word.Symbol s ∷ [])) (sym m.1) h)
+
+pub alone_rule : {E A : Type 0} {K : Knot E} {k : ℕ} (s : Symbol) (a : A) → is symbol.End (word.Symbol s) ≡ false → Rule K k (plain none) (Behind s (Nothing a)) (λ _. expect s >> pure a)
+alone_rule s a inner = behind_rule s inner (record { tokens = []; tree = a; spells = (refl, refl) }) (pure_rule (plain none) a)
+
+pub some_alone : {A : Type 0} (s : Symbol) (a : A) → Exists (Behind s (Nothing a))
+some_alone s a = record { tokens = word.Symbol s ∷ []; tree = a; spells = alone s a }
+
+pub behind_is : {B : Type 0} (s : Symbol) (Q R : Rel B) → ((u : Words) (b : B) → Q u b → R (word.Symbol s ∷ u) b) → (u : Words) (b : B) → Behind s Q u b → R u b
+behind_is s Q R is u b h = let m = marked s Q u b h in subst (λ (v : Words). R v b) (sym m.1) (is m.0 b m.2)
 
 -- what a symbol's token says of a text that begins with it
 pub sees_mark : {B : Type 0} (s : Symbol) (Q : Rel B) (F : Kinds) (c : Bool) → F (word.Symbol s) ≡ c → (u rest : Words) (b : B) → Behind s Q u b → sees F (u ++ rest) ≡ c

@@ -1,5 +1,5 @@
 -- A symbol is that of one token alone.
-use Rattle.std.proofs.Common.{◌≡◌, ℕ, Bool, true, false, ◌==◌, if◌then◌else◌, [], ◌∷◌, Some, refl, sym, ap, ◌∙◌}
+use Rattle.std.proofs.Common.{◌≡◌, ℕ, Bool, true, false, get_or, [], ◌∷◌, Option, Some, None, refl, sym, ap, ◌∙◌}
 use Rattle.std.proofs.lemmas.Bool.Decides.{Decides-eqb}
 use Rattle.mx_grammar.specs.declared.word.Symbol.{Symbol}
 use Rattle.mx_grammar.specs.declared.word.Symbol.TheVariants as symbol
@@ -9,101 +9,14 @@ use Rattle.mx_grammar.specs.Words.{code, is}
 use Rattle.mx_grammar.specs.Reading.{Words, sees, seen, says}
 use Rattle.mx_grammar.proofs.Exact.{Kinds, Stops}
 
+-- the symbols in the order of their codes
 of_code : ℕ → Symbol
-of_code n =
-    if n == 0 then symbol.And else (
-    if n == 1 then symbol.Or else (
-    if n == 2 then symbol.Not else (
-    if n == 3 then symbol.If else (
-    if n == 4 then symbol.Else else (
-    if n == 5 then symbol.Elif else (
-    if n == 6 then symbol.For else (
-    if n == 7 then symbol.In else (
-    if n == 8 then symbol.Is else (
-    if n == 9 then symbol.None else (
-    if n == 10 then symbol.True else (
-    if n == 11 then symbol.False else (
-    if n == 12 then symbol.Pass else (
-    if n == 13 then symbol.Return else (
-    if n == 14 then symbol.Plus else (
-    if n == 15 then symbol.Minus else (
-    if n == 16 then symbol.Times else (
-    if n == 17 then symbol.Over else (
-    if n == 18 then symbol.Floor else (
-    if n == 19 then symbol.Rem else (
-    if n == 20 then symbol.Power else (
-    if n == 21 then symbol.OpenRound else (
-    if n == 22 then symbol.CloseRound else (
-    if n == 23 then symbol.OpenSquare else (
-    if n == 24 then symbol.CloseSquare else (
-    if n == 25 then symbol.OpenCurly else (
-    if n == 26 then symbol.CloseCurly else (
-    if n == 27 then symbol.Comma else (
-    if n == 28 then symbol.Colon else (
-    if n == 29 then symbol.Dot else (
-    if n == 30 then symbol.Assign else (
-    if n == 31 then symbol.PlusAssign else (
-    if n == 32 then symbol.MinusAssign else (
-    if n == 33 then symbol.TimesAssign else (
-    if n == 34 then symbol.Eq else (
-    if n == 35 then symbol.Ne else (
-    if n == 36 then symbol.Lt else (
-    if n == 37 then symbol.Le else (
-    if n == 38 then symbol.Gt else (
-    if n == 39 then symbol.Ge else (
-    if n == 40 then symbol.Newline else (
-    if n == 41 then symbol.Indent else (
-    if n == 42 then symbol.Dedent else (
-    if n == 43 then symbol.End else (
-    symbol.Unused))))))))))))))))))))))))))))))))))))))))))))
+of_code n = get_or (symbol.And ∷ symbol.Or ∷ symbol.Not ∷ symbol.If ∷ symbol.Else ∷ symbol.Elif ∷ symbol.For ∷ symbol.In ∷ symbol.Is ∷ symbol.None ∷ symbol.True ∷ symbol.False ∷ symbol.Pass ∷ symbol.Return ∷ symbol.Plus ∷ symbol.Minus ∷ symbol.Times ∷ symbol.Over ∷ symbol.Floor ∷ symbol.Rem ∷ symbol.Power ∷ symbol.OpenRound ∷ symbol.CloseRound ∷ symbol.OpenSquare ∷ symbol.CloseSquare ∷ symbol.OpenCurly ∷ symbol.CloseCurly ∷ symbol.Comma ∷ symbol.Colon ∷ symbol.Dot ∷ symbol.Assign ∷ symbol.PlusAssign ∷ symbol.MinusAssign ∷ symbol.TimesAssign ∷ symbol.Eq ∷ symbol.Ne ∷ symbol.Lt ∷ symbol.Le ∷ symbol.Gt ∷ symbol.Ge ∷ symbol.Newline ∷ symbol.Indent ∷ symbol.Dedent ∷ symbol.End ∷ []) n symbol.Unused
 
 of_code_code : (s : Symbol) → of_code (code s) ≡ s
 unfolding of_code
 of_code_code symbol.And = refl
-of_code_code symbol.Or = refl
-of_code_code symbol.Not = refl
-of_code_code symbol.If = refl
-of_code_code symbol.Else = refl
-of_code_code symbol.Elif = refl
-of_code_code symbol.For = refl
-of_code_code symbol.In = refl
-of_code_code symbol.Is = refl
-of_code_code symbol.None = refl
-of_code_code symbol.True = refl
-of_code_code symbol.False = refl
-of_code_code symbol.Pass = refl
-of_code_code symbol.Return = refl
-of_code_code symbol.Plus = refl
-of_code_code symbol.Minus = refl
-of_code_code symbol.Times = refl
-of_code_code symbol.Over = refl
-of_code_code symbol.Floor = refl
-of_code_code symbol.Rem = refl
-of_code_code symbol.Power = refl
-of_code_code symbol.OpenRound = refl
-of_code_code symbol.CloseRound = refl
-of_code_code symbol.OpenSquare = refl
-of_code_code symbol.CloseSquare = refl
-of_code_code symbol.OpenCurly = refl
-of_code_code symbol.CloseCurly = refl
-of_code_code symbol.Comma = refl
-of_code_code symbol.Colon = refl
-of_code_code symbol.Dot = refl
-of_code_code symbol.Assign = refl
-of_code_code symbol.PlusAssign = refl
-of_code_code symbol.MinusAssign = refl
-of_code_code symbol.TimesAssign = refl
-of_code_code symbol.Eq = refl
-of_code_code symbol.Ne = refl
-of_code_code symbol.Lt = refl
-of_code_code symbol.Le = refl
-of_code_code symbol.Gt = refl
-of_code_code symbol.Ge = refl
-of_code_code symbol.Newline = refl
-of_code_code symbol.Indent = refl
-of_code_code symbol.Dedent = refl
-of_code_code symbol.End = refl
-of_code_code symbol.Unused = refl
+of_code_code _ = refl
 
 pub only : (s : Symbol) (w : Word) → is s w ≡ true → w ≡ word.Symbol s
 only s (word.Symbol t) h = ap word.Symbol (sym (of_code_code t) ∙ ap of_code ((Decides-eqb (code t) (code s)).0 h) ∙ of_code_code s)
@@ -127,3 +40,20 @@ at s F b h t here = ap F (only s t here) ∙ h
 pub apart : (F G : Kinds) → ((t : Word) → F t ≡ true → G t ≡ false) → (ts : Words) → sees F ts ≡ true → Stops G ts
 apart F G h [] e = refl
 apart F G h (t ∷ ts) e = h t e
+
+-- what is of one kind is of another
+pub along : (F G : Kinds) → ((t : Word) → F t ≡ true → G t ≡ true) → (ts : Words) → sees F ts ≡ true → sees G ts ≡ true
+along F G to [] h = absurd cc
+along F G to (t ∷ ts) h = to t h
+
+otherwise : (b : Bool) → (b ≡ true → ⊥) → b ≡ false
+otherwise true n = absurd (n refl)
+otherwise false n = refl
+
+-- a token of a kind is no symbol that is not of it
+pub unlike : (F : Kinds) (s : Symbol) → F (word.Symbol s) ≡ false → (t : Word) → F t ≡ true → is s t ≡ false
+unlike F s f t h = otherwise (is s t) (λ e. let k = sym h ∙ at s F false f t e in cc)
+
+-- nor is one that says something a symbol that says nothing
+pub unsaid : {A : Type 0} (says : Word → Option A) (s : Symbol) → says (word.Symbol s) ≡ None → (t : Word) (a : A) → says t ≡ Some a → is s t ≡ false
+unsaid says s n t a h = otherwise (is s t) (λ e. let k = sym h ∙ ap says (only s t e) ∙ n in cc)

@@ -94,13 +94,6 @@ module _ {A : Type 0} (L : Language A) (P : ℕ → Parser A) (x : Exactly L P) 
 
   -- ---- what is read
 
-  pub parsed_complete : (ts : Words) (y : A) → Spells L ts y → parsed P ts ≡ Ok y
-  unfolding text
-  parsed_complete ts y h =
-      let m : ℕ = max h.levels (enough ts) in
-      let same : P (enough ts) ts ≡ P m ts = (x.meets (enough ts) m (omega arith)).same ts (omega arith) in
-      ap (λ (o : Outcome A). whole (and_then o (λ z. expect End >> pure z))) (same ∙ spelled m ts y h (omega arith))
-
   sound_by : (ts : Words) (n : ℕ) (y : A) (o : Outcome A) → P n ts ≡ o → whole (and_then o (λ z. expect End >> pure z)) ≡ Ok y → Spells L ts y
   sound_by ts n y (Err e) h f = absurd cc
   sound_by ts n y (Ok (z, mid)) h f =

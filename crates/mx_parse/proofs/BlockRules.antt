@@ -14,7 +14,7 @@ use Rattle.mx_grammar.proofs.Exact.{Rel, Kinds, Stops, none, stops_none, or, or_
 use Rattle.mx_grammar.proofs.Meets.{fewer_meets, none_meets}
 use Rattle.mx_grammar.proofs.Symbols.{apart}
 use Rattle.mx_grammar.proofs.Loops.{Turns, last, next, Shrinks}
-use Rattle.mx_grammar.proofs.Rules.{Knot, Rule, plain, pure_rule, then_rule, iff_rule, map_rule, choose_rule, behind_rule, open_rule, loop_rule, Behind, marked, mark, mapped, mapping, sees_mark, some_behind}
+use Rattle.mx_grammar.proofs.Rules.{Knot, Rule, plain, pure_rule, then_rule, iff_rule, map_rule, choose_rule, behind_rule, open_rule, loop_rule, Behind, marked, mark, mapped, mapping, sees_mark, some_behind, marked_alone}
 use Rattle.mx_grammar.proofs.Lists.{exact_shorter, shorter, not_nothing, on_done, on_same, done_same}
 use Rattle.mx_parse.specs.Statements.{Simple, Statement, Body, Block, Blocks, Bodies}
 use Rattle.mx_parse.specs.StatementParsers.{body_by, statement_turn, statements, block_rule, block, body}
@@ -50,8 +50,11 @@ module _ (E : Rel Expr) (Item : Rel (List ItemEntry)) (In : Rel (List Stmt)) whe
 
   -- ---- statements of a block, to its end
 
+  abbrev stop : List Stmt → Turn (List Stmt) (List Stmt)
+  stop all = Done all
+
   abbrev Ending : List Stmt → Rel (Turn (List Stmt) (List Stmt))
-  Ending all = Behind symbol.Dedent (Nothing (Done all))
+  Ending all = Behind symbol.Dedent (Nothing (stop all))
 
   abbrev TurnIs : List Stmt → Rel (Turn (List Stmt) (List Stmt))
   TurnIs found = Then (Statement E Item In) (λ s. Either (Ending (found ++ s ∷ [])) (Nothing (On (found ++ s ∷ []))))
@@ -64,13 +67,10 @@ module _ (E : Rel Expr) (Item : Rel (List ItemEntry)) (In : Rel (List Stmt)) whe
     spells : Parts (Statement E Item In) words (first ∷ others)
     whole : all ≡ found ++ first ∷ others
 
-  ending : (all : List Stmt) (u : Words) (r : Turn (List Stmt) (List Stmt)) → Ending all u r → (u ≡ Symbol symbol.Dedent ∷ []) × (r ≡ Done all)
-  ending all u r h = let m = marked symbol.Dedent (Nothing (Done all)) u r h in (m.1 ∙ ap (λ (v : Words). Symbol symbol.Dedent ∷ v) m.2.0, m.2.1)
-
   block_is : (found : List Stmt) (u : Words) (all : List Stmt) → Turns TurnIs found u all → IsBlock found u all
   block_is _ _ _ (last {s} {u} {b} h) = elim h.second [
     | inl w ↦
-        let e = ending (s ++ h.tree ∷ []) h.right (Done b) w in
+        let e = marked_alone symbol.Dedent (stop (s ++ h.tree ∷ [])) h.right (Done b) w in
         record {
           words = h.left ++ [];
           first = h.tree;
@@ -82,7 +82,7 @@ module _ (E : Rel Expr) (Item : Rel (List ItemEntry)) (In : Rel (List Stmt)) whe
     | inr w ↦ absurd (on_done (s ++ h.tree ∷ []) b (sym w.1))
   ]
   block_is _ _ _ (next {s} {t} {u} {v} {b} h more) = elim h.second [
-    | inl w ↦ absurd (on_done t (s ++ h.tree ∷ []) (ending (s ++ h.tree ∷ []) h.right (On t) w).1)
+    | inl w ↦ absurd (on_done t (s ++ h.tree ∷ []) (marked_alone symbol.Dedent (stop (s ++ h.tree ∷ [])) h.right (On t) w).1)
     | inr w ↦
         let k = block_is t v b more in
         record {

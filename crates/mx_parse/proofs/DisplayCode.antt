@@ -15,7 +15,7 @@ use Rattle.mx_grammar.proofs.LoopCode.{Within}
 use Rattle.mx_parse.specs.Following.{unless}
 use Rattle.mx_parse.specs.DisplayParsers.{is_wrong_key, new_key, pair, reference, ref_turn, refs, says_refs, new_entry, refs_entry, base_entry, entry_rest, item_entry, entry_turn, entries, display}
 use Rattle.mx_parse.proofs.StatementLengths.{shorter_within, pure_within, then_within, behind_shorter}
-use Rattle.mx_parse.proofs.FollowingCode.{turn_shrinks, following_within, refined, accept_ok, accept_err}
+use Rattle.mx_parse.proofs.FollowingCode.{turn_shrinks, following_within, refined, accept_ok}
 
 abbrev key_of : List (List ℕ × Expr) → List ℕ → Option (List ℕ)
 key_of before t = unless (is_wrong_key before t) t
@@ -36,19 +36,6 @@ key_refused before ts rest n k read wrong at = key_ok before ts rest n read ∙ 
 
 pub key_taken : (before : List (List ℕ × Expr)) (ts rest : Words) (n : List ℕ) → accept text_of ts ≡ Ok (n, rest) → is_wrong_key before n ≡ false → accept (new_key before) ts ≡ Ok (n, rest)
 key_taken before ts rest n read fine = key_ok before ts rest n read ∙ ap (λ (b : Bool). taken rest (length ts) (unless b n)) fine
-
-pub key_err : (before : List (List ℕ × Expr)) (ts : Words) (e : Trouble) → accept text_of ts ≡ Err e → accept (new_key before) ts ≡ Err e
-key_err before = accept_err text_of (new_key before) (key_of before) (key_by before)
-
-entry_by : (before : List ItemEntry) (t : Word) → new_entry before t ≡ refined (text_of t) (says_refs before)
-entry_by before (Text n) = refl
-entry_by before _ = refl
-
-pub entry_ok : (before : List ItemEntry) (ts rest : Words) (n : List ℕ) → accept text_of ts ≡ Ok (n, rest) → accept (new_entry before) ts ≡ taken rest (length ts) (says_refs before n)
-entry_ok before = accept_ok text_of (new_entry before) (says_refs before) (entry_by before)
-
-pub entry_err : (before : List ItemEntry) (ts : Words) (e : Trouble) → accept text_of ts ≡ Err e → accept (new_entry before) ts ≡ Err e
-entry_err before = accept_err text_of (new_entry before) (says_refs before) (entry_by before)
 
 module _ (expression : Parser Expr) (w : Within expression) where
   ref_within : (before : List (List ℕ × Expr)) → Within (reference expression before)

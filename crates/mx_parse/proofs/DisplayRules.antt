@@ -17,20 +17,10 @@ use Rattle.mx_parse.specs.Following.{Following, IsNew, unless}
 use Rattle.mx_parse.specs.Displays.{keys_of, NoRefs, NoBase, RefText, EntryText, Display}
 use Rattle.mx_parse.specs.DisplayParsers.{is_refs, has_refs, has_base, has_key, new_key, pair, reference, refs, says_refs, new_entry, refs_entry, base_entry, entry_rest, item_entry, entries, display}
 use Rattle.mx_parse.proofs.FollowingRules.{ClosedBehind, all_following_rule}
-use Rattle.mx_parse.proofs.ParameterRules.{same_name, neither, both_false, not_true, is_true_false, unless_some}
+use Rattle.mx_parse.proofs.ParameterRules.{same_name, neither, both_false, is_new, not_named, unless_some}
+use Rattle.mx_grammar.proofs.Symbols.{unsaid}
 
 -- ---- keys and entries before
-
-is_new : (before : List (List ℕ × Expr)) (n : List ℕ) → has_key before n ≡ false → IsNew n (keys_of before)
-is_new [] n h = tt
-is_new (r ∷ before) n h =
-    let q = neither (pointwise ◌==◌ r.0 n) (has_key before n) h in
-    (λ e. is_true_false (pointwise ◌==◌ r.0 n) ((same_name r.0 n).1 e) q.0, is_new before n q.1)
-
-no_key : (before : List (List ℕ × Expr)) (n : List ℕ) → IsNew n (keys_of before) → has_key before n ≡ false
-no_key [] n h = refl
-no_key (r ∷ before) n h =
-    both_false (pointwise ◌==◌ r.0 n) (has_key before n) (not_true (pointwise ◌==◌ r.0 n) (λ t. h.0 ((same_name r.0 n).0 t))) (no_key before n h.1)
 
 no_refs : (before : List ItemEntry) → has_refs before ≡ false → NoRefs before
 no_refs [] h = tt
@@ -55,8 +45,7 @@ base_none (entry.Base x ∷ before) h = absurd h
 -- ---- tokens
 
 key_inner : (before : List (List ℕ × Expr)) → Inner (new_key before)
-key_inner before (Text n) a h = refl
-key_inner before _ a h = absurd cc
+key_inner before = unsaid (new_key before) symbol.End refl
 
 not_false : (b : Bool) → not b ≡ false → b ≡ true
 not_false true h = refl
@@ -75,16 +64,15 @@ key_is : (before : List (List ℕ × Expr)) (t : Word) (n : List ℕ) → new_ke
 key_is before (Text m) n h =
     let q = unless_some (not (is_name m) || has_key before m) m n h in
     let r = neither (not (is_name m)) (has_key before m) q.0 in
-    record { token = ap Text q.1; name = ap is_name (sym q.1) ∙ not_false (is_name m) r.0; new = is_new before n (ap (has_key before) (sym q.1) ∙ r.1) }
+    record { token = ap Text q.1; name = ap is_name (sym q.1) ∙ not_false (is_name m) r.0; new = is_new (λ (r : List ℕ × Expr). r.0) before n (ap (has_key before) (sym q.1) ∙ r.1) }
 key_is before _ n h = absurd cc
 
 one_key : (before : List (List ℕ × Expr)) (n : List ℕ) → is_name n ≡ true → IsNew n (keys_of before) → One (new_key before) (Text n ∷ []) n
 one_key before n name new =
-    record { token = Text n; is = refl; what = ap (λ (b : Bool). unless b n) (both_false (not (is_name n)) (has_key before n) (not_of_true (is_name n) name) (no_key before n new)) }
+    record { token = Text n; is = refl; what = ap (λ (b : Bool). unless b n) (both_false (not (is_name n)) (has_key before n) (not_of_true (is_name n) name) (not_named (λ (r : List ℕ × Expr). r.0) before n new)) }
 
 entry_inner : (before : List ItemEntry) → Inner (new_entry before)
-entry_inner before (Text n) a h = refl
-entry_inner before _ a h = absurd cc
+entry_inner before = unsaid (new_entry before) symbol.End refl
 
 -- what a text says of an entry behind these
 data SaysIs (before : List ItemEntry) (t : List ℕ) : Bool → Type 0 where
@@ -224,9 +212,6 @@ module _ (E : Rel Expr) where
 
   from_display : (u : Words) (ys : List ItemEntry) → Display E u ys → Behind symbol.OpenCurly Entries u ys
   from_display _ _ (Display.display {u} {entries = ys} h) = mark symbol.OpenCurly Entries (u ++ Symbol symbol.CloseCurly ∷ []) ys (record { items = u; parts = refl; spells = h })
-
-  pub some_display : Exists (Display E)
-  some_display = record { tokens = Symbol symbol.OpenCurly ∷ Symbol symbol.CloseCurly ∷ []; tree = []; spells = Display.display Following.none }
 
   -- each display begins with its bracket
   pub display_begins : (F : Kinds) (b : Bool) → F (Symbol symbol.OpenCurly) ≡ b → (u rest : Words) (ys : List ItemEntry) → Display E u ys → sees F (u ++ rest) ≡ b

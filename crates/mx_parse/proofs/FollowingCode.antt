@@ -6,20 +6,31 @@ use Rattle.mx_grammar.specs.declared.word.Word.{Word}
 use Rattle.mx_grammar.specs.declared.trouble.Trouble.{Trouble}
 use Rattle.mx_grammar.specs.declared.trouble.Trouble.TheVariants.{Unexpected}
 use Rattle.mx_grammar.specs.Words.{is}
-use Rattle.mx_grammar.specs.Reading.{Words, Outcome, Parser, ◌>>=◌, ◌>>◌, pure, accept, taken, expect, choose, Turn, On, Done}
+use Rattle.mx_grammar.specs.Reading.{Words, Outcome, Parser, ◌>>=◌, ◌>>◌, pure, accept, taken, expect, choose, Turn, On, Done, turning}
 use Rattle.mx_grammar.proofs.Exact.{ok_pair}
-use Rattle.mx_grammar.proofs.Loops.{Shrinks}
+use Rattle.mx_grammar.proofs.Loops.{Shrinks, loop_on, loop_done}
 use Rattle.mx_grammar.proofs.LoopCode.{Within, item_shrinks}
 use Rattle.mx_parse.specs.Following.{following_turn, following, Goes}
 use Rattle.mx_parse.proofs.StatementLengths.{shorter_within, pure_within, then_within, behind_shorter, choose_within, loop_within}
 
-pub goes_on : {A : Type 0} (o : Outcome (Turn (List A) (List A))) (b : Bool) (found : List A) (rest : Words) → b ≡ true → Goes o (Ok b) found rest → o ≡ Ok (On found, rest)
-goes_on o true found rest h g = g
-goes_on o false found rest h g = absurd cc
+-- what a turn that the code took leaves of the loop
+module _ {A : Type 0} (turn : List A → Parser (Turn (List A) (List A))) (shrinks : Shrinks turn) (s t : List A) (ts rest : Words) where
+  goes_on : (b : Bool) → b ≡ true → Goes (turn s ts) (Ok b) t rest → turn s ts ≡ Ok (On t, rest)
+  goes_on true h g = g
+  goes_on false h g = absurd cc
 
-pub goes_out : {A : Type 0} (o : Outcome (Turn (List A) (List A))) (b : Bool) (found : List A) (rest : Words) → b ≡ false → Goes o (Ok b) found rest → o ≡ Ok (Done found, rest)
-goes_out o true found rest h g = absurd cc
-goes_out o false found rest h g = g
+  goes_out : (b : Bool) → b ≡ false → Goes (turn s ts) (Ok b) t rest → turn s ts ≡ Ok (Done t, rest)
+  goes_out true h g = absurd cc
+  goes_out false h g = g
+
+  pub turn_shorter : (b : Bool) → b ≡ true → Goes (turn s ts) (Ok b) t rest → length rest < length ts
+  turn_shorter b h g = shrinks s ts rest t (goes_on b h g)
+
+  pub turn_on : (b : Bool) → b ≡ true → Goes (turn s ts) (Ok b) t rest → turning turn s ts ≡ turning turn t rest
+  turn_on b h g = loop_on turn shrinks s t ts rest (goes_on b h g)
+
+  pub turn_out : (b : Bool) → b ≡ false → Goes (turn s ts) (Ok b) t rest → turning turn s ts ≡ Ok (t, rest)
+  turn_out b h g = loop_done turn shrinks s t ts rest (goes_out b h g)
 
 -- ---- lengths
 
@@ -50,14 +61,6 @@ module _ {A B : Type 0} (says : Word → Option A) (more : Word → Option B) (g
   taken_ok ts n (Some b) a rest e = let q = ok_pair e in ap (λ (x : A). taken ts n (g x)) q.0 ∙ ap (λ (x : Words). taken x n (g a)) q.1
   taken_ok ts n None a rest e = absurd cc
 
-  taken_err : (ts : Words) (n : ℕ) (o : Option A) (e : Trouble) → taken ts n o ≡ Err e → taken ts n (refined o g) ≡ Err e
-  taken_err ts n (Some b) e h = absurd cc
-  taken_err ts n None e h = let p : Unexpected n ≡ e = cc in ap Err p
-
   pub accept_ok : (ts rest : Words) (a : A) → accept says ts ≡ Ok (a, rest) → accept more ts ≡ taken rest (length ts) (g a)
   accept_ok [] rest a e = absurd cc
   accept_ok (t ∷ ts) rest a e = ap (taken ts (suc (length ts))) (same t) ∙ taken_ok ts (suc (length ts)) (says t) a rest e
-
-  pub accept_err : (ts : Words) (e : Trouble) → accept says ts ≡ Err e → accept more ts ≡ Err e
-  accept_err [] e h = let p : Unexpected 0 ≡ e = cc in ap Err p
-  accept_err (t ∷ ts) e h = ap (taken ts (suc (length ts))) (same t) ∙ taken_err ts (suc (length ts)) (says t) e h

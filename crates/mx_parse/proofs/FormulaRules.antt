@@ -12,10 +12,10 @@ use Rattle.mx_grammar.specs.declared.word.Word.TheVariants.{Symbol}
 use Rattle.mx_grammar.specs.Words.{is}
 use Rattle.mx_grammar.specs.Reading.{Words, Parser, sees}
 use Rattle.mx_grammar.proofs.Exact.{Rel, Kinds, none, stops_none, Exists, Nothing, Then, Either}
-use Rattle.mx_grammar.proofs.Rules.{Knot, Rule, plain, pure_rule, then_rule, iff_rule, choose_rule, behind_rule, Behind, marked, mark, sees_mark, some_behind}
+use Rattle.mx_grammar.proofs.Rules.{Knot, Rule, plain, pure_rule, then_rule, iff_rule, choose_rule, behind_rule, Behind, marked, mark, sees_mark, some_behind, single, behind_is}
 use Rattle.mx_parse.specs.Statements.{FormulaText, ParamsText}
 use Rattle.mx_parse.specs.StatementParsers.{returning, formula_of, formula_rest, formula, params_of, item_of, item_value_of, item_body_of, params_rest, space_params}
-use Rattle.mx_parse.proofs.StatementRules.{some_nothing, then_sees, Expressive, Displays, Ended, ended_is, is_ended, some_ended, Given, Headed, headed_is, is_headed, some_headed, valued_rule, given_rule, headed_rule}
+use Rattle.mx_parse.proofs.StatementRules.{some_nothing, then_sees, Expressive, Displays, Ended, ended_to, is_ended, some_ended, Given, Headed, headed_is, is_headed, some_headed, valued_rule, given_rule, headed_rule}
 
 module _ (E : Rel Expr) (Item : Rel (List ItemEntry)) (B : Rel (List Stmt)) where
   abbrev value_of : List Param → Expr → Formula
@@ -32,20 +32,17 @@ module _ (E : Rel Expr) (Item : Rel (List ItemEntry)) (B : Rel (List Stmt)) wher
   module _ (P : Rel (List Param)) where
     -- ---- formulas
 
-    to_rest : (u v w : Words) (params : List Param) (f : Formula) → P u params → w ≡ u ++ v → Rest params v f → FormulaText P E B w f
-    to_rest u v w params f p e (inl h) =
-        let m = marked symbol.Assign (Ended E Item E (value_of params)) v f h in
-        let k = ended_is E Item E (value_of params) m.0 f m.2 in
-        let q : w ≡ u ++ Symbol symbol.Assign ∷ k.words ++ Symbol symbol.Newline ∷ [] =
-        e ∙ ap (λ (x : Words). u ++ x) (m.1 ∙ ap (λ (x : Words). Symbol symbol.Assign ∷ x) k.parts) ∙ sym (append_assoc u (Symbol symbol.Assign ∷ k.words) (Symbol symbol.Newline ∷ [])) in
-        subst (λ (x : Words). FormulaText P E B x f) (sym q) (subst (FormulaText P E B (u ++ Symbol symbol.Assign ∷ k.words ++ Symbol symbol.Newline ∷ [])) (sym k.built) (FormulaText.value p k.spells))
-    to_rest u v w params f p e (inr h) =
+    to_rest : (u v : Words) (params : List Param) (f : Formula) → P u params → Rest params v f → FormulaText P E B (u ++ v) f
+    to_rest u v params f p (inl h) =
+        behind_is symbol.Assign (Ended E Item E (value_of params)) (λ w g. FormulaText P E B (u ++ w) g)
+        (λ w g k. ended_to E Item E (value_of params) (λ z r. FormulaText P E B (u ++ Symbol symbol.Assign ∷ z) r)
+        (λ z x l. subst (λ (y : Words). FormulaText P E B y (value_of params x)) (append_assoc u (Symbol symbol.Assign ∷ z) (Symbol symbol.Newline ∷ [])) (FormulaText.value p l)) w g k) v f h
+    to_rest u v params f p (inr h) =
         let k = headed_is E Item B (formula_of params) v f h in
-        let q : w ≡ u ++ Symbol symbol.Colon ∷ k.words = e ∙ ap (λ (x : Words). u ++ x) k.parts in
-        subst (λ (x : Words). FormulaText P E B x f) (sym q) (subst (FormulaText P E B (u ++ Symbol symbol.Colon ∷ k.words)) (sym k.built) (FormulaText.body p k.spells))
+        subst (λ (x : Words). FormulaText P E B (u ++ x) f) (sym k.parts) (subst (FormulaText P E B (u ++ Symbol symbol.Colon ∷ k.words)) (sym k.built) (FormulaText.body p k.spells))
 
     to_formula : (u : Words) (f : Formula) → Then P Rest u f → FormulaText P E B u f
-    to_formula u f h = to_rest h.left h.right u h.tree f h.first h.parts h.second
+    to_formula u f h = subst (λ (x : Words). FormulaText P E B x f) (sym h.parts) (to_rest h.left h.right h.tree f h.first h.second)
 
     from_formula : (u : Words) (f : Formula) → FormulaText P E B u f → Then P Rest u f
     from_formula _ _ (FormulaText.value {u} {v} {params} {x} p h) = record {
@@ -60,30 +57,23 @@ module _ (E : Rel Expr) (Item : Rel (List ItemEntry)) (B : Rel (List Stmt)) wher
 
     -- ---- the parameters of spaces
 
-    to_space_rest : (u v w : Words) (params : List Param) (f : Params) → P u params → w ≡ u ++ v → SpaceRest params v f → ParamsText P E Item B w f
-    to_space_rest u v w params f p e (inl h) =
-        let m = marked symbol.Newline (Nothing (params_of params None)) v f h in
-        let q : w ≡ u ++ Symbol symbol.Newline ∷ [] = e ∙ ap (λ (x : Words). u ++ x) (m.1 ∙ ap (λ (x : Words). Symbol symbol.Newline ∷ x) m.2.0) in
-        subst (λ (x : Words). ParamsText P E Item B x f) (sym q) (subst (ParamsText P E Item B (u ++ Symbol symbol.Newline ∷ [])) (sym m.2.1) (ParamsText.alone p))
-    to_space_rest u v w params f p e (inr (inl h)) =
-        let m = marked symbol.Assign (Given E Item (item_of params) (item_value_of params)) v f h in
-        let assigned : (words : Words) → m.0 ≡ words ++ Symbol symbol.Newline ∷ [] → w ≡ u ++ Symbol symbol.Assign ∷ words ++ Symbol symbol.Newline ∷ [] =
-        λ words r. e ∙ ap (λ (x : Words). u ++ x) (m.1 ∙ ap (λ (x : Words). Symbol symbol.Assign ∷ x) r) ∙ sym (append_assoc u (Symbol symbol.Assign ∷ words) (Symbol symbol.Newline ∷ [])) in
-        elim m.2 [
-          | inl g ↦
-              let k = ended_is E Item Item (item_of params) m.0 f g in
-              subst (λ (x : Words). ParamsText P E Item B x f) (sym (assigned k.words k.parts)) (subst (ParamsText P E Item B (u ++ Symbol symbol.Assign ∷ k.words ++ Symbol symbol.Newline ∷ [])) (sym k.built) (ParamsText.item p k.spells))
-          | inr g ↦
-              let k = ended_is E Item E (item_value_of params) m.0 f g in
-              subst (λ (x : Words). ParamsText P E Item B x f) (sym (assigned k.words k.parts)) (subst (ParamsText P E Item B (u ++ Symbol symbol.Assign ∷ k.words ++ Symbol symbol.Newline ∷ [])) (sym k.built) (ParamsText.value p k.spells))
-        ]
-    to_space_rest u v w params f p e (inr (inr h)) =
+    to_given : (u w : Words) (params : List Param) (f : Params) → P u params → Given E Item (item_of params) (item_value_of params) w f → ParamsText P E Item B (u ++ Symbol symbol.Assign ∷ w) f
+    to_given u w params f p (inl h) =
+        ended_to E Item Item (item_of params) (λ z r. ParamsText P E Item B (u ++ Symbol symbol.Assign ∷ z) r)
+        (λ z es l. subst (λ (y : Words). ParamsText P E Item B y (item_of params es)) (append_assoc u (Symbol symbol.Assign ∷ z) (Symbol symbol.Newline ∷ [])) (ParamsText.item p l)) w f h
+    to_given u w params f p (inr h) =
+        ended_to E Item E (item_value_of params) (λ z r. ParamsText P E Item B (u ++ Symbol symbol.Assign ∷ z) r)
+        (λ z x l. subst (λ (y : Words). ParamsText P E Item B y (item_value_of params x)) (append_assoc u (Symbol symbol.Assign ∷ z) (Symbol symbol.Newline ∷ [])) (ParamsText.value p l)) w f h
+
+    to_space_rest : (u v : Words) (params : List Param) (f : Params) → P u params → SpaceRest params v f → ParamsText P E Item B (u ++ v) f
+    to_space_rest u v params f p (inl h) = single (λ w g. ParamsText P E Item B (u ++ w) g) symbol.Newline (params_of params None) (ParamsText.alone p) v f h
+    to_space_rest u v params f p (inr (inl h)) = behind_is symbol.Assign (Given E Item (item_of params) (item_value_of params)) (λ w g. ParamsText P E Item B (u ++ w) g) (λ w g k. to_given u w params g p k) v f h
+    to_space_rest u v params f p (inr (inr h)) =
         let k = headed_is E Item B (item_body_of params) v f h in
-        let q : w ≡ u ++ Symbol symbol.Colon ∷ k.words = e ∙ ap (λ (x : Words). u ++ x) k.parts in
-        subst (λ (x : Words). ParamsText P E Item B x f) (sym q) (subst (ParamsText P E Item B (u ++ Symbol symbol.Colon ∷ k.words)) (sym k.built) (ParamsText.body p k.spells))
+        subst (λ (x : Words). ParamsText P E Item B (u ++ x) f) (sym k.parts) (subst (ParamsText P E Item B (u ++ Symbol symbol.Colon ∷ k.words)) (sym k.built) (ParamsText.body p k.spells))
 
     to_params : (u : Words) (f : Params) → Then P SpaceRest u f → ParamsText P E Item B u f
-    to_params u f h = to_space_rest h.left h.right u h.tree f h.first h.parts h.second
+    to_params u f h = subst (λ (x : Words). ParamsText P E Item B x f) (sym h.parts) (to_space_rest h.left h.right h.tree f h.first h.second)
 
     with_params : (u v w : Words) (params : List Param) (f : Params) → w ≡ u ++ v → P u params → SpaceRest params v f → Then P SpaceRest w f
     with_params u v w params f e p h = record { left = u; right = v; tree = params; parts = e; first = p; second = h }

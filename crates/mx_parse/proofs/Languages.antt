@@ -14,7 +14,7 @@ use Rattle.mx_grammar.specs.LiteralParsers.{literal}
 use Rattle.mx_grammar.specs.Reading.{Words, Parser, sees}
 use Rattle.mx_grammar.proofs.Exact.{Rel, Kinds, none, Exists, Never}
 use Rattle.mx_grammar.proofs.Meets.{fewer_meets}
-use Rattle.mx_grammar.proofs.Symbols.{apart}
+use Rattle.mx_grammar.proofs.Symbols.{apart, unlike}
 use Rattle.mx_grammar.proofs.Rules.{Knot, Rule, plain, refuse_rule}
 use Rattle.mx_grammar.proofs.Texts.{Exactly}
 use Rattle.mx_grammar.proofs.LiteralRules.{Literals}
@@ -36,22 +36,6 @@ use Rattle.mx_parse.proofs.StatementRules.{Expressive, Displays}
 use Rattle.mx_parse.proofs.BlockRules.{with_rule, nested, body_level, some_body}
 use Rattle.mx_parse.proofs.FormulaRules.{formula_rule, space_params_rule, some_formula, some_space_params}
 
-begins_no_newline : (t : Word) → begins t ≡ true → is symbol.Newline t ≡ false
-begins_no_newline (Symbol symbol.Newline) h = absurd cc
-begins_no_newline (Symbol _) h = refl
-begins_no_newline (Name n) h = refl
-begins_no_newline (Int n) h = refl
-begins_no_newline (Fix z) h = refl
-begins_no_newline (Text t) h = refl
-
-begins_no_curly : (t : Word) → begins t ≡ true → is symbol.OpenCurly t ≡ false
-begins_no_curly (Symbol symbol.OpenCurly) h = absurd cc
-begins_no_curly (Symbol _) h = refl
-begins_no_curly (Name n) h = refl
-begins_no_curly (Int n) h = refl
-begins_no_curly (Fix z) h = refl
-begins_no_curly (Text t) h = refl
-
 some_inside : (n : ℕ) → Exists (Expressions (n + 1))
 some_inside n = let e : suc n ≡ n + 1 = omega arith in subst (λ (k : ℕ). Exists (Expressions k)) e (some_expression n)
 
@@ -63,8 +47,8 @@ expressive n = record {
   colon = refl;
   newline = refl;
   some = some_inside n;
-  no_newline = λ u rest x h. apart begins (is symbol.Newline) begins_no_newline (u ++ rest) (expressions_begin (n + 1) u rest x h);
-  no_curly = λ u rest x h. apart begins (is symbol.OpenCurly) begins_no_curly (u ++ rest) (expressions_begin (n + 1) u rest x h);
+  no_newline = λ u rest x h. apart begins (is symbol.Newline) (unlike begins symbol.Newline refl) (u ++ rest) (expressions_begin (n + 1) u rest x h);
+  no_curly = λ u rest x h. apart begins (is symbol.OpenCurly) (unlike begins symbol.OpenCurly refl) (u ++ rest) (expressions_begin (n + 1) u rest x h);
 }
 
 -- the display that may be returned

@@ -15,4 +15,3 @@ pub mod ListedLoops
 pub mod FormulaLoops
 pub mod Limiting
 pub mod Languages
-pub mod ParameterLevels

@@ -17,17 +17,7 @@ use Rattle.mx_grammar.proofs.LiteralRules.{literal_within}
 use Rattle.mx_parse.specs.Following.{unless}
 use Rattle.mx_parse.specs.ParameterParsers.{is_named, has_default, new_name, param_of, optional, param_rest, param, param_turn}
 use Rattle.mx_parse.proofs.StatementLengths.{shorter_within, pure_within, then_within, behind_shorter, choose_within}
-use Rattle.mx_parse.proofs.FollowingCode.{turn_shrinks, refined, accept_ok, accept_err}
-
-name_by : (before : List Param) (t : Word) → new_name before t ≡ refined (name_of t) (λ n. unless (is_named before n) n)
-name_by before (Name n) = refl
-name_by before _ = refl
-
-pub name_ok : (before : List Param) (ts rest : Words) (n : List ℕ) → accept name_of ts ≡ Ok (n, rest) → accept (new_name before) ts ≡ taken rest (length ts) (unless (is_named before n) n)
-name_ok before = accept_ok name_of (new_name before) (λ n. unless (is_named before n) n) (name_by before)
-
-pub name_err : (before : List Param) (ts : Words) (e : Trouble) → accept name_of ts ≡ Err e → accept (new_name before) ts ≡ Err e
-name_err before = accept_err name_of (new_name before) (λ n. unless (is_named before n) n) (name_by before)
+use Rattle.mx_parse.proofs.FollowingCode.{turn_shrinks}
 
 module _ (literals : Parser Value) (w : Within literals) where
   optional_within : (n : List ℕ) → Within (optional literals n)

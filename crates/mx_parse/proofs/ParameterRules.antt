@@ -1,6 +1,7 @@
 -- The parsers of parameter lists are exact.
-use Rattle.std.proofs.Common.{◌≡◌, ◌≢◌, ℕ, ◌==◌, Bool, true, false, ◌||◌, List, [], ◌∷◌, ◌++◌, Option, Some, None, refl, sym, ap, subst, ◌∙◌, inl, inr}
+use Rattle.std.proofs.Common.{◌≡◌, ◌≢◌, ℕ, ◌==◌, Bool, true, false, ◌||◌, List, map, [], ◌∷◌, ◌++◌, Option, Some, None, refl, sym, ap, subst, ◌∙◌, inl, inr}
 use Rattle.std.specs.Option.{is_some}
+use Rattle.std.specs.List.{list_any}
 use Rattle.std.specs.Cmp.Lexicographic.{pointwise}
 use Rattle.std.specs.Bool.{Decides}
 use Rattle.std.proofs.lemmas.Bool.Decides.{Decides-eqb}
@@ -13,6 +14,7 @@ use Rattle.mx_grammar.specs.declared.word.Word.TheVariants.{Name, Symbol}
 use Rattle.mx_grammar.specs.Words.{is}
 use Rattle.mx_grammar.specs.Reading.{Words, Parser, sees}
 use Rattle.mx_grammar.proofs.Exact.{Rel, Kinds, Stops, none, stops_none, Exists, Nothing, Never, Then, Either, One, Inner}
+use Rattle.mx_grammar.proofs.Symbols.{unsaid}
 use Rattle.mx_grammar.proofs.Rules.{Knot, Rule, plain, pure_rule, accept_rule, then_rule, iff_rule, any_rule, map_rule, choose_rule, behind_rule, Behind, marked, mark, mapped, mapping, sees_mark, some_mapped, some_behind}
 use Rattle.mx_grammar.proofs.Lists.{Closes}
 use Rattle.mx_parse.specs.Following.{Following, IsNew, unless}
@@ -41,16 +43,19 @@ pub is_true_false : (b : Bool) → b ≡ true → b ≡ false → ⊥
 is_true_false true p q = cc
 is_true_false false p q = cc
 
-is_new : (before : List Param) (n : List ℕ) → is_named before n ≡ false → IsNew n (names_of before)
-is_new [] n h = tt
-is_new (p ∷ before) n h =
-    let q = neither (pointwise ◌==◌ p.name n) (is_named before n) h in
-    (λ e. is_true_false (pointwise ◌==◌ p.name n) ((same_name p.name n).1 e) q.0, is_new before n q.1)
+abbrev any_named : {A : Type 0} → (A → List ℕ) → List A → List ℕ → Bool
+any_named name before n = list_any (λ a. pointwise ◌==◌ (name a) n) before
 
-not_named : (before : List Param) (n : List ℕ) → IsNew n (names_of before) → is_named before n ≡ false
-not_named [] n h = refl
-not_named (p ∷ before) n h =
-    both_false (pointwise ◌==◌ p.name n) (is_named before n) (not_true (pointwise ◌==◌ p.name n) (λ t. h.0 ((same_name p.name n).0 t))) (not_named before n h.1)
+pub is_new : {A : Type 0} (name : A → List ℕ) (before : List A) (n : List ℕ) → any_named name before n ≡ false → IsNew n (map name before)
+is_new name [] n h = tt
+is_new name (a ∷ before) n h =
+    let q = neither (pointwise ◌==◌ (name a) n) (any_named name before n) h in
+    (λ e. is_true_false (pointwise ◌==◌ (name a) n) ((same_name (name a) n).1 e) q.0, is_new name before n q.1)
+
+pub not_named : {A : Type 0} (name : A → List ℕ) (before : List A) (n : List ℕ) → IsNew n (map name before) → any_named name before n ≡ false
+not_named name [] n h = refl
+not_named name (a ∷ before) n h =
+    both_false (pointwise ◌==◌ (name a) n) (any_named name before n) (not_true (pointwise ◌==◌ (name a) n) (λ t. h.0 ((same_name (name a) n).0 t))) (not_named name before n h.1)
 
 is_none : (o : Option Value) → is_some o ≡ false → o ≡ None
 is_none None h = refl
@@ -71,17 +76,16 @@ unless_some true x a h = absurd cc
 unless_some false x a h = (refl, cc)
 
 name_inner : (before : List Param) → Inner (new_name before)
-name_inner before (Name n) a h = refl
-name_inner before _ a h = absurd cc
+name_inner before = unsaid (new_name before) symbol.End refl
 
 name_is : (before : List Param) (t : Word) (n : List ℕ) → new_name before t ≡ Some n → (t ≡ Name n) × IsNew n (names_of before)
 name_is before (Name m) n h =
     let q = unless_some (is_named before m) m n h in
-    (ap Name q.1, is_new before n (ap (is_named before) (sym q.1) ∙ q.0))
+    (ap Name q.1, is_new (λ (p : Param). p.name) before n (ap (is_named before) (sym q.1) ∙ q.0))
 name_is before _ n h = absurd cc
 
 one_name : (before : List Param) (n : List ℕ) → IsNew n (names_of before) → One (new_name before) (Name n ∷ []) n
-one_name before n h = record { token = Name n; is = refl; what = ap (λ (b : Bool). unless b n) (not_named before n h) }
+one_name before n h = record { token = Name n; is = refl; what = ap (λ (b : Bool). unless b n) (not_named (λ (p : Param). p.name) before n h) }
 
 module _ (L : Rel Value) where
   abbrev Optional : List ℕ → Rel Param
@@ -161,13 +165,6 @@ module _ (L : Rel Value) where
 
   pub some_some_parameters : Exists (SomeParameters L)
   some_some_parameters = record { tokens = Symbol symbol.OpenRound ∷ Name [] ∷ Symbol symbol.CloseRound ∷ []; tree = param_of [] None ∷ []; spells = SomeParameters.parameters one_parameter }
-
-  -- each list begins with its bracket
-  pub parameters_begin : (F : Kinds) (b : Bool) → F (Symbol symbol.OpenRound) ≡ b → (u rest : Words) (ps : List Param) → Parameters L u ps → sees F (u ++ rest) ≡ b
-  parameters_begin F b is _ rest _ (Parameters.parameters h) = is
-
-  pub some_parameters_begin : (F : Kinds) (b : Bool) → F (Symbol symbol.OpenRound) ≡ b → (u rest : Words) (ps : List Param) → SomeParameters L u ps → sees F (u ++ rest) ≡ b
-  some_parameters_begin F b is _ rest _ (SomeParameters.parameters h) = is
 
 -- ---- the rules
 

@@ -6,27 +6,10 @@ use Rattle.mx_syntax.specs.declared.stmt.ItemEntry.{ItemEntry}
 use Rattle.mx_grammar.specs.declared.word.Symbol.TheVariants as symbol
 use Rattle.mx_grammar.specs.declared.trouble.Trouble.{Trouble}
 use Rattle.mx_grammar.specs.Words.{is}
-use Rattle.mx_grammar.specs.Reading.{Words, Outcome, Parser, and_then, ◌>>=◌, ◌>>◌, pure, sees, expect, choose, Turn, On, Done, turning, many_turn}
-use Rattle.mx_grammar.proofs.Exact.{Kinds}
+use Rattle.mx_grammar.specs.Reading.{Words, Outcome, Parser, and_then, ◌>>=◌, ◌>>◌, pure, sees, expect, choose, Turn, On, Done}
 use Rattle.mx_grammar.proofs.Meets.{Shorter}
 use Rattle.mx_grammar.proofs.Loops.{Shrinks, loop_on, loop_done, loop_err}
-use Rattle.mx_grammar.proofs.Lists.{many_shrinks}
 use Rattle.mx_parse.specs.StatementParsers.{statement, statement_turn, statements}
-
-module _ {A : Type 0} (is : Kinds) (P : Parser A) (short : Shorter P) where
-  abbrev by_kind : List A → Bool → Words → Outcome (Turn (List A) (List A))
-  by_kind found b ts = cond b ((P >>= λ a. pure (On (found ++ a ∷ []))) ts) (pure (Done found) ts)
-
-  pub many_more : (found : List A) (a : A) (ts r : Words) → sees is ts ≡ true → P ts ≡ Ok (a, r) → turning (many_turn is P) found ts ≡ turning (many_turn is P) (found ++ a ∷ []) r
-  many_more found a ts r h k =
-      loop_on (many_turn is P) (many_shrinks is P short) found (found ++ a ∷ []) ts r (ap (λ (b : Bool). by_kind found b ts) h ∙ ap (λ (o : Outcome A). and_then o (λ x. pure (On (found ++ x ∷ [])))) k)
-
-  pub many_err : (found : List A) (ts : Words) (e : Trouble) → sees is ts ≡ true → P ts ≡ Err e → turning (many_turn is P) found ts ≡ Err e
-  many_err found ts e h k =
-      loop_err (many_turn is P) (many_shrinks is P short) found ts e (ap (λ (b : Bool). by_kind found b ts) h ∙ ap (λ (o : Outcome A). and_then o (λ x. pure (On (found ++ x ∷ [])))) k)
-
-  pub many_done : (found : List A) (ts : Words) → sees is ts ≡ false → turning (many_turn is P) found ts ≡ Ok (found, ts)
-  many_done found ts h = loop_done (many_turn is P) (many_shrinks is P short) found found ts ts (ap (λ (b : Bool). by_kind found b ts) h)
 
 module _ (expression : Parser Expr) (display : Parser (List ItemEntry)) (body : Parser (List Stmt)) (short : (found : List Stmt) → Shorter (statement_turn expression display body found)) where
   turns_shrink : Shrinks (statement_turn expression display body)
@@ -52,10 +35,4 @@ module _ (expression : Parser Expr) (display : Parser (List ItemEntry)) (body : 
   unfolding statement_turn
   statements_done found s ts r rest u h k c =
       loop_done (statement_turn expression display body) turns_shrink found (found ++ s ∷ []) ts rest
-      (ap (λ (o : Outcome Stmt). and_then o (after_statement found)) h ∙ ap (λ (b : Bool). by_dedent (found ++ s ∷ []) b r) k ∙ ap (λ (o : Outcome (Unit {0})). and_then o (λ _. pure (Done (found ++ s ∷ [])))) c)
-
-  pub statements_end_err : (found : List Stmt) (s : Stmt) (ts r : Words) (e : Trouble) → statement expression display body ts ≡ Ok (s, r) → sees (is symbol.Dedent) r ≡ true → expect symbol.Dedent r ≡ Err e → statements expression display body found ts ≡ Err e
-  unfolding statement_turn
-  statements_end_err found s ts r e h k c =
-      loop_err (statement_turn expression display body) turns_shrink found ts e
       (ap (λ (o : Outcome Stmt). and_then o (after_statement found)) h ∙ ap (λ (b : Bool). by_dedent (found ++ s ∷ []) b r) k ∙ ap (λ (o : Outcome (Unit {0})). and_then o (λ _. pure (Done (found ++ s ∷ [])))) c)

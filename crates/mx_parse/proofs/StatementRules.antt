@@ -17,8 +17,8 @@ use Rattle.mx_grammar.specs.Grammar.{Parts, Line}
 use Rattle.mx_grammar.specs.Reading.{Words, Parser, sees}
 use Rattle.mx_grammar.specs.AddressParsers.{name_of}
 use Rattle.mx_grammar.proofs.Exact.{Rel, Kinds, Stops, none, stops_none, or, or_stops, Exists, Nothing, Then, Either, One}
-use Rattle.mx_grammar.proofs.Symbols.{apart}
-use Rattle.mx_grammar.proofs.Rules.{Knot, Rule, plain, pure_rule, accept_rule, then_rule, iff_rule, any_rule, map_rule, choose_rule, behind_rule, Behind, marked, mark, mapped, mapping, sees_mark, some_behind, some_mapped, some_then}
+use Rattle.mx_grammar.proofs.Symbols.{apart, unlike}
+use Rattle.mx_grammar.proofs.Rules.{Knot, Rule, plain, pure_rule, accept_rule, then_rule, iff_rule, any_rule, map_rule, choose_rule, behind_rule, Behind, marked, mark, mapped, mapping, sees_mark, some_behind, some_mapped, some_then, alone, marked_alone, single, behind_is}
 use Rattle.mx_grammar.proofs.Lists.{found_rule}
 use Rattle.mx_grammar.proofs.AddressRules.{name_inner, one_name, named}
 use Rattle.mx_parse.specs.Statements.{Simple, Elif, Else, Statement}
@@ -39,20 +39,11 @@ abbrev pub after_if : Kinds
 after_if = or (is symbol.Elif) (is symbol.Else)
 
 pub starts_apart : (t : Word) → starts t ≡ true → or (is symbol.Dedent) after_if t ≡ false
-starts_apart (Name n) h = refl
-starts_apart (Symbol symbol.If) h = refl
-starts_apart (Symbol symbol.For) h = refl
-starts_apart (Symbol symbol.Pass) h = refl
-starts_apart (Symbol symbol.Return) h = refl
-starts_apart _ h = absurd cc
+starts_apart (Symbol symbol.If) h = cc
+starts_apart _ h = cc
 
 pub starts_no_newline : (t : Word) → starts t ≡ true → is symbol.Newline t ≡ false
-starts_no_newline (Name n) h = refl
-starts_no_newline (Symbol symbol.If) h = refl
-starts_no_newline (Symbol symbol.For) h = refl
-starts_no_newline (Symbol symbol.Pass) h = refl
-starts_no_newline (Symbol symbol.Return) h = refl
-starts_no_newline _ h = absurd cc
+starts_no_newline = unlike starts symbol.Newline refl
 
 -- ---- what is read first
 
@@ -78,8 +69,7 @@ abbrev pub Displays : Rel (List ItemEntry) → Type 0
 Displays Item = (u rest : Words) (entries : List ItemEntry) → Item u entries → sees (is symbol.OpenCurly) (u ++ rest) ≡ true
 
 curly_no_newline : (t : Word) → is symbol.OpenCurly t ≡ true → is symbol.Newline t ≡ false
-curly_no_newline (Symbol symbol.OpenCurly) h = refl
-curly_no_newline _ h = absurd cc
+curly_no_newline = unlike (is symbol.OpenCurly) symbol.Newline refl
 
 module _ (E : Rel Expr) (Item : Rel (List ItemEntry)) where
   -- ---- an expression or a display, to the end of the line
@@ -87,17 +77,10 @@ module _ (E : Rel Expr) (Item : Rel (List ItemEntry)) where
   abbrev pub Ended : {A B : Type 0} → Rel A → (A → B) → Rel B
   Ended R build = Then R (λ a. Behind symbol.Newline (Nothing (build a)))
 
-  pub record IsEnded {A B : Type 0} (R : Rel A) (build : A → B) (u : Words) (b : B) : Type 0 where
-    pub words : Words
-    pub tree : A
-    pub parts : u ≡ words ++ Symbol symbol.Newline ∷ []
-    pub spells : R words tree
-    pub built : b ≡ build tree
-
-  pub ended_is : {A B : Type 0} (R : Rel A) (build : A → B) (u : Words) (b : B) → Ended R build u b → IsEnded R build u b
-  ended_is R build u b h =
-      let m = marked symbol.Newline (Nothing (build h.tree)) h.right b h.second in
-      record { words = h.left; tree = h.tree; parts = h.parts ∙ ap (λ (v : Words). h.left ++ v) (m.1 ∙ ap (λ (v : Words). Symbol symbol.Newline ∷ v) m.2.0); spells = h.first; built = m.2.1 }
+  pub ended_to : {A B : Type 0} (R : Rel A) (build : A → B) (S : Rel B) → ((w : Words) (a : A) → R w a → S (w ++ Symbol symbol.Newline ∷ []) (build a)) → (u : Words) (b : B) → Ended R build u b → S u b
+  ended_to R build S to u b h =
+      let m = marked_alone symbol.Newline (build h.tree) h.right b h.second in
+      subst (λ (w : Words). S w b) (sym (h.parts ∙ ap (λ (v : Words). h.left ++ v) m.0)) (subst (S (h.left ++ Symbol symbol.Newline ∷ [])) (sym m.1) (to h.left h.tree h.first))
 
   pub is_ended : {A B : Type 0} (R : Rel A) (build : A → B) (u : Words) (a : A) → R u a → Ended R build (u ++ Symbol symbol.Newline ∷ []) (build a)
   is_ended R build u a h = record { left = u; right = Symbol symbol.Newline ∷ []; tree = a; parts = refl; first = h; second = mark symbol.Newline (Nothing (build a)) [] (build a) (refl, refl) }
@@ -128,55 +111,28 @@ module _ (E : Rel Expr) (Item : Rel (List ItemEntry)) where
   abbrev SimpleIs : Rel Stmt
   SimpleIs = Either (Behind symbol.Pass Passed) (Either (Behind symbol.Return Returned) (Then (One name_of) Changed))
 
-  -- a simple statement by its first token and the rest of its line
-  to_line : (first : Word) (words u : Words) (s t : Stmt) → Simple E Item (first ∷ words) t → u ≡ first ∷ words ++ Symbol symbol.Newline ∷ [] → s ≡ t → Line (Simple E Item) u s
-  to_line first words u s t h e same = subst (λ (v : Words). Line (Simple E Item) v s) (sym e) (subst (Line (Simple E Item) (first ∷ words ++ Symbol symbol.Newline ∷ [])) (sym same) (Line.line h))
+  to_returned : (v : Words) (s : Stmt) → Returned v s → Line (Simple E Item) (Symbol symbol.Return ∷ v) s
+  to_returned v s (inl h) = single (λ w t. Line (Simple E Item) (Symbol symbol.Return ∷ w) t) symbol.Newline (stmt.Return None) (Line.line Simple.leave) v s h
+  to_returned v s (inr (inl h)) = ended_to Item (λ entries. stmt.ReturnItem entries) (λ w t. Line (Simple E Item) (Symbol symbol.Return ∷ w) t) (λ w es k. Line.line (Simple.item k)) v s h
+  to_returned v s (inr (inr h)) = ended_to E returning (λ w t. Line (Simple E Item) (Symbol symbol.Return ∷ w) t) (λ w x k. Line.line (Simple.value k)) v s h
 
-  to_returned : (u v : Words) (s : Stmt) → u ≡ Symbol symbol.Return ∷ v → Returned v s → Line (Simple E Item) u s
-  to_returned u v s e (inl h) =
-      let m = marked symbol.Newline (Nothing (stmt.Return None)) v s h in
-      to_line (Symbol symbol.Return) [] u s (stmt.Return None) Simple.leave (e ∙ ap (λ (w : Words). Symbol symbol.Return ∷ w) (m.1 ∙ ap (λ (w : Words). Symbol symbol.Newline ∷ w) m.2.0)) m.2.1
-  to_returned u v s e (inr (inl h)) =
-      let k = ended_is Item (λ entries. stmt.ReturnItem entries) v s h in
-      to_line (Symbol symbol.Return) k.words u s (stmt.ReturnItem k.tree) (Simple.item k.spells) (e ∙ ap (λ (w : Words). Symbol symbol.Return ∷ w) k.parts) k.built
-  to_returned u v s e (inr (inr h)) =
-      let k = ended_is E returning v s h in
-      to_line (Symbol symbol.Return) k.words u s (stmt.Return (Some k.tree)) (Simple.value k.spells) (e ∙ ap (λ (w : Words). Symbol symbol.Return ∷ w) k.parts) k.built
+  to_change : (n : List ℕ) (u : Words) (op : ArithOp) (w : Words) (x : Expr) → Changing u op → E w x → Line (Simple E Item) (Name n ∷ (u ++ (w ++ Symbol symbol.Newline ∷ []))) (stmt.Change n op x)
+  to_change n u op w x (inl h) k = single (λ v o. Line (Simple E Item) (Name n ∷ (v ++ (w ++ Symbol symbol.Newline ∷ []))) (stmt.Change n o x)) symbol.PlusAssign Add (Line.line (Simple.add k)) u op h
+  to_change n u op w x (inr (inl h)) k = single (λ v o. Line (Simple E Item) (Name n ∷ (v ++ (w ++ Symbol symbol.Newline ∷ []))) (stmt.Change n o x)) symbol.MinusAssign Sub (Line.line (Simple.sub k)) u op h
+  to_change n u op w x (inr (inr h)) k = single (λ v o. Line (Simple E Item) (Name n ∷ (v ++ (w ++ Symbol symbol.Newline ∷ []))) (stmt.Change n o x)) symbol.TimesAssign Mul (Line.line (Simple.mul k)) u op h
 
-  to_change : (n : List ℕ) (sign : Symbols) (op : ArithOp) (u v w words : Words) (x : Expr) (s : Stmt) → u ≡ Name n ∷ v → v ≡ Symbol sign ∷ w → w ≡ words ++ Symbol symbol.Newline ∷ []
-      → Simple E Item (Name n ∷ Symbol sign ∷ words) (stmt.Change n op x) → s ≡ stmt.Change n op x → Line (Simple E Item) u s
-  to_change n sign op u v w words x s p q r h same =
-      to_line (Name n) (Symbol sign ∷ words) u s (stmt.Change n op x) h (p ∙ ap (λ (z : Words). Name n ∷ z) (q ∙ ap (λ (z : Words). Symbol sign ∷ z) r)) same
-
-  signed : (sign : Symbols) (op c : ArithOp) (left right v : Words) → v ≡ left ++ right → Behind sign (Nothing op) left c → (v ≡ Symbol sign ∷ right) × (c ≡ op)
-  signed sign op c left right v e h = let m = marked sign (Nothing op) left c h in (e ∙ ap (λ (w : Words). w ++ right) (m.1 ∙ ap (λ (w : Words). Symbol sign ∷ w) m.2.0), m.2.1)
-
-  to_changed : (n : List ℕ) (u v : Words) (s : Stmt) → u ≡ Name n ∷ v → Changed n v s → Line (Simple E Item) u s
-  to_changed n u v s e (inl h) =
-      let m = marked symbol.Assign (Ended E (λ x. stmt.Assign n x)) v s h in
-      let k = ended_is E (λ x. stmt.Assign n x) m.0 s m.2 in
-      to_line (Name n) (Symbol symbol.Assign ∷ k.words) u s (stmt.Assign n k.tree) (Simple.assign k.spells) (e ∙ ap (λ (w : Words). Name n ∷ w) (m.1 ∙ ap (λ (w : Words). Symbol symbol.Assign ∷ w) k.parts)) k.built
-  to_changed n u v s e (inr h) =
-      let k = ended_is E (λ x. stmt.Change n h.tree x) h.right s h.second in
-      elim h.first [
-        | inl w ↦
-            let a = signed symbol.PlusAssign Add h.tree h.left h.right v h.parts w in
-            to_change n symbol.PlusAssign Add u v h.right k.words k.tree s e a.0 k.parts (Simple.add k.spells) (k.built ∙ ap (λ (op : ArithOp). stmt.Change n op k.tree) a.1)
-        | inr (inl w) ↦
-            let a = signed symbol.MinusAssign Sub h.tree h.left h.right v h.parts w in
-            to_change n symbol.MinusAssign Sub u v h.right k.words k.tree s e a.0 k.parts (Simple.sub k.spells) (k.built ∙ ap (λ (op : ArithOp). stmt.Change n op k.tree) a.1)
-        | inr (inr w) ↦
-            let a = signed symbol.TimesAssign Mul h.tree h.left h.right v h.parts w in
-            to_change n symbol.TimesAssign Mul u v h.right k.words k.tree s e a.0 k.parts (Simple.mul k.spells) (k.built ∙ ap (λ (op : ArithOp). stmt.Change n op k.tree) a.1)
-      ]
+  to_changed : (n : List ℕ) (v : Words) (s : Stmt) → Changed n v s → Line (Simple E Item) (Name n ∷ v) s
+  to_changed n v s (inl h) =
+      behind_is symbol.Assign (Ended E (λ x. stmt.Assign n x)) (λ w t. Line (Simple E Item) (Name n ∷ w) t)
+      (λ w t k. ended_to E (λ x. stmt.Assign n x) (λ z r. Line (Simple E Item) (Name n ∷ Symbol symbol.Assign ∷ z) r) (λ z x l. Line.line (Simple.assign l)) w t k) v s h
+  to_changed n v s (inr h) =
+      subst (λ (w : Words). Line (Simple E Item) (Name n ∷ w) s) (sym h.parts)
+      (ended_to E (λ x. stmt.Change n h.tree x) (λ w t. Line (Simple E Item) (Name n ∷ (h.left ++ w)) t) (λ w x k. to_change n h.left h.tree w x h.first k) h.right s h.second)
 
   to_simple : (u : Words) (s : Stmt) → SimpleIs u s → Line (Simple E Item) u s
-  to_simple u s (inl h) =
-      let m = marked symbol.Pass Passed u s h in
-      let p = marked symbol.Newline (Nothing stmt.Pass) m.0 s m.2 in
-      to_line (Symbol symbol.Pass) [] u s stmt.Pass Simple.pass (m.1 ∙ ap (λ (w : Words). Symbol symbol.Pass ∷ w) (p.1 ∙ ap (λ (w : Words). Symbol symbol.Newline ∷ w) p.2.0)) p.2.1
-  to_simple u s (inr (inl h)) = let m = marked symbol.Return Returned u s h in to_returned u m.0 s m.1 m.2
-  to_simple u s (inr (inr h)) = to_changed h.tree u h.right s (h.parts ∙ ap (λ (w : Words). w ++ h.right) (named h.left h.tree h.first)) h.second
+  to_simple u s (inl h) = behind_is symbol.Pass Passed (Line (Simple E Item)) (λ v t k. single (λ w r. Line (Simple E Item) (Symbol symbol.Pass ∷ w) r) symbol.Newline stmt.Pass (Line.line Simple.pass) v t k) u s h
+  to_simple u s (inr (inl h)) = behind_is symbol.Return Returned (Line (Simple E Item)) to_returned u s h
+  to_simple u s (inr (inr h)) = subst (λ (w : Words). Line (Simple E Item) w s) (sym (h.parts ∙ ap (λ (w : Words). w ++ h.right) (named h.left h.tree h.first))) (to_changed h.tree h.right s h.second)
 
   from_name : (n : List ℕ) (v : Words) (s : Stmt) → Changed n v s → SimpleIs (Name n ∷ v) s
   from_name n v s h = inr (inr (record { left = Name n ∷ []; right = v; tree = n; parts = refl; first = one_name n; second = h }))
@@ -186,9 +142,6 @@ module _ (E : Rel Expr) (Item : Rel (List ItemEntry)) where
       from_name n (Symbol sign ∷ u ++ Symbol symbol.Newline ∷ []) (stmt.Change n op x)
       (inr (record { left = Symbol sign ∷ []; right = u ++ Symbol symbol.Newline ∷ []; tree = op; parts = refl; first = c; second = is_ended E (λ y. stmt.Change n op y) u x h }))
 
-  sign : (s : Symbols) (op : ArithOp) → Behind s (Nothing op) (Symbol s ∷ []) op
-  sign s op = mark s (Nothing op) [] op (refl, refl)
-
   from_simple : (u : Words) (s : Stmt) → Simple E Item u s → SimpleIs (u ++ Symbol symbol.Newline ∷ []) s
   from_simple _ _ Simple.pass = inl (mark symbol.Pass Passed (Symbol symbol.Newline ∷ []) stmt.Pass (mark symbol.Newline (Nothing stmt.Pass) [] stmt.Pass (refl, refl)))
   from_simple _ _ Simple.leave = inr (inl (mark symbol.Return Returned (Symbol symbol.Newline ∷ []) (stmt.Return None) (inl (mark symbol.Newline (Nothing (stmt.Return None)) [] (stmt.Return None) (refl, refl)))))
@@ -196,9 +149,9 @@ module _ (E : Rel Expr) (Item : Rel (List ItemEntry)) where
   from_simple _ _ (Simple.item {u} {entries} h) = inr (inl (mark symbol.Return Returned (u ++ Symbol symbol.Newline ∷ []) (stmt.ReturnItem entries) (inr (inl (is_ended Item (λ es. stmt.ReturnItem es) u entries h)))))
   from_simple _ _ (Simple.assign {n} {u} {x} h) =
       from_name n (Symbol symbol.Assign ∷ u ++ Symbol symbol.Newline ∷ []) (stmt.Assign n x) (inl (mark symbol.Assign (Ended E (λ y. stmt.Assign n y)) (u ++ Symbol symbol.Newline ∷ []) (stmt.Assign n x) (is_ended E (λ y. stmt.Assign n y) u x h)))
-  from_simple _ _ (Simple.add {n} {u} {x} h) = changes n symbol.PlusAssign Add u x (inl (sign symbol.PlusAssign Add)) h
-  from_simple _ _ (Simple.sub {n} {u} {x} h) = changes n symbol.MinusAssign Sub u x (inr (inl (sign symbol.MinusAssign Sub))) h
-  from_simple _ _ (Simple.mul {n} {u} {x} h) = changes n symbol.TimesAssign Mul u x (inr (inr (sign symbol.TimesAssign Mul))) h
+  from_simple _ _ (Simple.add {n} {u} {x} h) = changes n symbol.PlusAssign Add u x (inl (alone symbol.PlusAssign Add)) h
+  from_simple _ _ (Simple.sub {n} {u} {x} h) = changes n symbol.MinusAssign Sub u x (inr (inl (alone symbol.MinusAssign Sub))) h
+  from_simple _ _ (Simple.mul {n} {u} {x} h) = changes n symbol.TimesAssign Mul u x (inr (inr (alone symbol.TimesAssign Mul))) h
 
   from_line : (u : Words) (s : Stmt) → Line (Simple E Item) u s → SimpleIs u s
   from_line _ _ (Line.line {u} {x} h) = from_simple u x h

@@ -5,9 +5,9 @@ use Rattle.mx_grammar.specs.Reading.{sees, expect}
 use Rattle.mx_grammar.specs.declared.word.Symbol.TheVariants.{Not}
 use Rattle.mx_grammar.specs.Words.{is}
 use Rattle.mx_expression.specs.ChainParsers.{one_more}
-use Rattle.mx_expression.proofs.Gather.{gather_more, gather_err, gather_done}
 use Rattle.mx_expression.proofs.ChainCode.{not_shorter}
 use Rattle.mx_expression.proofs.connective.nots.Goals as goal
+use Rattle.mx_grammar.proofs.Gather.{gather_more, gather_err, gather_done}
 
 pub returns-in_err-expect : goal.returns-in_err-expect
 returns-in_err-expect c =

@@ -1,9 +1,9 @@
-use Rattle.std.proofs.Common.{sym, ◌∙◌, ◌≡◌, length, ◌<◌}
+use Rattle.std.proofs.Common.{sym, ◌∙◌}
 use Rattle.std.proofs.lemmas.Result.{err_from_is_err_and}
 use Rattle.mx_expression.specs.ExpressionParsers.{expression}
 use Rattle.mx_parse.specs.DisplayParsers.{entry_turn}
-use Rattle.mx_grammar.proofs.Loops.{loop_on, loop_done, loop_err}
-use Rattle.mx_parse.proofs.FollowingCode.{goes_on, goes_out}
+use Rattle.mx_grammar.proofs.Loops.{loop_err}
+use Rattle.mx_parse.proofs.FollowingCode.{turn_shorter, turn_on, turn_out}
 use Rattle.mx_expression.proofs.ExpressionRules.{expression_within}
 use Rattle.mx_parse.proofs.DisplayCode.{entry_shrinks}
 use Rattle.mx_parse.proofs.display.entries.Goals as goal
@@ -14,17 +14,10 @@ returns-in_err-entry_turn c =
     rw (p.1, p.2) (λ n. sym c.loop-found.invariant ∙ loop_err (entry_turn (expression c.args.levels)) (entry_shrinks (expression c.args.levels) (expression_within c.args.levels)) c.loop-found.found c.loop-found.tokens c.in_err-entry_turn.field-0.0 (c.in_err-entry_turn.ensures n))
 
 pub loop-found-smaller : goal.loop-found-smaller
-loop-found-smaller c =
-    let turn = goes_on (entry_turn (expression c.args.levels) c.loop-found.found c.loop-found.tokens) c.in_ok-entry_turn.field-0 c.entry_turn.new.found c.entry_turn.new.tokens c.if-branch.true c.in_ok-entry_turn.ensures in
-    let less : length c.entry_turn.new.tokens < length c.loop-found.tokens = entry_shrinks (expression c.args.levels) (expression_within c.args.levels) c.loop-found.found c.loop-found.tokens c.entry_turn.new.tokens c.entry_turn.new.found turn in
-    less
+loop-found-smaller c = turn_shorter (entry_turn (expression c.args.levels)) (entry_shrinks (expression c.args.levels) (expression_within c.args.levels)) c.loop-found.found c.entry_turn.new.found c.loop-found.tokens c.entry_turn.new.tokens c.in_ok-entry_turn.field-0 c.if-branch.true c.in_ok-entry_turn.ensures
 
 pub loop-found-preserved : goal.loop-found-preserved
-loop-found-preserved c =
-    let turn = goes_on (entry_turn (expression c.args.levels) c.loop-found.found c.loop-found.tokens) c.in_ok-entry_turn.field-0 c.entry_turn.new.found c.entry_turn.new.tokens c.if-branch.true c.in_ok-entry_turn.ensures in
-    sym (loop_on (entry_turn (expression c.args.levels)) (entry_shrinks (expression c.args.levels) (expression_within c.args.levels)) c.loop-found.found c.entry_turn.new.found c.loop-found.tokens c.entry_turn.new.tokens turn) ∙ c.loop-found.invariant
+loop-found-preserved c = sym (turn_on (entry_turn (expression c.args.levels)) (entry_shrinks (expression c.args.levels) (expression_within c.args.levels)) c.loop-found.found c.entry_turn.new.found c.loop-found.tokens c.entry_turn.new.tokens c.in_ok-entry_turn.field-0 c.if-branch.true c.in_ok-entry_turn.ensures) ∙ c.loop-found.invariant
 
 pub returns : goal.returns
-returns c =
-    let turn = goes_out (entry_turn (expression c.args.levels) c.loop-found.found c.loop-found.tokens) c.in_ok-entry_turn.field-0 c.entry_turn.new.found c.entry_turn.new.tokens c.if-branch.false c.in_ok-entry_turn.ensures in
-    sym c.loop-found.invariant ∙ loop_done (entry_turn (expression c.args.levels)) (entry_shrinks (expression c.args.levels) (expression_within c.args.levels)) c.loop-found.found c.entry_turn.new.found c.loop-found.tokens c.entry_turn.new.tokens turn
+returns c = sym c.loop-found.invariant ∙ turn_out (entry_turn (expression c.args.levels)) (entry_shrinks (expression c.args.levels) (expression_within c.args.levels)) c.loop-found.found c.entry_turn.new.found c.loop-found.tokens c.entry_turn.new.tokens c.in_ok-entry_turn.field-0 c.if-branch.false c.in_ok-entry_turn.ensures
