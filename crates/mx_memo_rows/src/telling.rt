@@ -1,0 +1,172 @@
+//! What a memo tells of the nodes that are held.
+//!
+//! ` | COUNT LAST`, and ` after` where a node is held since a later stamp; for each held node
+//! ` NODE=VALUE@STAMP[KEYS][ASKS][READERS OF ITS INPUT]`; ` |` and for each key ` KEY[NUMBER OF READERS:READERS]`.
+ghost use Rattle.mx_vertices.specs.Kept.{IsHeld};
+
+use crate::reading::{push_bytes, push_counted};
+use crate::samples::{key, node};
+use crate::trouble::Trouble;
+use mx_edit::key::Key;
+use mx_graph::NodeId;
+use mx_list::shared::Shared;
+use mx_memo::{Body, Memo};
+use mx_print::value::{push_node, push_value};
+use mx_value::node::Node;
+use mx_value::value::Value;
+use std::alloc::Global;
+
+/// How many nodes the rows have.
+const NODES: u8 = 10;
+
+/// Adds all that a memo tells.
+pub fn push_state(alloc: Global, memo: &Memo, out: &mut Vec<u8>) -> Result<(), Trouble> {
+    push_counts(memo, out)?;
+    for n in 0..NODES {
+        push_one(alloc, memo, n, out)?;
+    }
+    push_bytes(out, b" |")?;
+    for k in 0..5 {
+        push_key(alloc, memo, k, out)?;
+    }
+    Ok(())
+}
+
+/// Adds how many nodes are held and the last stamp.
+fn push_counts(memo: &Memo, out: &mut Vec<u8>) -> Result<(), Trouble> {
+    push_counted(out, b" | ", u64::from(memo.count()))?;
+    push_counted(out, b" ", memo.last_stamp() as u64)?;
+    if memo.after(memo.last_stamp()).is_some() {
+        return push_bytes(out, b" after");
+    }
+    Ok(())
+}
+
+/// Adds a key and its readers.
+fn push_key(alloc: Global, memo: &Memo, k: u8, out: &mut Vec<u8>) -> Result<(), Trouble> {
+    push_counted(out, b" ", u64::from(k))?;
+    push_readers(alloc, memo, &key(alloc, k)?, out)
+}
+
+/// Adds what is told of a node, where it is held.
+fn push_one(alloc: Global, memo: &Memo, n: u8, out: &mut Vec<u8>) -> Result<(), Trouble> {
+    let node = node(alloc, n)?;
+    let Some(id) = memo.find(&node) else {
+        return Ok(());
+    };
+    push_counted(out, b" ", u64::from(n))?;
+    push_held(alloc, memo, id, &node, out)?;
+    push_readers(alloc, memo, &Key::Input(node), out)
+}
+
+/// Adds what is told of a held node.
+fn push_held(
+    alloc: Global,
+    memo: &Memo,
+    id: NodeId,
+    node: &Shared<Node>,
+    out: &mut Vec<u8>,
+) -> Result<(), Trouble>
+    requires { IsHeld memo.now.held id.at }
+{
+    push_body(memo, id, node, out)?;
+    push_keys(&memo.keys_of(alloc, id)?, out)?;
+    push_asks(memo, &memo.asks_of(alloc, id)?, out)
+}
+
+/// Adds the value and the stamp of a node, and ` other` where it is another node's.
+fn push_body(
+    memo: &Memo,
+    id: NodeId,
+    node: &Shared<Node>,
+    out: &mut Vec<u8>,
+) -> Result<(), Trouble> {
+    let body = memo.body(id).ok_or(Trouble::NoRow)?;
+    push_bytes(out, b"=")?;
+    push_argument(&body.reply.get().value, out)?;
+    if body.node != *node {
+        push_bytes(out, b" other")?;
+    }
+    push_stamp(memo, id, out)
+}
+
+/// Adds the stamp of a node, and ` misplaced` where another node comes before it.
+fn push_stamp(memo: &Memo, id: NodeId, out: &mut Vec<u8>) -> Result<(), Trouble> {
+    let stamp = memo.stamp(id).ok_or(Trouble::NoRow)?;
+    push_counted(out, b"@", stamp as u64)?;
+    if memo.after(stamp.saturating_sub(1)) != Some(id) {
+        return push_bytes(out, b" misplaced");
+    }
+    Ok(())
+}
+
+/// Adds keys.
+fn push_keys(keys: &[Key], out: &mut Vec<u8>) -> Result<(), Trouble> {
+    push_bytes(out, b"[")?;
+    for key in keys {
+        push_looked(key, out)?;
+    }
+    push_bytes(out, b"]")
+}
+
+/// Adds the name of a reference, or the node of an input.
+fn push_looked(key: &Key, out: &mut Vec<u8>) -> Result<(), Trouble> {
+    match key {
+        Key::Global(name) => push_bytes(out, name.as_slice()),
+        Key::Input(node) => Ok(push_node(out, node.get())?),
+        _ => push_bytes(out, b"?"),
+    }
+}
+
+/// Adds the arguments of the nodes of these ids.
+fn push_asks(memo: &Memo, asks: &[NodeId], out: &mut Vec<u8>) -> Result<(), Trouble> {
+    push_bytes(out, b"[")?;
+    for id in asks {
+        push_arguments(memo.body(*id).ok_or(Trouble::NoRow)?, out)?;
+    }
+    push_bytes(out, b"]")
+}
+
+/// Adds the arguments of a node.
+fn push_arguments(body: &Body, out: &mut Vec<u8>) -> Result<(), Trouble> {
+    if let Node::Cell(_, _, arguments) = body.node.get() {
+        for argument in arguments.as_slice() {
+            push_argument(argument, out)?;
+        }
+    }
+    Ok(())
+}
+
+fn push_argument(argument: &Value, out: &mut Vec<u8>) -> Result<(), Trouble> {
+    Ok(push_value(out, argument)?)
+}
+
+/// Adds how many nodes read a key, and which of the nodes do.
+fn push_readers(alloc: Global, memo: &Memo, key: &Key, out: &mut Vec<u8>) -> Result<(), Trouble> {
+    push_among(alloc, memo, &memo.readers_of(alloc, key)?, out)
+}
+
+/// Adds how many ids these are, and the nodes that have them.
+fn push_among(
+    alloc: Global,
+    memo: &Memo,
+    readers: &[NodeId],
+    out: &mut Vec<u8>,
+) -> Result<(), Trouble> {
+    push_counted(out, b"[", readers.len() as u64)?;
+    push_bytes(out, b":")?;
+    for n in 0..NODES {
+        if is_among(alloc, memo, readers, n)? {
+            push_counted(out, b"", u64::from(n))?;
+        }
+    }
+    push_bytes(out, b"]")
+}
+
+/// Whether a node is held under one of these ids.
+fn is_among(alloc: Global, memo: &Memo, ids: &[NodeId], n: u8) -> Result<bool, Trouble> {
+    match memo.find(&node(alloc, n)?) {
+        Some(id) => Ok(ids.contains(&id)),
+        None => Ok(false),
+    }
+}

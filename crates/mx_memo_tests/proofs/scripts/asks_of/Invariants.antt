@@ -1,5 +1,0 @@
-use Rattle.mx_memo.specs.Memos.{AreHeld}
-use Rattle.mx_memo_tests.proofs.scripts.asks_of.Given as goal
-
-abbrev pub invariant-loop-n : goal.invariant-loop-n
-invariant-loop-n l = AreHeld l.memo.held l.asks.items

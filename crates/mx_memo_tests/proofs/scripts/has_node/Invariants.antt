@@ -1,6 +1,0 @@
-use Rattle.std.proofs.Common.{◌≡◌, drop}
-use Rattle.mx_memo_tests.specs.Edited.{has_node}
-use Rattle.mx_memo_tests.proofs.scripts.has_node.Given as goal
-
-abbrev pub invariant-loop-other : goal.invariant-loop-other
-invariant-loop-other l = has_node (drop l.other-index l.nodes) l.node ≡ has_node l.nodes l.node
