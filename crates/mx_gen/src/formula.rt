@@ -83,14 +83,13 @@ fn at_start(alloc: Global) -> Result<Expr, AllocError>
 fn of_t(alloc: Global, e: Expr) -> Result<Formula, AllocError>
     ensures { IfOk result (λ f. f ≡ spec.of_t e) }
 {
+    let body = List::from_vec(alloc, vec![in alloc; Stmt::Return(Some(e))]?)?;
     let param = Param {
         name: label(alloc, b"t")?,
         default: None,
     };
-    Ok(Formula {
-        params: List::from_vec(alloc, vec![in alloc; param]?)?,
-        body: List::from_vec(alloc, vec![in alloc; Stmt::Return(Some(e))]?)?,
-    })
+    let params = List::from_vec(alloc, vec![in alloc; param]?)?;
+    Ok(Formula { params, body })
 }
 
 /// `(t) = START if t <= 0 else f(t - 1) + g(t - 1)`.
@@ -112,7 +111,7 @@ pub fn f_formula(alloc: Global, start: i64) -> Result<Formula, AllocError>
 pub fn g_formula(alloc: Global, factor: i64) -> Result<Formula, AllocError>
     ensures { IfOk result (λ f. f ≡ spec.g_formula factor) }
 {
-    let t = name(alloc, b"t")?;
+    let first = Shared::new(alloc, call(alloc, b"f", name(alloc, b"t")?)?)?;
     let mut rest = Vec::new(alloc);
     rest.push(ProductPart {
         op: ProductOp::Times,
@@ -122,9 +121,6 @@ pub fn g_formula(alloc: Global, factor: i64) -> Result<Formula, AllocError>
         op: ProductOp::Rem,
         of: Expr::Lit(Value::Int(1009)),
     })?;
-    let e = Expr::Product {
-        first: Shared::new(alloc, call(alloc, b"f", t)?)?,
-        rest: List::from_vec(alloc, rest)?,
-    };
-    of_t(alloc, e)
+    let rest = List::from_vec(alloc, rest)?;
+    of_t(alloc, Expr::Product { first, rest })
 }

@@ -40,18 +40,24 @@ impl ModelText {
             ((old : SpaceRecord) → space_of self.now s ≡ Some old → space ≡ change old) →
             IfOk result (λ t. t ≡ at_space self.now path change) }
     {
+        let space = Shared::new(alloc, space)?;
+        let paths = self.paths.copy()?;
+        let lists = self.lists.copy()?;
+        let globals = self.globals.copy()?;
+        let inputs = self.inputs.copy()?;
+        let tables = self.tables.copy()?;
+        let mut all_kinds = self.kinds.copy(alloc)?;
+        all_kinds.set(alloc, s.0 as usize, kinds)?;
         let mut spaces = self.spaces.copy(alloc)?;
-        spaces.set(alloc, s.0 as usize, Shared::new(alloc, space)?)?;
-        let mut tables = self.kinds.copy(alloc)?;
-        tables.set(alloc, s.0 as usize, kinds)?;
+        spaces.set(alloc, s.0 as usize, space)?;
         Ok(ModelText {
-            paths: self.paths.copy()?,
+            paths,
             spaces,
-            kinds: tables,
-            lists: self.lists.copy()?,
-            globals: self.globals.copy()?,
-            inputs: self.inputs.copy()?,
-            tables: self.tables.copy()?,
+            kinds: all_kinds,
+            lists,
+            globals,
+            inputs,
+            tables,
         })
     }
 
@@ -86,17 +92,9 @@ impl ModelText {
     ) -> Result<ModelText, AllocError>
         ensures { IfOk result (λ t. t ≡ record self.now { globals = globals }) }
     {
-        let spaces = self.spaces.copy(alloc)?;
-        let kinds = self.kinds.copy(alloc)?;
-        Ok(ModelText {
-            paths: self.paths.copy()?,
-            spaces,
-            kinds,
-            lists: self.lists.copy()?,
-            globals: Shared::new(alloc, globals)?,
-            inputs: self.inputs.copy()?,
-            tables: self.tables.copy()?,
-        })
+        let globals = Shared::new(alloc, globals)?;
+        let text = self.copy(alloc)?;
+        Ok(ModelText { globals, ..text })
     }
 
     /// The text with these tables.
@@ -107,17 +105,9 @@ impl ModelText {
     ) -> Result<ModelText, AllocError>
         ensures { IfOk result (λ t. t ≡ record self.now { tables = tables }) }
     {
-        let spaces = self.spaces.copy(alloc)?;
-        let kinds = self.kinds.copy(alloc)?;
-        Ok(ModelText {
-            paths: self.paths.copy()?,
-            spaces,
-            kinds,
-            lists: self.lists.copy()?,
-            globals: self.globals.copy()?,
-            inputs: self.inputs.copy()?,
-            tables: Shared::new(alloc, tables)?,
-        })
+        let tables = Shared::new(alloc, tables)?;
+        let text = self.copy(alloc)?;
+        Ok(ModelText { tables, ..text })
     }
 
     /// The text with these inputs.
@@ -128,16 +118,8 @@ impl ModelText {
     ) -> Result<ModelText, AllocError>
         ensures { IfOk result (λ t. t ≡ record self.now { inputs = inputs }) }
     {
-        let spaces = self.spaces.copy(alloc)?;
-        let kinds = self.kinds.copy(alloc)?;
-        Ok(ModelText {
-            paths: self.paths.copy()?,
-            spaces,
-            kinds,
-            lists: self.lists.copy()?,
-            globals: self.globals.copy()?,
-            inputs: Shared::new(alloc, inputs)?,
-            tables: self.tables.copy()?,
-        })
+        let inputs = Shared::new(alloc, inputs)?;
+        let text = self.copy(alloc)?;
+        Ok(ModelText { inputs, ..text })
     }
 }

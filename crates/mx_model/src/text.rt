@@ -22,11 +22,13 @@ use mx_list::list::List;
 use mx_list::shared::Shared;
 use mx_members::chunks::Chunks;
 use mx_members::members::Members;
+use mx_members::share::Share;
 use mx_syntax::stmt::{Formula, Params};
 use mx_value::label::Label;
 use mx_value::node::{Node, Path};
 use mx_value::value::Value;
 use std::alloc::{AllocError, Global};
+use std::hash::Hash;
 use std::marker::Model;
 
 /// What a model is made of. Copies share what they are made of. Contracts see its `ModelRecord`.
@@ -70,17 +72,20 @@ impl ModelText {
     {
         let path = main_path(alloc)?;
         let paths = one_path(alloc, path.copy()?)?;
-        let spaces = one_space(alloc, path)?;
-        let kinds = one_table(alloc)?;
         let lists = one_list(alloc)?;
+        let globals = no_members(alloc)?;
+        let inputs = no_members(alloc)?;
+        let tables = no_members(alloc)?;
+        let kinds = one_table(alloc)?;
+        let spaces = one_space(alloc, path)?;
         Ok(ModelText {
-            paths: Shared::new(alloc, paths)?,
+            paths,
             spaces,
             kinds,
-            lists: Shared::new(alloc, lists)?,
-            globals: Shared::new(alloc, Members::new(alloc)?)?,
-            inputs: Shared::new(alloc, Members::new(alloc)?)?,
-            tables: Shared::new(alloc, Members::new(alloc)?)?,
+            lists,
+            globals,
+            inputs,
+            tables,
         })
     }
 
@@ -345,12 +350,21 @@ fn main_path(alloc: Global) -> Result<Path, AllocError>
 }
 
 /// This path alone.
-fn one_path(alloc: Global, path: Path) -> Result<IndexSet<Path>, AllocError>
+fn one_path(alloc: Global, path: Path) -> Result<Shared<IndexSet<Path>>, AllocError>
     ensures { IfOk result (λ paths. paths.keys ≡ path ∷ []) }
 {
     let mut paths = IndexSet::new(alloc);
     paths.insert(path)?;
-    Ok(paths)
+    Shared::new(alloc, paths)
+}
+
+/// No members of a kind.
+fn no_members<K: Eq + Hash + Share, X: Share>(
+    alloc: Global,
+) -> Result<Shared<Members<K, X>>, AllocError>
+    ensures { IfOk result (λ members. members ≡ []) }
+{
+    Shared::new(alloc, Members::new(alloc)?)
 }
 
 /// The empty space of a path alone.
@@ -373,10 +387,10 @@ fn one_table(alloc: Global) -> Result<Chunks<Shared<Members<Label, Kind>>>, Allo
 }
 
 /// One space without bases.
-fn one_list(alloc: Global) -> Result<BaseLists, AllocError>
+fn one_list(alloc: Global) -> Result<Shared<BaseLists>, AllocError>
     ensures { IfOk result (λ lists. lists ≡ [] ∷ []) }
 {
     let mut lists = BaseLists::new(alloc);
     lists.push(Order::from_vec(alloc, Vec::new(alloc))?)?;
-    Ok(lists)
+    Shared::new(alloc, lists)
 }

@@ -1,4 +1,4 @@
-use Rattle.std.proofs.Common.{◌≡◌, ◌∙◌, ◌≤◌, ◌+◌, ℕ, List, length, map, set, sym, ap, arith}
+use Rattle.std.proofs.Common.{◌≡◌, ◌∙◌, ◌≤◌, ◌+◌, ℕ, length, map, set, sym, ap, arith}
 use Rattle.std.specs.Prelude.{sum}
 use Rattle.mx_model.specs.Records.{SpaceRecord}
 use Rattle.mx_model.specs.Counts.{cell_total, reference_total}
