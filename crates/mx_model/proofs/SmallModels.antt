@@ -1,5 +1,6 @@
 -- What the definitions say of small models, by computing it.
 use Rattle.std.proofs.Common.{◌≡◌, refl, ap, inl, inr, codes, [], ◌∷◌, length, arith}
+use Rattle.mx_value.specs.Name.{is_keyword}
 use Rattle.mx_c3.specs.Merge.{merge}
 use Rattle.mx_c3.specs.Linearisation.{c3}
 use Rattle.mx_model.specs.Records.{Path, empty_space}
@@ -31,7 +32,7 @@ unfolding c3 merge
 alone = (refl, refl)
 
 pub refusals : RefusalsInTurn
-unfolding c3 merge
+unfolding c3 merge is_keyword
 refusals = (refl, λ f. refl, refl, refl)
 
 one_longer : {X : Type 0} (x y : X) → (x ∷ y ∷ []) ≡ (x ∷ []) → ⊥
