@@ -1,6 +1,7 @@
 -- The text of a new model is valid.
 use Rattle.std.proofs.Common.{◌≡◌, ℕ, true, false, List, [], ◌∷◌, ◌++◌, length, Option, Some, None, inl, inr, refl, sym, ◌∙◌, ap, subst, arith, codes}
 use Rattle.std.specs.Prelude.{IsTrue}
+use Rattle.mx_value.specs.Name.{is_keyword}
 use Rattle.mx_c3.specs.declared.space.SpaceId.{SpaceId}
 use Rattle.mx_c3.specs.Lists.{Has, Distinct}
 use Rattle.mx_c3.specs.Merge.{merge}
@@ -126,6 +127,7 @@ begins_valid = record {
 }
 
 pub begins_named : IsNamed beginning
+unfolding is_keyword
 begins_named = record {
   names = λ path h. elim h [ inl e ↦ subst AreNames e (refl, tt) | inr none ↦ absurd none ];
   some = λ h. elim h [ inl e ↦ let f : main ∷ [] ≡ [] = e in cc | inr none ↦ none ];

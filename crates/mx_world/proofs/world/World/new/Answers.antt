@@ -29,3 +29,6 @@ pub unreachable-requires-in-Err-TooMany : goal.unreachable-requires-in-Err-TooMa
 unreachable-requires-in-Err-TooMany c =
     let P : PathsRefusal → Type 0 = λ why. Builds c.in_ok-text.text (Err why) in
     meets_not c.in_ok-text.text (refusal.TooMany c.in-Err-TooMany.field-0-0) c.in_ok-text.ensures (subst P c.in-Err-TooMany.field-0-is c.in-Err-TooMany.ensures)
+
+pub build-requires-clause-named : goal.build-requires-clause-named
+build-requires-clause-named c = subst IsNamed (sym c.in_ok-text.ensures) begins_named
