@@ -62,27 +62,18 @@ module _ {K : Type 0} (test : K → Bool) where
   place_append [] ys = sym (map_zero (place test ys))
   place_append (x ∷ xs) ys = append_by (test x) (length xs) (place test (xs ++ ys)) (place test xs) (place test ys) (place_append xs ys)
 
-  place_front : (xs ys : List K) (i : ℕ) → Some i ≡ place test xs → Some i ≡ place test (xs ++ ys)
+  pub place_front : (xs ys : List K) (i : ℕ) → Some i ≡ place test xs → Some i ≡ place test (xs ++ ys)
   place_front xs ys i e = sym (place_append xs ys ∙ ap (λ (o : Option ℕ). or_else o (option_map (λ j. length xs + j) (place test ys))) (sym e))
 
   place_back : (xs ys : List K) (o : Option ℕ) → None ≡ place test xs → o ≡ place test ys → option_map (λ j. length xs + j) o ≡ place test (xs ++ ys)
   place_back xs ys o none e =
       sym (place_append xs ys ∙ ap (λ (p : Option ℕ). or_else p (option_map (λ j. length xs + j) (place test ys))) (sym none) ∙ ap (λ (p : Option ℕ). option_map (λ j. length xs + j) p) (sym e))
 
-  module _ (b m t : List K) where
-    pub place_in_base : (i : ℕ) → Some i ≡ place test b → Some i ≡ place test (b ++ m ++ t)
-    place_in_base i e = place_front (b ++ m) t i (place_front b m i e)
+  pub place_last : (xs ys : List K) (i n : ℕ) → None ≡ place test xs → Some i ≡ place test ys → n ≡ length xs + i → Some n ≡ place test (xs ++ ys)
+  place_last xs ys i n none e is = ap (λ j. Some j) is ∙ place_back xs ys (Some i) none e
 
-    pub place_in_middle : (i n : ℕ) → None ≡ place test b → Some i ≡ place test m → n ≡ length b + i → Some n ≡ place test (b ++ m ++ t)
-    place_in_middle i n none e is = place_front (b ++ m) t n (ap (λ j. Some j) is ∙ place_back b m (Some i) none e)
-
-    pub place_in_top : (i n : ℕ) → None ≡ place test b → None ≡ place test m → Some i ≡ place test t → n ≡ length b + length m + i → Some n ≡ place test (b ++ m ++ t)
-    place_in_top i n none none_more e is =
-        let f : n ≡ length (b ++ m) + i = omega (arith, length-append b m) in
-        ap (λ j. Some j) f ∙ place_back (b ++ m) t (Some i) (place_back b m None none none_more) e
-
-    pub place_nowhere : None ≡ place test b → None ≡ place test m → None ≡ place test t → None ≡ place test (b ++ m ++ t)
-    place_nowhere none none_more e = place_back (b ++ m) t None (place_back b m None none none_more) e
+  pub place_nowhere : (xs ys : List K) → None ≡ place test xs → None ≡ place test ys → None ≡ place test (xs ++ ys)
+  place_nowhere xs ys none e = place_back xs ys None none e
 
   within_by : (t : Bool) (n i : ℕ) (o : Option ℕ) → ((j : ℕ) → Some j ≡ o → j < n) → Some i ≡ cond t (Some 0) (option_map suc o) → i < suc n
   within_by true n i o rest e = let f = same_Some i 0 e in omega arith
@@ -93,7 +84,16 @@ module _ {K : Type 0} (test : K → Bool) where
   place_within [] i e = let f : Some i ≡ None = e in cc
   place_within (k ∷ ks) i e = within_by (test k) (length ks) i (place test ks) (λ j f. place_within ks j f) e
 
-  absent : (ks : List K) → None ≡ place test ks → list_any test ks ≡ false
+  there_by : (t : Bool) (i : ℕ) (o : Option ℕ) (rest : Bool) → ((j : ℕ) → Some j ≡ o → rest ≡ true) → Some i ≡ cond t (Some 0) (option_map suc o) → (t || rest) ≡ true
+  there_by true i o rest more e = refl
+  there_by false i None rest more e = absurd (let f : ◌≡◌ {A = Option ℕ} (Some i) None = e in cc)
+  there_by false i (Some j) rest more e = more j refl
+
+  pub present : (ks : List K) (i : ℕ) → Some i ≡ place test ks → list_any test ks ≡ true
+  present [] i e = absurd (let f : ◌≡◌ {A = Option ℕ} (Some i) None = e in cc)
+  present (k ∷ ks) i e = there_by (test k) i (place test ks) (list_any test ks) (λ j f. present ks j f) e
+
+  pub absent : (ks : List K) → None ≡ place test ks → list_any test ks ≡ false
   absent [] e = refl
   absent (k ∷ ks) e =
       let later = none_first (test k) (place test ks) e in
@@ -105,18 +105,6 @@ module _ {K : Type 0} (test : K → Bool) where
 
   absent_from : (xs ys : List K) → None ≡ place test (xs ++ ys) → list_any test ys ≡ false
   absent_from xs ys e = absent_back xs ys (absent (xs ++ ys) e)
-
-module _ {K : Type 0} (b m t : List K) where
-  -- ---- what stands at a place of three lists
-
-  pub at_base : (i : ℕ) → i < length b → slice_get b i ≡ slice_get (b ++ m ++ t) i
-  at_base i h = sym (get_left (b ++ m) t i (omega (arith, length-append b m)) ∙ get_left b m i h)
-
-  pub at_middle : (i j : ℕ) → i ≡ length b + j → j < length m → slice_get m j ≡ slice_get (b ++ m ++ t) i
-  at_middle i j is h = sym (get_left (b ++ m) t i (omega (arith, length-append b m)) ∙ get_right b m i j is)
-
-  pub at_top : (i j : ℕ) → i ≡ length b + length m + j → slice_get t j ≡ slice_get (b ++ m ++ t) i
-  at_top i j is = sym (get_right (b ++ m) t i j (omega (arith, length-append b m)))
 
 module _ {X : Type 0} where
   abbrev at_place : Option ℕ → List X → Option X
@@ -182,13 +170,18 @@ module _ {K X : Type 0} where
     pub key_is : (i : ℕ) → slice_get ks i ≡ option_map (λ e. e.0) (slice_get now i)
     key_is i = ap (λ (l : List K). slice_get l i) keys_are ∙ slice_get-map (λ (e : K × X). e.0) now i
 
-    pub found : (test : K → Bool) (o : Option ℕ) → o ≡ place test (keys_of now) → at_place o ms ≡ lookup test now
-    found test o e =
-        ap (λ (p : Option ℕ). at_place p ms) (e ∙ ap (λ (l : List K). place test l) (sym keys_are)) ∙ sym (lookup_zip test ks ms all) ∙
-        ap (λ (es : List (K × X)). lookup test es) view
+    pub found : (test : K → Bool) (o : Option ℕ) → o ≡ place test ks → at_place o ms ≡ lookup test now
+    found test o e = ap (λ (p : Option ℕ). at_place p ms) e ∙ sym (lookup_zip test ks ms all) ∙ ap (λ (es : List (K × X)). lookup test es) view
 
-    pub there : (test : K → Bool) (i : ℕ) → Some i ≡ place test (keys_of now) → i < length ms
-    there test i e = let h = place_within test ks i (e ∙ ap (λ (l : List K). place test l) (sym keys_are)) in omega arith
+    pub there : (test : K → Bool) (i : ℕ) → Some i ≡ place test ks → i < length ms
+    there test i e = let h = place_within test ks i e in omega arith
+
+    none_of : (test : K → Bool) → None ≡ place test ks → None ≡ place test (keys_of now)
+    none_of test e = e ∙ ap (λ (l : List K). place test l) keys_are
+
+    pub lacked : (test : K → Bool) → None ≡ place test ks → lookup test now ≡ None
+    lacked test e = lacks test now (none_of test e)
+
 
   module _ (eq : K → K → Bool) (k : K) where
     -- ---- a definition
@@ -258,11 +251,6 @@ module _ {K : Type 0} (eq : K → K → Bool) where
   distinct_front [] ys d = tt
   distinct_front (x ∷ xs) ys d = (all_front (λ y. eq x y ≡ false) xs ys d.0, distinct_front xs ys d.1)
 
-  pub distinct_back : (xs ys : List K) → IsDistinct eq (xs ++ ys) → IsDistinct eq ys
-  unfolding IsDistinct
-  distinct_back [] ys d = d
-  distinct_back (x ∷ xs) ys d = distinct_back xs ys d.1
-
   all_at : (P : K → Type 0) (xs ys : List K) (i : ℕ) (k : K) → AllByRecursion P (xs ++ ys) → slice_get ys i ≡ Some k → P k
   all_at P [] [] i k all at = absurd (let f : None ≡ Some k = at in cc)
   all_at P [] (y ∷ ys) zero k all at = subst P (same_Some y k at) all.0
@@ -302,11 +290,15 @@ module _ {K : Type 0} (eq : K → K → Bool) where
         (all_more (λ y. eq x y ≡ false) ks k d.0 (laws.symm x k ∙ apart.0), distinct_more ks k d.1 apart.1)
 
     -- a key goes behind the last
-    pub key_added : (front top after : List K) (k : K) → after ≡ top ++ k ∷ [] → front ++ after ≡ (front ++ top) ++ k ∷ []
-    key_added front top after k is = ap (λ (l : List K). front ++ l) is ∙ sym (append_assoc front top (k ∷ []))
+    pub key_added : (front last after : List K) (k : K) → after ≡ last ++ k ∷ [] → front ++ after ≡ (front ++ last) ++ k ∷ []
+    key_added front last after k is = ap (λ (l : List K). front ++ l) is ∙ sym (append_assoc front last (k ∷ []))
 
-    pub distinct_added : (ks all : List K) (k : K) → IsDistinct eq ks → None ≡ place (eq k) ks → all ≡ ks ++ k ∷ [] → IsDistinct eq all
-    distinct_added ks all k d none is = subst (IsDistinct eq) (sym is) (distinct_more ks k d (absent (eq k) ks none))
+    pub one_more : (front last after now : List K) (k : K) (before count : ℕ) → front ++ last ≡ now → IsDistinct eq (front ++ last) → before ≡ length (front ++ last) → place (eq k) now ≡ None → after ≡ last ++ k ∷ [] → count ≡ before + 1 → IsDistinct eq (front ++ after) × (count ≡ length (front ++ after))
+    one_more front last after now k before count view d all none is more =
+        let keys = key_added front last after k is in
+        let own = absent (eq k) (front ++ last) (sym (ap (λ (l : List K). place (eq k) l) view ∙ none)) in
+        let long = ap (λ (l : List K). length l) keys ∙ length-append (front ++ last) (k ∷ []) in
+        (subst (IsDistinct eq) (sym keys) (distinct_more (front ++ last) k d own), omega arith)
 
     none_past : (k j : K) (ks : List K) → eq k j ≡ true → AllByRecursion (λ y. eq j y ≡ false) ks → place (eq k) ks ≡ None
     none_past k j [] e all = refl
@@ -328,32 +320,29 @@ module _ {K : Type 0} (eq : K → K → Bool) where
 module _ {K X : Type 0} (eq : K → K → Bool) (k : K) (ks : List K) (ms : List X) (now : List (K × X)) (view : zip ks ms ≡ now) (all : length ms ≡ length ks) where
   -- ---- a definition and a removal, by what is known of the members
 
-  own_place : (o : Option ℕ) → o ≡ place (eq k) (keys_of now) → o ≡ place (eq k) ks
-  own_place o e = e ∙ ap (λ (l : List K). place (eq k) l) (sym (keys_are ks ms now view all))
+  pub stay : None ≡ place (eq k) ks → now ≡ without eq now k
+  stay e = kept eq k now (e ∙ ap (λ (l : List K). place (eq k) l) (keys_are ks ms now view all))
 
-  pub redefined : (x : X) (i : ℕ) (after : List X) → Some i ≡ place (eq k) (keys_of now) → after ≡ set ms i x → zip ks after ≡ define eq now k x
+  pub redefined : (x : X) (i : ℕ) (after : List X) → Some i ≡ place (eq k) ks → after ≡ set ms i x → zip ks after ≡ define eq now k x
   redefined x i after e is =
-      ap (λ (l : List X). zip ks l) is ∙ defined_again eq k ks ms x i all (own_place (Some i) e) ∙ ap (λ (es : List (K × X)). define eq es k x) view
+      ap (λ (l : List X). zip ks l) is ∙ defined_again eq k ks ms x i all e ∙ ap (λ (es : List (K × X)). define eq es k x) view
 
-  pub appended : (x : X) (keys : List K) (after : List X) → None ≡ place (eq k) (keys_of now) → keys ≡ ks ++ k ∷ [] → after ≡ ms ++ x ∷ [] → zip keys after ≡ define eq now k x
+  pub appended : (x : X) (keys : List K) (after : List X) → None ≡ place (eq k) ks → keys ≡ ks ++ k ∷ [] → after ≡ ms ++ x ∷ [] → zip keys after ≡ define eq now k x
   appended x keys after e same is =
-      ap (λ (l : List K). zip l after) same ∙ ap (λ (l : List X). zip (ks ++ k ∷ []) l) is ∙ defined_new eq k ks ms x all (own_place None e) ∙
+      ap (λ (l : List K). zip l after) same ∙ ap (λ (l : List X). zip (ks ++ k ∷ []) l) is ∙ defined_new eq k ks ms x all e ∙
       ap (λ (es : List (K × X)). define eq es k x) view
 
-  module _ (i : ℕ) (keys : List K) (after : List X) (there : Some i ≡ place (eq k) (keys_of now)) (rest : keys ≡ remove (keys_of now) i) (is : after ≡ remove ms i) where
-    own_rest : keys ≡ remove ks i
-    own_rest = rest ∙ ap (λ (l : List K). remove l i) (sym (keys_are ks ms now view all))
-
+  module _ (i : ℕ) (keys : List K) (after : List X) (there : Some i ≡ place (eq k) ks) (rest : keys ≡ remove ks i) (is : after ≡ remove ms i) where
     pub cut_out : zip keys after ≡ without eq now k
     cut_out =
-        ap (λ (l : List K). zip l after) own_rest ∙ ap (λ (l : List X). zip (remove ks i) l) is ∙ removed eq k ks ms i all (own_place (Some i) there) ∙
+        ap (λ (l : List K). zip l after) rest ∙ ap (λ (l : List X). zip (remove ks i) l) is ∙ removed eq k ks ms i all there ∙
         ap (λ (es : List (K × X)). without eq es k) view
 
     pub as_many : length after ≡ length keys
-    as_many = ap (λ (l : List X). length l) is ∙ same_length eq k ks ms i all ∙ ap (λ (l : List K). length l) (sym own_rest)
+    as_many = ap (λ (l : List X). length l) is ∙ same_length eq k ks ms i all ∙ ap (λ (l : List K). length l) (sym rest)
 
     pub cut_gone : IsEquivalence eq → IsDistinct eq ks → lookup (eq k) (zip keys after) ≡ None
     cut_gone laws d =
         lookup_zip (eq k) keys after as_many ∙
         ap (λ (o : Option ℕ). at_place o after)
-        (ap (λ (l : List K). place (eq k) l) own_rest ∙ gone eq laws ks k i d (own_place (Some i) there))
+        (ap (λ (l : List K). place (eq k) l) rest ∙ gone eq laws ks k i d there)

@@ -2,5 +2,6 @@
 #![tactic(auto)]
 
 pub mod chunks;
+pub mod keys;
 pub mod members;
 pub mod share;

@@ -3,6 +3,7 @@ ghost use Rattle.std.specs.Prelude.{◌≡◌, IfOk};
 
 use mx_edit::reference::RefValue;
 use mx_edit::table::Table;
+use mx_list::list::List;
 use mx_list::shared::Shared;
 use mx_value::label::Label;
 use mx_value::node::Node;
@@ -35,6 +36,12 @@ impl Share for RefValue {
 
 impl Share for Table {
     fn share(&self, _alloc: Global) -> Result<Table, AllocError> {
+        self.copy()
+    }
+}
+
+impl<T: Drop> Share for List<T> {
+    fn share(&self, _alloc: Global) -> Result<List<T>, AllocError> {
         self.copy()
     }
 }

@@ -2,6 +2,7 @@ pub mod AddressLemmas
 mod Changes
 pub mod Defined
 pub mod Filtered
+mod Fronts
 pub mod KindLemmas
 pub mod LayerSteps
 pub mod LookupLemmas

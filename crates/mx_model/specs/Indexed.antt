@@ -1,6 +1,6 @@
 -- What a text keeps beside its record, so that spaces, their bases and the kinds of their members are found by hash and by
 -- place.
-use Rattle.std.specs.Prelude.{◌≡◌, ◌<◌, ◌^◌, List, [], ◌∷◌, length, Some, option_map}
+use Rattle.std.specs.Prelude.{◌≡◌, ◌<◌, ◌≤◌, ◌^◌, List, [], ◌∷◌, length, take, Some, option_map}
 use Rattle.std.specs.Map.{lookup}
 use Rattle.mx_value.specs.Name.{same_name}
 use Rattle.mx_c3.specs.Lists.{Has, Distinct}
@@ -38,6 +38,11 @@ pub record ArePlaced (tables : List Kinds) (text : ModelRecord) : Type 0 where
   pub kinds : TellAll text text.spaces tables
   pub parents : (path : Path) → Has (paths_of text) path → HasParent text (split_last path)
   pub few : length text.spaces < 2 ^ 32
+
+-- paths begin with these
+pub record IsFront (front paths : List Path) : Type 0 where
+  pub within : length front ≤ length paths
+  pub is : front ≡ take (length front) paths
 
 -- beside them their paths, and the bases of each by its place
 pub record IsIndexed (keys : List Path) (lists : List (List SpaceId)) (tables : List Kinds) (text : ModelRecord) : Type 0 where

@@ -1,21 +1,74 @@
 //! What a text keeps beside its spaces: their paths and bases by place.
-ghost use Rattle.std.specs.Prelude.{◌≡◌, ◌<◌, ◌^◌, length, map, IfOk};
+ghost use Rattle.std.specs.Prelude.{◌≡◌, ◌<◌, ◌^◌, Some, length, map, slice_get, IfOk, IsTrue};
 ghost use Rattle.std.specs.List.{filter_map};
 ghost use Rattle.mx_c3.specs.Lists.{Distinct};
-ghost use Rattle.mx_model.specs.Records.{SpaceRecord};
+ghost use Rattle.mx_model.specs.Records.{Path as Names, SpaceRecord};
+ghost use Rattle.mx_model.specs.Indexed.{IsFront};
 ghost use Rattle.mx_model.specs.Layers.{id_in, lists_in};
 
 use crate::spaces::Spaces;
 use indexmap::IndexSet;
 use mx_c3::lists::{BaseLists, Order};
 use mx_c3::space::SpaceId;
+use mx_members::keys::Keys;
 use mx_value::node::Path;
 use std::alloc::{AllocError, Global};
 
-/// The paths of spaces, by hash.
-pub(crate) fn paths_of(alloc: Global, spaces: &Spaces) -> Result<IndexSet<Path>, AllocError>
+/// The paths of spaces, from those of other spaces where they begin with these.
+pub(crate) fn paths_of(
+    alloc: Global,
+    before: &Keys<Path>,
+    spaces: &Spaces,
+) -> Result<Keys<Path>, AllocError>
     requires { Distinct (map (λ (s : SpaceRecord). s.path) spaces.now) }
-    ensures { IfOk result (λ paths. paths.keys ≡ map (λ (s : SpaceRecord). s.path) spaces.now) }
+    ensures { IfOk result (λ paths. paths ≡ map (λ (s : SpaceRecord). s.path) spaces.now) }
+{
+    if !are_first(before, spaces) {
+        return all_paths(alloc, spaces);
+    }
+    let mut paths = before.copy(alloc)?;
+    for place in before.len()..spaces.len() {
+        let Some(space) = spaces.get(place) else {
+            unreachable!()
+        };
+        paths.enter(space.get().path().copy()?)?;
+    }
+    return Ok(paths);
+}
+
+/// Whether the first spaces have these paths.
+fn are_first(paths: &Keys<Path>, spaces: &Spaces) -> bool
+    ensures { IsTrue result → IsFront paths.now (map (λ (s : SpaceRecord). s.path) spaces.now) }
+{
+    if paths.len() > spaces.len() {
+        return false;
+    }
+    for place in 0..paths.len() {
+        if !is_path_at(paths, spaces, place) {
+            return false;
+        }
+    }
+    true
+}
+
+/// Whether the space at a place has the path there.
+fn is_path_at(paths: &Keys<Path>, spaces: &Spaces, place: usize) -> bool
+    ensures { IsTrue result → (path : Names) → slice_get paths.now place ≡ Some path →
+        slice_get (map (λ (s : SpaceRecord). s.path) spaces.now) place ≡ Some path }
+{
+    let Some(space) = spaces.get(place) else {
+        return false;
+    };
+    let Some(path) = paths.get(place) else {
+        return false;
+    };
+    *space.get().path() == *path
+}
+
+/// The paths of spaces.
+fn all_paths(alloc: Global, spaces: &Spaces) -> Result<Keys<Path>, AllocError>
+    requires { Distinct (map (λ (s : SpaceRecord). s.path) spaces.now) }
+    ensures { IfOk result (λ paths. paths ≡ map (λ (s : SpaceRecord). s.path) spaces.now) }
 {
     let mut paths = IndexSet::with_capacity(alloc, spaces.len())?;
     for place in 0..spaces.len() {
@@ -24,17 +77,17 @@ pub(crate) fn paths_of(alloc: Global, spaces: &Spaces) -> Result<IndexSet<Path>,
         };
         paths.insert(space.get().path().copy()?)?;
     }
-    Ok(paths)
+    Keys::from_set(alloc, paths)
 }
 
 /// The bases of spaces, each by its place among these paths.
 pub(crate) fn lists_of(
     alloc: Global,
     spaces: &Spaces,
-    paths: &IndexSet<Path>,
+    paths: &Keys<Path>,
 ) -> Result<BaseLists, AllocError>
-    requires { length paths.now.keys < 2 ^ 32 }
-    ensures { IfOk result (λ lists. lists ≡ lists_in paths.now.keys spaces.now) }
+    requires { length paths.now < 2 ^ 32 }
+    ensures { IfOk result (λ lists. lists ≡ lists_in paths.now spaces.now) }
 {
     let mut lists = BaseLists::new(alloc);
     for place in 0..spaces.len() {
@@ -47,9 +100,9 @@ pub(crate) fn lists_of(
 }
 
 /// The places of bases among paths. One that is not among them is left out.
-fn ids_of(alloc: Global, bases: &[Path], paths: &IndexSet<Path>) -> Result<Order, AllocError>
-    requires { length paths.now.keys < 2 ^ 32 }
-    ensures { IfOk result (λ ids. ids ≡ filter_map (id_in paths.now.keys) bases.now) }
+fn ids_of(alloc: Global, bases: &[Path], paths: &Keys<Path>) -> Result<Order, AllocError>
+    requires { length paths.now < 2 ^ 32 }
+    ensures { IfOk result (λ ids. ids ≡ filter_map (id_in paths.now) bases.now) }
 {
     let mut ids = Vec::new(alloc);
     for base in bases {
@@ -62,11 +115,11 @@ fn ids_of(alloc: Global, bases: &[Path], paths: &IndexSet<Path>) -> Result<Order
 }
 
 /// The place of a path.
-pub(crate) fn id_in(paths: &IndexSet<Path>, path: &Path) -> Option<SpaceId>
-    requires { length paths.now.keys < 2 ^ 32 }
-    ensures { result ≡ id_in paths.now.keys path.now }
+pub(crate) fn id_in(paths: &Keys<Path>, path: &Path) -> Option<SpaceId>
+    requires { length paths.now < 2 ^ 32 }
+    ensures { result ≡ id_in paths.now path.now }
 {
-    match paths.get_index_of(path) {
+    match paths.place_of(path) {
         Some(place) => Some(SpaceId(place as u32)),
         None => None,
     }

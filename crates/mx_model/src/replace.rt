@@ -71,7 +71,7 @@ impl ModelText {
         requires { ArePlaced kinds (record self.now { spaces = spaces }) }
         ensures { IfOk result (λ t. t ≡ record self.now { spaces = spaces }) }
     {
-        let paths = paths_of(alloc, &spaces)?;
+        let paths = paths_of(alloc, self.paths.get(), &spaces)?;
         let lists = lists_of(alloc, &spaces, &paths)?;
         Ok(ModelText {
             paths: Shared::new(alloc, paths)?,

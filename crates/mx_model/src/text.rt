@@ -12,7 +12,6 @@ ghost use Rattle.mx_model.specs.Readers.{path_in, cells_in, formula_in, allows_i
 use crate::kind::Kind;
 use crate::space::{Cells, Space};
 use crate::spaces::Spaces;
-use indexmap::IndexSet;
 use mx_c3::lists::{BaseLists, Order};
 use mx_c3::space::SpaceId;
 use mx_code::compiled::CompiledParams;
@@ -21,6 +20,7 @@ use mx_edit::table::Table;
 use mx_list::list::List;
 use mx_list::shared::Shared;
 use mx_members::chunks::Chunks;
+use mx_members::keys::Keys;
 use mx_members::members::Members;
 use mx_members::share::Share;
 use mx_syntax::stmt::{Formula, Params};
@@ -34,8 +34,8 @@ use std::marker::Model;
 /// What a model is made of. Copies share what they are made of. Contracts see its `ModelRecord`.
 #[derive(Drop)]
 pub struct ModelText {
-    /// The paths of the spaces, in order of creation, by hash.
-    pub(crate) paths: Shared<IndexSet<Path>>,
+    /// The paths of the spaces, in order of creation.
+    pub(crate) paths: Shared<Keys<Path>>,
     pub(crate) spaces: Spaces,
     /// What each space has itself of each name, by its place.
     pub(crate) kinds: Chunks<Shared<Members<Label, Kind>>>,
@@ -62,7 +62,7 @@ impl Model for ModelText {
 
     ghost view = { λ t. record { spaces = t.spaces; globals = t.globals; inputs = t.inputs; tables = t.tables } };
 
-    ghost invariant = { λ t. IsIndexed t.paths.keys t.lists t.kinds (record { spaces = t.spaces; globals = t.globals; inputs = t.inputs; tables = t.tables }) };
+    ghost invariant = { λ t. IsIndexed t.paths t.lists t.kinds (record { spaces = t.spaces; globals = t.globals; inputs = t.inputs; tables = t.tables }) };
 }
 
 impl ModelText {
@@ -100,7 +100,7 @@ impl ModelText {
     pub fn id_of(&self, path: &Path) -> Option<SpaceId>
         ensures { result ≡ id_of self.now path.now }
     {
-        match self.paths.get().get_index_of(path) {
+        match self.paths.get().place_of(path) {
             Some(place) => Some(SpaceId(place as u32)),
             None => None,
         }
@@ -350,11 +350,11 @@ fn main_path(alloc: Global) -> Result<Path, AllocError>
 }
 
 /// This path alone.
-fn one_path(alloc: Global, path: Path) -> Result<Shared<IndexSet<Path>>, AllocError>
-    ensures { IfOk result (λ paths. paths.keys ≡ path ∷ []) }
+fn one_path(alloc: Global, path: Path) -> Result<Shared<Keys<Path>>, AllocError>
+    ensures { IfOk result (λ paths. paths ≡ path ∷ []) }
 {
-    let mut paths = IndexSet::new(alloc);
-    paths.insert(path)?;
+    let mut paths = Keys::new(alloc)?;
+    paths.enter(path)?;
     Shared::new(alloc, paths)
 }
 

@@ -9,7 +9,7 @@ use Rattle.mx_model.proofs.beside.ids_of.Goals.{in-Some+in_ok-push-in-Some, in-N
 
 pub loop-base-preserved : goal.loop-base-preserved
 loop-base-preserved c =
-    let id = id_in c.args.paths.now.keys in
+    let id = id_in c.args.paths.now in
     let found = c.id_in.result in
     let more = child_more id c.args.bases.now c.loop-base.base-index c.base-item.result found c.loop-base-test.true (c.id_in.ensures ∙ ap id c.base-item.is) in
     let before = c.loop-base.invariant in

@@ -4,4 +4,4 @@ use Rattle.mx_model.specs.Layers.{id_in}
 use Rattle.mx_model.proofs.beside.ids_of.Given as goal
 
 abbrev pub invariant-loop-base : goal.invariant-loop-base
-invariant-loop-base l = l.ids.items ≡ filter_map (id_in l.paths.keys) (take l.base-index l.bases)
+invariant-loop-base l = l.ids.items ≡ filter_map (id_in l.paths) (take l.base-index l.bases)

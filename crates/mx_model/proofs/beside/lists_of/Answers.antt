@@ -8,7 +8,7 @@ use Rattle.mx_model.proofs.beside.lists_of.Goals as goal
 
 pub loop-place-preserved : goal.loop-place-preserved
 loop-place-preserved c =
-    let known = id_in c.args.paths.now.keys in
+    let known = id_in c.args.paths.now in
     let own : SpaceRecord → List SpaceId = λ s. filter_map known s.bases in
     let bases : SpaceRecord → _ = λ s. s.bases in
     let same = c.in_ok-ids_of.ensures ∙ ap (filter_map known) (c.as_slice.ensures ∙ ap bases (c.behind-space.view_is ∙ c.get-in-loop-place.ensures)) in

@@ -3,4 +3,4 @@ use Rattle.mx_model.specs.Layers.{lists_in}
 use Rattle.mx_model.proofs.beside.lists_of.Given as goal
 
 abbrev pub invariant-loop-place : goal.invariant-loop-place
-invariant-loop-place l = l.lists ≡ lists_in l.paths.keys (take l.place l.spaces)
+invariant-loop-place l = l.lists ≡ lists_in l.paths (take l.place l.spaces)

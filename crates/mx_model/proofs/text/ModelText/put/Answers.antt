@@ -20,11 +20,11 @@ invariant_of-result c =
     let inside = c.self.inside in
     let text = c.args.self.now in
     let made : ModelRecord = record { spaces = c.set-2.new.self; globals = c.in_ok-globals.globals; inputs = c.in_ok-inputs.inputs; tables = c.in_ok-tables.tables } in
-    let P : ModelRecord → Type 0 = λ t. IsIndexed inside.paths.keys inside.lists inside.kinds t in
-    let Q : List Kinds → Type 0 = λ ts. IsIndexed c.in_ok-paths.paths.keys c.in_ok-lists.lists ts made in
+    let P : ModelRecord → Type 0 = λ t. IsIndexed inside.paths inside.lists inside.kinds t in
+    let Q : List Kinds → Type 0 = λ ts. IsIndexed c.in_ok-paths.paths c.in_ok-lists.lists ts made in
     let index = subst P c.self.view_is c.self.invariant in
     let spaces = c.in_ok-spaces.ensures ∙ ap (λ (t : ModelRecord). t.spaces) c.self.view_is in
-    let built = put_built inside.paths.keys c.in_ok-paths.paths.keys inside.lists c.in_ok-lists.lists inside.kinds c.in_ok-all_kinds.all_kinds text made c.in_ok-spaces.spaces c.args.s.0 c.args.space c.in_ok-space.space c.args.kinds index (ap (λ m. m.keys) c.in_ok-paths.ensures) c.in_ok-lists.ensures c.in_ok-all_kinds.ensures spaces c.in_ok-space.ensures c.requires.within c.requires.stays c.requires.tells c.in_ok-set-2.ensures.ok in
+    let built = put_built inside.paths c.in_ok-paths.paths inside.lists c.in_ok-lists.lists inside.kinds c.in_ok-all_kinds.all_kinds text made c.in_ok-spaces.spaces c.args.s.0 c.args.space c.in_ok-space.space c.args.kinds index c.in_ok-paths.ensures c.in_ok-lists.ensures c.in_ok-all_kinds.ensures spaces c.in_ok-space.ensures c.requires.within c.requires.stays c.requires.tells c.in_ok-set-2.ensures.ok in
     subst Q (sym c.in_ok-set.ensures.ok) built
 
 pub returns : goal.returns
@@ -32,7 +32,7 @@ returns c path change id is_made =
     let inside = c.self.inside in
     let text = c.args.self.now in
     let made : ModelRecord = record { spaces = c.set-2.new.self; globals = c.in_ok-globals.globals; inputs = c.in_ok-inputs.inputs; tables = c.in_ok-tables.tables } in
-    let P : ModelRecord → Type 0 = λ t. IsIndexed inside.paths.keys inside.lists inside.kinds t in
+    let P : ModelRecord → Type 0 = λ t. IsIndexed inside.paths inside.lists inside.kinds t in
     let index = subst P c.self.view_is c.self.invariant in
     let spaces = c.in_ok-spaces.ensures ∙ ap (λ (t : ModelRecord). t.spaces) c.self.view_is in
     let globals = c.in_ok-globals.ensures ∙ ap (λ (t : ModelRecord). t.globals) c.self.view_is in

@@ -1,6 +1,6 @@
 use Rattle.std.proofs.Common.{◌≡◌, drop}
 use Rattle.std.specs.List.{position_from}
-use Rattle.mx_members.proofs.members.place_among.Given as goal
+use Rattle.mx_members.proofs.keys.place_among.Given as goal
 
 -- What is left decides.
 abbrev pub invariant-loop-at : goal.invariant-loop-at

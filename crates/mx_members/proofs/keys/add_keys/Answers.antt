@@ -1,8 +1,8 @@
 use Rattle.std.proofs.Common.{sym}
 use Rattle.mx_members.proofs.MemberLemmas.{add_more}
-use Rattle.mx_members.proofs.members.add_last.Goals as goal
+use Rattle.mx_members.proofs.keys.add_keys.Goals as goal
 
 pub loop-at-preserved : goal.loop-at-preserved
 loop-at-preserved g c =
-    add_more g.K.PartialEq.eq g.met.K.Eq.laws c.args.keys.now.keys c.args.last.now c.loop-at.keys.keys c.insert.new.self.keys c.loop-at.at c.in-Some.key.now c.in_ok-share.field-0
+    add_more g.K.PartialEq.eq g.met.K.Eq.laws c.args.keys.now.keys c.args.more.now c.loop-at.keys.keys c.insert.new.self.keys c.loop-at.at c.in-Some.key.now c.in_ok-share.field-0
     c.requires c.loop-at.invariant (sym c.in-Some.ensures) c.in_ok-share.ensures c.in_ok-insert.ensures.keys

@@ -1,0 +1,239 @@
+//! Keys, each once, in order of their coming.
+ghost use Rattle.std.specs.Prelude.{◌≡◌, ◌++◌, ◌∷◌, ◌<◌, [], length, None, IfOk, IfSome, OnOk, OnErr, option_copied, slice_get, remove};
+ghost use Rattle.std.specs.List.{IsDistinct, position_from};
+ghost use Rattle.indexmap.specs.IndexSet.{insert_key};
+ghost use Rattle.mx_members.specs.Places.{place};
+
+use crate::chunks::{Chunks, item_at, shared_items};
+use crate::share::Share;
+use indexmap::IndexSet;
+use mx_list::items::Items;
+use mx_list::shared::Shared;
+use std::alloc::{AllocError, Global};
+use std::hash::Hash;
+use std::marker::Model;
+
+/// Keys, each once, in order of their coming.
+///
+/// They stand in a set that copies share, and in a short list behind it, so that a key is found in one hash. The list is looked
+/// through: to copy a set hashes its keys. A copy joins both once the list has passed twice the root of the set.
+#[derive(Drop)]
+pub struct Keys<K: Eq + Hash> {
+    set: Shared<IndexSet<K>>,
+    last: Items<K>,
+    count: usize,
+}
+
+impl<K: Eq + Hash> Model for Keys<K> {
+    ghost use Rattle.std.specs.Prelude.{◌≡◌, List, ◌++◌, length};
+    ghost use Rattle.std.specs.List.{IsDistinct};
+
+    ghost Value = { List K };
+
+    ghost view = { λ k. k.set.keys ++ k.last };
+
+    ghost invariant = { λ k. IsDistinct K.eq (k.set.keys ++ k.last)
+        × (k.count ≡ length (k.set.keys ++ k.last)) };
+}
+
+impl<K: Eq + Hash + Share> Keys<K> {
+    /// No keys.
+    pub fn new(alloc: Global) -> Result<Keys<K>, AllocError>
+        ensures { IfOk result (λ k. k ≡ []) }
+    {
+        Keys::from_set(alloc, IndexSet::new(alloc))
+    }
+
+    /// The keys of a set.
+    pub fn from_set(alloc: Global, keys: IndexSet<K>) -> Result<Keys<K>, AllocError>
+        ensures { IfOk result (λ k. k ≡ keys.keys) }
+    {
+        let count = keys.len();
+        Ok(Keys {
+            set: Shared::new(alloc, keys)?,
+            last: Items::new(alloc),
+            count,
+        })
+    }
+
+    /// How many keys there are. With it comes what is true of all: none stands twice.
+    pub fn len(&self) -> usize
+        ensures all { result ≡ length self.now }
+        ensures distinct { IsDistinct K.eq self.now }
+    {
+        self.count
+    }
+
+    /// The same keys.
+    pub fn copy(&self, alloc: Global) -> Result<Keys<K>, AllocError>
+        ensures { IfOk result (λ k. k ≡ self.now) }
+    {
+        if self.is_last_long() {
+            let keys = self.joined(alloc)?;
+            return Keys::from_set(alloc, keys);
+        }
+        Ok(Keys {
+            set: self.set.copy()?,
+            last: Items::from_vec(shared_items(alloc, self.last.as_slice())?),
+            count: self.count,
+        })
+    }
+
+    /// Whether the list has passed twice the root of the set.
+    fn is_last_long(&self) -> bool {
+        let last = self.last.len();
+        last > 16 && self.set.get().len() / last < last / 4
+    }
+
+    /// All keys in one set.
+    fn joined(&self, alloc: Global) -> Result<IndexSet<K>, AllocError>
+        ensures { IfOk result (λ keys. keys.keys ≡ self.now) }
+    {
+        let front = self.set.get();
+        let last = self.last.as_slice();
+        let mut keys = IndexSet::with_capacity(alloc, front.len().saturating_add(last.len()))?;
+        add_keys(alloc, &mut keys, front.as_slice())?;
+        add_keys(alloc, &mut keys, last)?;
+        Ok(keys)
+    }
+
+    /// The place of a key, from 0.
+    pub fn place_of(&self, key: &K) -> Option<usize>
+        ensures { result ≡ place (K.eq key.now) self.now }
+    {
+        let before_last = self.count - self.last.len();
+        match place_in(self.set.get(), key) {
+            Some(at) => return Some(at),
+            None => {}
+        }
+        match place_among(self.last.as_slice(), key) {
+            Some(at) => return Some(before_last + at),
+            None => return None,
+        }
+    }
+
+    /// The key at a place, from 0.
+    pub fn get(&self, place: usize) -> Option<&K>
+        ensures { option_copied result ≡ slice_get self.now place }
+    {
+        let front = self.set.get();
+        if place < front.len() {
+            return front.get_index(place);
+        }
+        item_at(self.last.as_slice(), place - front.len())
+    }
+
+    /// Adds a key behind the others, unless it is there.
+    pub fn enter(&mut self, key: K) -> Result<(), AllocError>
+        ensures { OnOk result (self.new ≡ insert_key K.eq self.old key) }
+    {
+        match self.place_of(&key) {
+            Some(_) => return Ok(()),
+            None => {
+                self.push(key)?;
+                return Ok(());
+            }
+        }
+    }
+
+    /// Adds a new key behind the others.
+    fn push(&mut self, key: K) -> Result<(), AllocError>
+        requires new { place (K.eq key) self.old ≡ None }
+        ensures ok { OnOk result (self.new ≡ self.old ++ key ∷ []) }
+        ensures err { OnErr result (self.new ≡ self.old) }
+    {
+        let Some(count) = self.count.checked_add(1) else {
+            return Err(AllocError);
+        };
+        self.last.push(key)?;
+        self.count = count;
+        Ok(())
+    }
+
+    /// Adds a new key behind the others and its member behind those.
+    pub fn push_beside<X: Share>(
+        &mut self,
+        alloc: Global,
+        key: K,
+        members: &mut Chunks<X>,
+        member: X,
+    ) -> Result<(), AllocError>
+        requires new { place (K.eq key) self.old ≡ None }
+        ensures keys { OnOk result (self.new ≡ self.old ++ key ∷ []) }
+        ensures members { OnOk result (members.new ≡ members.old ++ member ∷ []) }
+        ensures err { OnErr result (self.new ≡ self.old) }
+        ensures err_members { OnErr result (members.new ≡ members.old) }
+    {
+        let Some(count) = self.count.checked_add(1) else {
+            return Err(AllocError);
+        };
+        self.last.push(key)?;
+        match members.push(alloc, member) {
+            Ok(()) => {
+                self.count = count;
+                Ok(())
+            }
+            Err(error) => {
+                let _ = self.last.pop();
+                Err(error)
+            }
+        }
+    }
+
+    /// Where the keys take their memory from.
+    pub fn allocator(&self) -> Global {
+        *self.set.get().allocator()
+    }
+
+    /// The keys without the one at a place.
+    pub fn without(&self, alloc: Global, at: usize) -> Result<Keys<K>, AllocError>
+        requires { at < length self.now }
+        ensures { IfOk result (λ k. k ≡ remove self.now at) }
+    {
+        let mut keys = self.joined(alloc)?;
+        keys.shift_remove_index(at);
+        Keys::from_set(alloc, keys)
+    }
+}
+
+/// The place of a key in a set. One without keys is not asked, since it would hash the key first.
+fn place_in<K: Eq + Hash>(keys: &IndexSet<K>, key: &K) -> Option<usize>
+    ensures place { result ≡ place (K.eq key.now) keys.now.keys }
+    ensures within { IfSome result (λ at. at < length keys.now.keys) }
+{
+    if keys.is_empty() {
+        return None;
+    }
+    keys.get_index_of(key)
+}
+
+/// The place of a key among a few.
+fn place_among<K: Eq>(keys: &[K], key: &K) -> Option<usize>
+    ensures place { result ≡ position_from (K.eq key.now) 0 keys.now }
+    ensures within { IfSome result (λ at. at < length keys.now) }
+{
+    for at in 0..keys.len() {
+        if *key == keys[at] {
+            return Some(at);
+        }
+    }
+    None
+}
+
+/// Adds keys, shared, behind those of a set.
+fn add_keys<K: Eq + Hash + Share>(
+    alloc: Global,
+    keys: &mut IndexSet<K>,
+    more: &[K],
+) -> Result<(), AllocError>
+    requires { IsDistinct K.eq (keys.old.keys ++ more.now) }
+    ensures { OnOk result (keys.new.keys ≡ keys.old.keys ++ more.now) }
+{
+    for at in 0..more.len() {
+        let Some(key) = item_at(more, at) else {
+            unreachable!()
+        };
+        keys.insert(key.share(alloc)?)?;
+    }
+    Ok(())
+}
