@@ -1,13 +1,14 @@
 -- What a text keeps beside its record, so that spaces, their bases and the kinds of their members are found by hash and by
 -- place.
-use Rattle.std.specs.Prelude.{◌≡◌, ◌<◌, ◌≤◌, ◌^◌, List, [], ◌∷◌, length, take, Some, option_map}
+use Rattle.std.specs.Prelude.{◌≡◌, ◌<◌, ◌≤◌, ◌^◌, List, [], ◌∷◌, length, map, take, Some, option_map}
+use Rattle.std.specs.List.{filter_map}
 use Rattle.std.specs.Map.{lookup}
 use Rattle.mx_value.specs.Name.{same_name}
 use Rattle.mx_c3.specs.Lists.{Has, Distinct}
 use Rattle.mx_c3.specs.declared.space.SpaceId.{SpaceId}
 use Rattle.mx_model.specs.declared.kind.Kind.{Kind}
 use Rattle.mx_model.specs.Records.{Name, Path, SpaceRecord, ModelRecord}
-use Rattle.mx_model.specs.Layers.{paths_of, space_of, base_lists}
+use Rattle.mx_model.specs.Layers.{paths_of, id_in, space_of, lists_in, base_lists}
 use Rattle.mx_model.specs.Paths.{split_last}
 use Rattle.mx_model.specs.Parents.{HasParent}
 use Rattle.mx_model.specs.Binding.{own_member}
@@ -43,6 +44,17 @@ pub record ArePlaced (tables : List Kinds) (text : ModelRecord) : Type 0 where
 pub record IsFront (front paths : List Path) : Type 0 where
   pub within : length front ≤ length paths
   pub is : front ≡ take (length front) paths
+
+-- the paths of spaces, and the bases of each by its place
+pub record AreBeside (keys : List Path) (lists : List (List SpaceId)) (spaces : List SpaceRecord) : Type 0 where
+  pub paths : keys ≡ map (λ (s : SpaceRecord). s.path) spaces
+  pub bases : lists ≡ lists_in keys spaces
+  pub few : length spaces < 2 ^ 32
+
+-- the places of bases among paths, of each one
+pub record AreAll (paths bases : List Path) (ids : List SpaceId) : Type 0 where
+  pub are : ids ≡ filter_map (id_in paths) bases
+  pub all : length ids ≡ length bases
 
 -- beside them their paths, and the bases of each by its place
 pub record IsIndexed (keys : List Path) (lists : List (List SpaceId)) (tables : List Kinds) (text : ModelRecord) : Type 0 where

@@ -1,31 +1,59 @@
 //! What a text keeps beside its spaces: their paths and bases by place.
-ghost use Rattle.std.specs.Prelude.{◌≡◌, ◌<◌, ◌^◌, Some, length, map, slice_get, IfOk, IsTrue};
+ghost use Rattle.std.specs.Prelude.{◌≡◌, ◌<◌, ◌^◌, Some, length, map, slice_get, IfOk, IfSome, IsTrue, ◌↔◌};
 ghost use Rattle.std.specs.List.{filter_map};
 ghost use Rattle.mx_c3.specs.Lists.{Distinct};
 ghost use Rattle.mx_model.specs.Records.{Path as Names, SpaceRecord};
-ghost use Rattle.mx_model.specs.Indexed.{IsFront};
+ghost use Rattle.mx_model.specs.Indexed.{AreAll, AreBeside, IsFront};
 ghost use Rattle.mx_model.specs.Layers.{id_in, lists_in};
 
 use crate::spaces::Spaces;
 use indexmap::IndexSet;
 use mx_c3::lists::{BaseLists, Order};
 use mx_c3::space::SpaceId;
+use mx_list::list::List;
 use mx_members::keys::Keys;
 use mx_value::node::Path;
 use std::alloc::{AllocError, Global};
 
-/// The paths of spaces, from those of other spaces where they begin with these.
-pub(crate) fn paths_of(
+/// What a text keeps beside its spaces, with these.
+#[derive(Clone, Copy)]
+pub(crate) struct Kept<'a> {
+    pub paths: &'a Keys<Path>,
+    pub spaces: &'a Spaces,
+    pub lists: &'a BaseLists,
+}
+
+/// The paths of spaces and the bases of each, from what is kept of other spaces where they begin with the paths of these.
+pub(crate) fn beside(
+    alloc: Global,
+    kept: &Kept<'_>,
+    spaces: &Spaces,
+) -> Result<(Keys<Path>, BaseLists), AllocError>
+    requires kept { AreBeside kept.now.paths.now kept.now.lists.now kept.now.spaces.now }
+    requires once { Distinct (map (λ (s : SpaceRecord). s.path) spaces.now) }
+    requires few { length spaces.now < 2 ^ 32 }
+    ensures { IfOk result (λ both. AreBeside both.0 both.1 spaces.now) }
+{
+    if are_first(kept.paths, spaces) {
+        let paths = more_paths(alloc, kept.paths, spaces)?;
+        let lists = more_lists(alloc, kept, spaces, &paths)?;
+        return Ok((paths, lists));
+    }
+    let paths = all_paths(alloc, spaces)?;
+    let lists = all_lists(alloc, spaces, &paths)?;
+    return Ok((paths, lists));
+}
+
+/// The paths of spaces that begin with these.
+fn more_paths(
     alloc: Global,
     before: &Keys<Path>,
     spaces: &Spaces,
 ) -> Result<Keys<Path>, AllocError>
-    requires { Distinct (map (λ (s : SpaceRecord). s.path) spaces.now) }
+    requires once { Distinct (map (λ (s : SpaceRecord). s.path) spaces.now) }
+    requires front { IsFront before.now (map (λ (s : SpaceRecord). s.path) spaces.now) }
     ensures { IfOk result (λ paths. paths ≡ map (λ (s : SpaceRecord). s.path) spaces.now) }
 {
-    if !are_first(before, spaces) {
-        return all_paths(alloc, spaces);
-    }
     let mut paths = before.copy(alloc)?;
     for place in before.len()..spaces.len() {
         let Some(space) = spaces.get(place) else {
@@ -33,7 +61,7 @@ pub(crate) fn paths_of(
         };
         paths.enter(space.get().path().copy()?)?;
     }
-    return Ok(paths);
+    Ok(paths)
 }
 
 /// Whether the first spaces have these paths.
@@ -81,7 +109,7 @@ fn all_paths(alloc: Global, spaces: &Spaces) -> Result<Keys<Path>, AllocError>
 }
 
 /// The bases of spaces, each by its place among these paths.
-pub(crate) fn lists_of(
+fn all_lists(
     alloc: Global,
     spaces: &Spaces,
     paths: &Keys<Path>,
@@ -97,6 +125,72 @@ pub(crate) fn lists_of(
         lists.push(ids_of(alloc, space.get().bases.as_slice(), paths)?)?;
     }
     Ok(lists)
+}
+
+/// The same, sharing those that are kept.
+fn more_lists(
+    alloc: Global,
+    kept: &Kept<'_>,
+    spaces: &Spaces,
+    paths: &Keys<Path>,
+) -> Result<BaseLists, AllocError>
+    requires few { length paths.now < 2 ^ 32 }
+    requires kept { AreBeside kept.now.paths.now kept.now.lists.now kept.now.spaces.now }
+    requires front { IsFront kept.now.paths.now paths.now }
+    ensures { IfOk result (λ lists. lists ≡ lists_in paths.now spaces.now) }
+{
+    let mut lists = BaseLists::new(alloc);
+    for place in 0..spaces.len() {
+        let Some(space) = spaces.get(place) else {
+            unreachable!()
+        };
+        lists.push(list_of(alloc, kept, place, &space.get().bases, paths)?)?;
+    }
+    Ok(lists)
+}
+
+/// The places of the bases of the space at a place.
+fn list_of(
+    alloc: Global,
+    kept: &Kept<'_>,
+    place: usize,
+    bases: &List<Path>,
+    paths: &Keys<Path>,
+) -> Result<Order, AllocError>
+    requires few { length paths.now < 2 ^ 32 }
+    requires kept { AreBeside kept.now.paths.now kept.now.lists.now kept.now.spaces.now }
+    requires front { IsFront kept.now.paths.now paths.now }
+    ensures { IfOk result (λ ids. ids ≡ filter_map (id_in paths.now) bases.now) }
+{
+    match list_kept(kept, place, bases) {
+        Some(ids) => return ids.copy(),
+        None => return ids_of(alloc, bases.as_slice(), paths),
+    }
+}
+
+/// The places that are kept of bases, where the space had the same ones and all are defined.
+fn list_kept<'a>(kept: &Kept<'a>, place: usize, bases: &List<Path>) -> Option<&'a Order>
+    requires { AreBeside kept.now.paths.now kept.now.lists.now kept.now.spaces.now }
+    ensures { IfSome result (λ ids. AreAll kept.now.paths.now bases.now ids.now) }
+{
+    let Some(space) = kept.spaces.get(place) else {
+        return None;
+    };
+    if !are_same(&space.get().bases, bases) {
+        return None;
+    }
+    let ids = kept.lists.bases(SpaceId(place as u32));
+    if ids.as_slice().len() != bases.len() {
+        return None;
+    }
+    Some(ids)
+}
+
+/// Whether bases are the same.
+fn are_same(bases: &List<Path>, others: &List<Path>) -> bool
+    ensures { IsTrue result ↔ (bases.now ≡ others.now) }
+{
+    *bases == *others
 }
 
 /// The places of bases among paths. One that is not among them is left out.

@@ -6,7 +6,7 @@ ghost use Rattle.mx_model.specs.Change.{at_space};
 ghost use Rattle.mx_model.specs.Kept.{StaysInPlace};
 ghost use Rattle.mx_model.specs.Indexed.{Tells, ArePlaced};
 
-use crate::beside::{lists_of, paths_of};
+use crate::beside::{Kept, beside};
 use crate::kind::Kind;
 use crate::space::Space;
 use crate::spaces::Spaces;
@@ -71,8 +71,12 @@ impl ModelText {
         requires { ArePlaced kinds (record self.now { spaces = spaces }) }
         ensures { IfOk result (λ t. t ≡ record self.now { spaces = spaces }) }
     {
-        let paths = paths_of(alloc, self.paths.get(), &spaces)?;
-        let lists = lists_of(alloc, &spaces, &paths)?;
+        let kept = Kept {
+            paths: self.paths.get(),
+            spaces: &self.spaces,
+            lists: self.lists.get(),
+        };
+        let (paths, lists) = beside(alloc, &kept, &spaces)?;
         Ok(ModelText {
             paths: Shared::new(alloc, paths)?,
             spaces,
