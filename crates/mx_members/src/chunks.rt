@@ -1,6 +1,7 @@
 //! `Chunks`: items in order, in chunks that copies share.
 ghost use Rattle.mx_members.specs.Chunks.{joined, IsEven};
-ghost use Rattle.std.specs.Prelude.{◌≡◌, ◌<◌, [], ◌∷◌, ◌++◌, length, slice_get, slice_set, option_copied, IfOk, OnOk, OnErr};
+ghost use Rattle.mx_members.specs.Places.{place};
+ghost use Rattle.std.specs.Prelude.{◌≡◌, ◌<◌, [], ◌∷◌, ◌++◌, length, slice_get, slice_set, option_copied, IfOk, IfSome, OnOk, OnErr};
 
 use crate::share::Share;
 use mx_list::items::Items;
@@ -58,6 +59,40 @@ impl<T> Chunks<T> {
         };
         item_at(chunk.get().as_slice(), at % FULL)
     }
+}
+
+impl<T: PartialEq> Chunks<T> {
+    /// The place of the first item that equals this one, from 0.
+    pub fn place_of(&self, item: &T) -> Option<usize>
+        ensures place { result ≡ place (T.eq item.now) self.now }
+        ensures within { IfSome result (λ at. at < length self.now) }
+    {
+        if self.len() == 0 {
+            return None;
+        }
+        for at in 0..self.chunks.len() {
+            let Some(chunk) = item_at(&self.chunks, at) else {
+                unreachable!()
+            };
+            match place_among(chunk.get().as_slice(), item) {
+                Some(place) => return Some(at * FULL + place),
+                None => {}
+            }
+        }
+        None
+    }
+}
+
+/// The place of an item among a few.
+fn place_among<T: PartialEq>(items: &[T], item: &T) -> Option<usize>
+    ensures { result ≡ place (T.eq item.now) items.now }
+{
+    for at in 0..items.len() {
+        if *item == items[at] {
+            return Some(at);
+        }
+    }
+    None
 }
 
 impl<T: Drop> Chunks<T> {

@@ -1,13 +1,12 @@
 //! Keys, each once, in order of their coming.
 ghost use Rattle.std.specs.Prelude.{◌≡◌, ◌++◌, ◌∷◌, ◌<◌, [], length, None, IfOk, IfSome, OnOk, OnErr, option_copied, slice_get, remove};
-ghost use Rattle.std.specs.List.{IsDistinct, position_from};
+ghost use Rattle.std.specs.List.{IsDistinct};
 ghost use Rattle.indexmap.specs.IndexSet.{insert_key};
 ghost use Rattle.mx_members.specs.Places.{place};
 
-use crate::chunks::{Chunks, item_at, shared_items};
+use crate::chunks::{Chunks, item_at};
 use crate::share::Share;
 use indexmap::IndexSet;
-use mx_list::items::Items;
 use mx_list::shared::Shared;
 use std::alloc::{AllocError, Global};
 use std::hash::Hash;
@@ -15,12 +14,12 @@ use std::marker::Model;
 
 /// Keys, each once, in order of their coming.
 ///
-/// They stand in a set that copies share, and in a short list behind it, so that a key is found in one hash. The list is looked
-/// through: to copy a set hashes its keys. A copy joins both once the list has passed twice the root of the set.
+/// They stand in a set and in a short list behind it, which copies share, so that a key is found in one hash. The list is looked
+/// through, since to copy a set hashes its keys. A copy joins both once the list has passed three times the root of the set.
 #[derive(Drop)]
 pub struct Keys<K: Eq + Hash> {
     set: Shared<IndexSet<K>>,
-    last: Items<K>,
+    last: Chunks<K>,
     count: usize,
 }
 
@@ -51,7 +50,7 @@ impl<K: Eq + Hash + Share> Keys<K> {
         let count = keys.len();
         Ok(Keys {
             set: Shared::new(alloc, keys)?,
-            last: Items::new(alloc),
+            last: Chunks::new(alloc),
             count,
         })
     }
@@ -74,15 +73,15 @@ impl<K: Eq + Hash + Share> Keys<K> {
         }
         Ok(Keys {
             set: self.set.copy()?,
-            last: Items::from_vec(shared_items(alloc, self.last.as_slice())?),
+            last: self.last.copy(alloc)?,
             count: self.count,
         })
     }
 
-    /// Whether the list has passed twice the root of the set.
+    /// Whether the list has passed three times the root of the set.
     fn is_last_long(&self) -> bool {
         let last = self.last.len();
-        last > 16 && self.set.get().len() / last < last / 4
+        last > 16 && self.set.get().len() / last < last / 9
     }
 
     /// All keys in one set.
@@ -90,10 +89,10 @@ impl<K: Eq + Hash + Share> Keys<K> {
         ensures { IfOk result (λ keys. keys.keys ≡ self.now) }
     {
         let front = self.set.get();
-        let last = self.last.as_slice();
+        let last = self.last.to_vec(alloc)?;
         let mut keys = IndexSet::with_capacity(alloc, front.len().saturating_add(last.len()))?;
         add_keys(alloc, &mut keys, front.as_slice())?;
-        add_keys(alloc, &mut keys, last)?;
+        add_keys(alloc, &mut keys, last.as_slice())?;
         Ok(keys)
     }
 
@@ -106,7 +105,7 @@ impl<K: Eq + Hash + Share> Keys<K> {
             Some(at) => return Some(at),
             None => {}
         }
-        match place_among(self.last.as_slice(), key) {
+        match self.last.place_of(key) {
             Some(at) => return Some(before_last + at),
             None => return None,
         }
@@ -120,7 +119,7 @@ impl<K: Eq + Hash + Share> Keys<K> {
         if place < front.len() {
             return front.get_index(place);
         }
-        item_at(self.last.as_slice(), place - front.len())
+        self.last.get(place - front.len())
     }
 
     /// Adds a key behind the others, unless it is there.
@@ -145,39 +144,20 @@ impl<K: Eq + Hash + Share> Keys<K> {
         let Some(count) = self.count.checked_add(1) else {
             return Err(AllocError);
         };
-        self.last.push(key)?;
+        let alloc = self.allocator();
+        self.last.push(alloc, key)?;
         self.count = count;
         Ok(())
     }
 
-    /// Adds a new key behind the others and its member behind those.
-    pub fn push_beside<X: Share>(
-        &mut self,
-        alloc: Global,
-        key: K,
-        members: &mut Chunks<X>,
-        member: X,
-    ) -> Result<(), AllocError>
-        requires new { place (K.eq key) self.old ≡ None }
-        ensures keys { OnOk result (self.new ≡ self.old ++ key ∷ []) }
-        ensures members { OnOk result (members.new ≡ members.old ++ member ∷ []) }
-        ensures err { OnErr result (self.new ≡ self.old) }
-        ensures err_members { OnErr result (members.new ≡ members.old) }
+    /// The keys with a new one behind the others.
+    pub fn with(&self, alloc: Global, key: K) -> Result<Keys<K>, AllocError>
+        requires new { place (K.eq key) self.now ≡ None }
+        ensures { IfOk result (λ k. k ≡ self.now ++ key ∷ []) }
     {
-        let Some(count) = self.count.checked_add(1) else {
-            return Err(AllocError);
-        };
-        self.last.push(key)?;
-        match members.push(alloc, member) {
-            Ok(()) => {
-                self.count = count;
-                Ok(())
-            }
-            Err(error) => {
-                let _ = self.last.pop();
-                Err(error)
-            }
-        }
+        let mut keys = self.copy(alloc)?;
+        keys.push(key)?;
+        Ok(keys)
     }
 
     /// Where the keys take their memory from.
@@ -205,19 +185,6 @@ fn place_in<K: Eq + Hash>(keys: &IndexSet<K>, key: &K) -> Option<usize>
         return None;
     }
     keys.get_index_of(key)
-}
-
-/// The place of a key among a few.
-fn place_among<K: Eq>(keys: &[K], key: &K) -> Option<usize>
-    ensures place { result ≡ position_from (K.eq key.now) 0 keys.now }
-    ensures within { IfSome result (λ at. at < length keys.now) }
-{
-    for at in 0..keys.len() {
-        if *key == keys[at] {
-            return Some(at);
-        }
-    }
-    None
 }
 
 /// Adds keys, shared, behind those of a set.

@@ -64,8 +64,9 @@ impl<K: Eq + Hash + Share, X: Share> Members<K, X> {
                 return Ok(());
             }
             None => {
-                self.keys
-                    .push_beside(alloc, key, &mut self.members, member)?;
+                let keys = self.keys.with(alloc, key)?;
+                self.members.push(alloc, member)?;
+                self.keys = keys;
                 return Ok(());
             }
         }

@@ -1,8 +1,7 @@
 use Rattle.std.proofs.Common.{◌+◌, ◌-◌, ◌∙◌, length, ap, arith, rules}
-use Rattle.std.specs.List.{position_from}
 use Rattle.std.proofs.lemmas.List.{length-append}
 use Rattle.mx_members.specs.Places.{place}
-use Rattle.mx_members.proofs.MemberLemmas.{place_front, place_last, place_nowhere, place_from_zero}
+use Rattle.mx_members.proofs.MemberLemmas.{place_front, place_last, place_nowhere}
 use Rattle.mx_members.proofs.keys.Keys.place_of.Goals as goal
 
 pub returns-in-Some : goal.returns-in-Some
@@ -20,23 +19,22 @@ pub overflow_add-result : goal.overflow_add-result
 overflow_add-result g c =
     let whole = length-append c.self.inside.set.keys c.self.inside.last in
     let all = c.self.invariant.1 in
-    let last = ap (λ l. length l) c.as_slice.ensures in
-    let within = c.in-Some-place_among.ensures.within in
+    let within = c.in-Some-place_of.ensures.within in
     search rules
 
-pub returns-in-Some-place_among : goal.returns-in-Some-place_among
-returns-in-Some-place_among g c =
+pub returns-in-Some-place_of : goal.returns-in-Some-place_of
+returns-in-Some-place_of g c =
     let test = g.K.PartialEq.eq c.args.key.now in
     let whole = length-append c.self.inside.set.keys c.self.inside.last in
     let all = c.self.invariant.1 in
     let none = c.in-None.ensures.place ∙ ap (λ s. place test s.keys) c.get.ensures in
-    place_last test c.self.inside.set.keys c.self.inside.last c.in-Some-place_among.at (c.self.inside.count - c.len.result + c.in-Some-place_among.at) none
-        (c.in-Some-place_among.ensures.place ∙ ap (λ l. position_from test 0 l) c.as_slice.ensures ∙ place_from_zero test c.self.inside.last) (omega arith)
+    place_last test c.self.inside.set.keys c.self.inside.last c.in-Some-place_of.at (c.self.inside.count - c.len.result + c.in-Some-place_of.at) none
+        c.in-Some-place_of.ensures.place (omega arith)
     ∙ ap (λ l. place test l) c.self.view_is
 
-pub returns-in-None-place_among : goal.returns-in-None-place_among
-returns-in-None-place_among g c =
+pub returns-in-None-place_of : goal.returns-in-None-place_of
+returns-in-None-place_of g c =
     let test = g.K.PartialEq.eq c.args.key.now in
     let none = c.in-None.ensures.place ∙ ap (λ s. place test s.keys) c.get.ensures in
-    place_nowhere test c.self.inside.set.keys c.self.inside.last none (c.in-None-place_among.ensures.place ∙ ap (λ l. position_from test 0 l) c.as_slice.ensures ∙ place_from_zero test c.self.inside.last)
+    place_nowhere test c.self.inside.set.keys c.self.inside.last none c.in-None-place_of.ensures.place
     ∙ ap (λ l. place test l) c.self.view_is

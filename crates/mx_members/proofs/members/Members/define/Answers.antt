@@ -14,5 +14,5 @@ returns-in-Some-clause-defined g c =
 
 pub returns-in-None-clause-defined : goal.returns-in-None-clause-defined
 returns-in-None-clause-defined g c =
-    appended g.K.PartialEq.eq c.args.key c.self.inside.keys c.self.inside.members c.args.self.now c.self.view_is c.self.invariant c.args.member c.push_beside.new.self
-    c.push_beside.new.members c.in-None.ensures c.in_ok-push_beside-in-None.ensures.keys c.in_ok-push_beside-in-None.ensures.members
+    appended g.K.PartialEq.eq c.args.key c.self.inside.keys c.self.inside.members c.args.self.now c.self.view_is c.self.invariant c.args.member c.in_ok-keys-in-None.keys
+    c.push.new.self c.in-None.ensures c.in_ok-keys-in-None.ensures c.in_ok-push-in-None.ensures.ok
