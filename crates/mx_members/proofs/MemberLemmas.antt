@@ -7,7 +7,7 @@ use Rattle.std.proofs.lemmas.Iterator.Adapters.{position_from-zero}
 use Rattle.std.proofs.lemmas.List.{append_assoc, length-append}
 use Rattle.std.proofs.lemmas.Map.Made.{keys_of-zip}
 use Rattle.std.proofs.lemmas.Option.{same_Some, slice_get-map}
-use Rattle.mx_members.proofs.ChunkLemmas.{get_left, get_right, take_one}
+use Rattle.mx_members.proofs.ChunkLemmas.{take_one}
 use Rattle.mx_members.specs.Chunks.{joined, IsEven}
 use Rattle.mx_members.specs.Places.{place}
 use Rattle.mx_members.specs.Words.{define, without}
@@ -236,7 +236,6 @@ module _ {K X : Type 0} where
 
     pub lacked : (test : K → Bool) → None ≡ place test ks → lookup test now ≡ None
     lacked test e = lacks test now (none_of test e)
-
 
   module _ (eq : K → K → Bool) (k : K) where
     -- ---- a definition

@@ -45,11 +45,7 @@ pub(crate) fn beside(
 }
 
 /// The paths of spaces that begin with these.
-fn more_paths(
-    alloc: Global,
-    before: &Keys<Path>,
-    spaces: &Spaces,
-) -> Result<Keys<Path>, AllocError>
+fn more_paths(alloc: Global, before: &Keys<Path>, spaces: &Spaces) -> Result<Keys<Path>, AllocError>
     requires once { Distinct (map (λ (s : SpaceRecord). s.path) spaces.now) }
     requires front { IsFront before.now (map (λ (s : SpaceRecord). s.path) spaces.now) }
     ensures { IfOk result (λ paths. paths ≡ map (λ (s : SpaceRecord). s.path) spaces.now) }
@@ -109,11 +105,7 @@ fn all_paths(alloc: Global, spaces: &Spaces) -> Result<Keys<Path>, AllocError>
 }
 
 /// The bases of spaces, each by its place among these paths.
-fn all_lists(
-    alloc: Global,
-    spaces: &Spaces,
-    paths: &Keys<Path>,
-) -> Result<BaseLists, AllocError>
+fn all_lists(alloc: Global, spaces: &Spaces, paths: &Keys<Path>) -> Result<BaseLists, AllocError>
     requires { length paths.now < 2 ^ 32 }
     ensures { IfOk result (λ lists. lists ≡ lists_in paths.now spaces.now) }
 {

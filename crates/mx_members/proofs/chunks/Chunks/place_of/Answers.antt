@@ -1,4 +1,4 @@
-use Rattle.std.proofs.Common.{◌≡◌, ◌+◌, ◌*◌, ◌<◌, ◌∙◌, Some, length, slice_get, sym, ap, arith, rules}
+use Rattle.std.proofs.Common.{◌≡◌, ◌+◌, ◌*◌, ◌∙◌, Some, length, slice_get, sym, ap, arith, rules}
 use Rattle.mx_members.specs.Chunks.{joined}
 use Rattle.mx_members.specs.Places.{place}
 use Rattle.mx_members.proofs.MemberLemmas.{chunk_past, chunk_found, place_within}

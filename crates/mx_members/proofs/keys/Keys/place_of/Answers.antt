@@ -1,4 +1,4 @@
-use Rattle.std.proofs.Common.{◌+◌, ◌-◌, ◌∙◌, length, ap, arith, rules}
+use Rattle.std.proofs.Common.{◌+◌, ◌-◌, ◌∙◌, ap, arith, rules}
 use Rattle.std.proofs.lemmas.List.{length-append}
 use Rattle.mx_members.specs.Places.{place}
 use Rattle.mx_members.proofs.MemberLemmas.{place_front, place_last, place_nowhere}
@@ -29,7 +29,7 @@ returns-in-Some-place_of g c =
     let all = c.self.invariant.1 in
     let none = c.in-None.ensures.place ∙ ap (λ s. place test s.keys) c.get.ensures in
     place_last test c.self.inside.set.keys c.self.inside.last c.in-Some-place_of.at (c.self.inside.count - c.len.result + c.in-Some-place_of.at) none
-        c.in-Some-place_of.ensures.place (omega arith)
+    c.in-Some-place_of.ensures.place (omega arith)
     ∙ ap (λ l. place test l) c.self.view_is
 
 pub returns-in-None-place_of : goal.returns-in-None-place_of

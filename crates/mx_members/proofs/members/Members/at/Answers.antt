@@ -1,4 +1,4 @@
-use Rattle.std.proofs.Common.{◌∙◌, slice_get, sym, ap}
+use Rattle.std.proofs.Common.{◌∙◌, slice_get, ap}
 use Rattle.mx_members.proofs.MemberLemmas.{key_is, no_key, zip_at, zip_past}
 use Rattle.mx_members.proofs.members.Members.at.Goals as goal
 

@@ -1,5 +1,3 @@
-use Rattle.std.proofs.Common.{◌∷◌, [], ◌∙◌, length, sym, ap, arith}
-use Rattle.std.proofs.lemmas.List.{length-append}
 use Rattle.mx_members.proofs.MemberLemmas.{there, redefined, appended}
 use Rattle.mx_members.proofs.members.Members.define.Goals as goal
 
