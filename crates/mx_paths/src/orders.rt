@@ -53,7 +53,7 @@ fn order_of(
     let Some(known) = all_known(alloc, orders, bases)? else {
         return Ok(None);
     };
-    let mut begun = Vec::new(alloc);
+    let mut begun = Vec::with_capacity(alloc, bases.len() + 1)?;
     begun.push(space)?;
     return merged(alloc, table, begun, known, bases);
 }

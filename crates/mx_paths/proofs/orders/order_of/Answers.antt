@@ -39,7 +39,7 @@ returns c =
     let before : IsTrue c.are_before.result = c.if-not-are_before.false in
     let below : AllBelow c.args.space.0 bases = c.are_before.ensures.0 before in
     let some = match_some (found ≡ None) (λ v. found ≡ Some v.items) c.in_ok-known.field-0 c.in-Some.known c.in_ok-known.ensures c.in-Some.is in
-    let begun : c.push.new.self.items ≡ c.args.space ∷ [] = c.in_ok-push.ensures.items ∙ ap (λ (xs : List SpaceId). xs ++ c.args.space ∷ []) c.new-begun.ensures.items in
+    let begun : c.push.new.self.items ≡ c.args.space ∷ [] = c.in_ok-push.ensures.items ∙ ap (λ (xs : List SpaceId). xs ++ c.args.space ∷ []) c.in_ok-begun.ensures.items in
     let lists = c.in-Some.known.items ++ bases ∷ [] in
     IfOk-weaker c.merged.result (λ order. order ≡ told (put_all c.push.new.self.items (merge lists))) (λ order. order ≡ told (c3 (base_lists c.args.text.now) c.args.space)) (λ order e.
     base_merge c.args.text.now c.requires.sound c.args.space c.requires.space bases is c.args.orders.now c.requires.known below c.in-Some.known.items order some (e ∙ ap (λ (xs : List SpaceId). told (put_all xs (merge lists))) begun)) c.merged.ensures
