@@ -5,7 +5,7 @@ use Rattle.std.proofs.lemmas.Option.{same_Some, slice_get-map}
 use Rattle.std.proofs.lemmas.List.{take-append-le, take_all, length-map, length-append, map-append}
 use Rattle.mx_c3.specs.declared.space.SpaceId.{SpaceId}
 use Rattle.mx_c3.specs.Lists.{Has}
-use Rattle.mx_model.specs.Records.{Path, ModelRecord}
+use Rattle.mx_model.specs.Records.{Name, Path, ModelRecord}
 use Rattle.mx_model.specs.declared.layers.Layered.{Layered}
 use Rattle.mx_model.specs.declared.layers.Layered.TheVariants.{Layers}
 use Rattle.mx_model.specs.Layers.{layers}
@@ -96,6 +96,12 @@ layers_below text top families orders rows id spaces ready begun s x h =
     let l = are.1 x h in
     let long = ready.sources.are_families.long in
     omega arith
+
+-- a path below others has a name
+pub not_below : (own names : Path) (last : Name) → length own < 1 → own ≡ names ++ last ∷ [] → ⊥
+not_below [] [] last h e = let f : [] ≡ last ∷ [] = e in cc
+not_below [] (n ∷ names) last h e = let f : [] ≡ n ∷ names ++ last ∷ [] = e in cc
+not_below (x ∷ own) names last h e = omega arith
 
 take_one : (paths : List Path) (i : ℕ) (p : Path) → slice_get paths i ≡ Some p → take i paths ++ p ∷ [] ≡ take (suc i) paths
 take_one [] i p at = absurd (let f : None ≡ Some p = at in cc)

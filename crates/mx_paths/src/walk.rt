@@ -235,7 +235,7 @@ fn least_name<'a>(families: &[Family<'a>]) -> Option<&'a Label>
 
 /// Whether a path is that of these names and one more.
 fn is_below(own: &[Label], names: &[Label], last: &Label) -> bool
-    ensures { IsTrue result → own.now ≡ names.now ++ last.now ∷ [] }
+    ensures { IsTrue result ↔ own.now ≡ names.now ++ last.now ∷ [] }
 {
     let [first @ .., end] = own else {
         return false;
