@@ -157,7 +157,8 @@ fn order_at(orders: &[Option<Order>], space: SpaceId) -> Result<Option<Order>, A
 
 /// The order of a space.
 fn known_at(orders: &[Option<Order>], space: SpaceId) -> Option<&Order>
-    ensures { MatchOption result (known orders.now space ≡ None) (λ order. known orders.now space ≡ Some order.now) }
+    ensures { let found = known orders.now space in
+        MatchOption result (found ≡ None) (λ order. found ≡ Some order.now) }
 {
     match orders.get(space.0 as usize) {
         Some(Some(order)) => Some(order),
