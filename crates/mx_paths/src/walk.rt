@@ -1,6 +1,7 @@
 //! The walk over the static paths.
 ghost use Rattle.std.specs.Prelude.{◌≡◌, ◌≤◌, ◌<◌, ◌∷◌, ◌+◌, ◌++◌, ◌↔◌, [], length, IsTrue, List as Many, map, IfOk, OnOk, MatchOption, slice_get, slice_index_or, Some};
 ghost use Rattle.std.specs.List.{filter_map};
+ghost use Rattle.mx_value.specs.Name.{same_path};
 ghost use Rattle.mx_c3.specs.Lists.{Has};
 ghost use Rattle.mx_c3.specs.InOrder.{AllBelow};
 ghost use Rattle.mx_model.specs.Records.{Path as Names};
@@ -240,7 +241,22 @@ fn is_below(own: &[Label], names: &[Label], last: &Label) -> bool
     let [first @ .., end] = own else {
         return false;
     };
-    first == names && *end == *last
+    same_names(first, names) && *end == *last
+}
+
+/// Whether names are the same. They are compared one by one, since paths are short.
+fn same_names(a: &[Label], b: &[Label]) -> bool
+    ensures { result ≡ same_path a.now b.now }
+{
+    if a.len() != b.len() {
+        return false;
+    }
+    for at in 0..a.len() {
+        if a[at] != b[at] {
+            return false;
+        }
+    }
+    true
 }
 
 /// Takes the children of a name that stand first.
