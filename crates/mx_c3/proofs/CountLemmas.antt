@@ -4,8 +4,8 @@ use Rattle.std.proofs.lemmas.List.{length-take-le, take_all, take_more, get_or-s
 use Rattle.std.proofs.Math.Seq.{take-append_seam}
 use Rattle.mx_c3.specs.declared.space.SpaceId.{SpaceId}
 use Rattle.mx_c3.specs.Lists.{Has, Distinct, AllDistinct}
-use Rattle.mx_c3.specs.Merge.{same, tail, head, stands, in_tail}
-use Rattle.mx_c3.specs.Counts.{count, times, CountsFirst, IsCounted, CountsMore}
+use Rattle.mx_c3.specs.Merge.{same, tail, head, heads, stands, in_tail}
+use Rattle.mx_c3.specs.Counts.{count, times, CountsFirst, IsCounted, CountsMore, AreZeros}
 use Rattle.mx_c3.specs.Taking.{drop_head, CanTake, Follows}
 use Rattle.mx_c3.proofs.ListLemmas.{Same, Other, compared, is_same, has_at, distinct_tail, among_at, among_set, all_distinct_take}
 
@@ -70,6 +70,11 @@ stands_some (y ∷ ys) x h =
       | Same s e ↦ rw s refl
       | Other s e ↦ rw s (stands_some ys x (let i : count (y ∷ ys) x ≡ count ys x = rw s (omega arith) in omega arith))
     ]
+
+below_or : (i n : ℕ) → (i < n) ⊎ (n ≤ i)
+below_or i zero = inr (omega arith)
+below_or zero (suc n) = inl (omega arith)
+below_or (suc i) (suc n) = elim (below_or i n) [ inl l ↦ inl (omega arith) | inr l ↦ inr (omega arith) ]
 
 pub zero_or : (n : ℕ) → (n ≡ 0) ⊎ (0 < n)
 zero_or zero = inl refl
@@ -228,3 +233,29 @@ counts_few lists i counts x a h c l =
     let f : times (take i lists) x ≤ length (take i lists) = times_few (take i lists) x (all_distinct_take lists i a) in
     let n : length (take i lists) ≡ i = length-take-le i lists (omega arith) in
     omega arith
+
+pub tail_none : (xs : List SpaceId) → length xs < 1 → xs ≡ tail xs
+tail_none [] h = refl
+tail_none (x ∷ xs) h = absurd (omega arith)
+
+pub zeros_push : (ns : List ℕ) → AreZeros ns → AreZeros (ns ++ 0 ∷ [])
+zeros_push [] z zero = refl
+zeros_push [] z (suc i) = refl
+zeros_push (n ∷ ns) z zero = z zero
+zeros_push (n ∷ ns) z (suc i) = zeros_push ns (λ j. z (suc j)) i
+
+times_empty : (lists : List (List SpaceId)) (x : SpaceId) → heads lists ≡ [] → times lists x ≡ 0
+times_empty [] x e = refl
+times_empty ([] ∷ lists) x e = omega (arith, times_empty lists x e)
+times_empty ((y ∷ ys) ∷ lists) x e = absurd (let i : y ∷ heads lists ≡ [] = e in cc)
+
+beyond : (ns : List ℕ) (i : ℕ) → length ns ≤ i → slice_index ns i ≡ 0
+beyond [] i h = refl
+beyond (n ∷ ns) zero h = absurd (omega arith)
+beyond (n ∷ ns) (suc i) h = beyond ns i (omega arith)
+
+-- once nothing is left the table is as before
+pub zeros_left : (lists : List (List SpaceId)) (counts : List ℕ) → IsCounted lists counts → heads lists ≡ [] → AreZeros counts
+zeros_left lists counts c e i =
+    let x : SpaceId = record { 0 = i } in
+    elim (below_or i (length counts)) [ inl l ↦ c.right x l ∙ times_empty lists x e | inr l ↦ beyond counts i l ]

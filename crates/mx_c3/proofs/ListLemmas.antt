@@ -96,15 +96,6 @@ pub head_has : (xs : List SpaceId) (x : SpaceId) → head xs ≡ Some x → Has 
 head_has [] x e = absurd (let i : None ≡ Some x = e in cc)
 head_has (y ∷ ys) x e = inl (let i : y ≡ x = cc in i)
 
-tail_drop_suc : (n : ℕ) (xs : List SpaceId) → drop (suc n) xs ≡ tail (drop n xs)
-tail_drop_suc zero [] = refl
-tail_drop_suc zero (x ∷ xs) = refl
-tail_drop_suc (suc n) [] = refl
-tail_drop_suc (suc n) (x ∷ xs) = tail_drop_suc n xs
-
-pub tail_drop : (n : ℕ) (xs : List SpaceId) → drop (n + 1) xs ≡ tail (drop n xs)
-tail_drop n xs = rw add-one (tail_drop_suc n xs)
-
 pub drop_more : {X : Type 0} (xs : List X) (i : ℕ) (d : X) → i < length xs → drop i xs ≡ get_or xs i d ∷ drop (i + 1) xs
 drop_more xs i d h = rw (add-one) (drop-cons xs i d h)
 

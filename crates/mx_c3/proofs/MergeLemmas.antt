@@ -179,6 +179,10 @@ pub stop_done : (hs : List SpaceId) → each_once hs ≡ [] → stop hs ≡ Ok [
 stop_done [] e = refl
 stop_done (x ∷ xs) e = absurd (let i : x ∷ without x (each_once xs) ≡ [] = e in cc)
 
+pub once_none : (hs : List SpaceId) → each_once hs ≡ [] → hs ≡ []
+once_none [] e = refl
+once_none (x ∷ xs) e = absurd (let i : x ∷ without x (each_once xs) ≡ [] = e in cc)
+
 pub stop_blocked : (hs : List SpaceId) → (each_once hs ≡ [] → ⊥) → stop hs ≡ Err (each_once hs)
 stop_blocked [] n = absurd (n refl)
 stop_blocked (x ∷ xs) n = refl

@@ -29,3 +29,7 @@ IsCounted lists counts = CountsFirst lists lists counts
 -- the second table has for each space as much more as it stands in xs
 abbrev pub CountsMore : List ℕ → List SpaceId → List ℕ → Type 0
 CountsMore before xs after = (length after ≡ length before) × ((x : SpaceId) → x.0 < length before → slice_index after x.0 ≡ slice_index before x.0 + count xs x)
+
+-- no count is more than zero
+abbrev pub AreZeros : List ℕ → Type 0
+AreZeros counts = (i : ℕ) → slice_index counts i ≡ 0

@@ -5,16 +5,21 @@ ghost use Rattle.mx_c3.specs.Lists.{Has, Among, Distinct, AllDistinct};
 ghost use Rattle.mx_c3.specs.Merge.{tail};
 ghost use Rattle.mx_c3.specs.Counts.{IsCounted, CountsMore};
 
-use crate::lists::Order;
+use crate::remaining::Remaining;
 use crate::space::SpaceId;
+use crate::table::Table;
 use std::alloc::{AllocError, Global};
 
-/// A table of the lists' spaces, by their places: in how many tails each stands.
-pub fn tail_counts(alloc: Global, lists: &[Order]) -> Result<Vec<usize>, AllocError>
+/// The table with counts of the lists' spaces, by their places: in how many tails each stands.
+pub fn tail_counts(
+    alloc: Global,
+    table: &mut Table,
+    lists: &[Remaining<'_>],
+) -> Result<Vec<usize>, AllocError>
     requires { AllDistinct lists.now }
     ensures { IfOk result (λ counts. IsCounted lists.now counts.items) }
 {
-    let mut counts = vec![in alloc; 0usize; bound_of_all(lists)]?;
+    let mut counts = table.take(alloc, bound_of_all(lists))?;
     for list in lists {
         count_tail(list.as_slice(), &mut counts);
     }
@@ -22,7 +27,7 @@ pub fn tail_counts(alloc: Global, lists: &[Order]) -> Result<Vec<usize>, AllocEr
 }
 
 /// Above the place of each space of the lists.
-fn bound_of_all(lists: &[Order]) -> usize
+fn bound_of_all(lists: &[Remaining<'_>]) -> usize
     ensures { (x : Space) → Among lists.now x → x.0 < result }
 {
     let mut bound = 0;

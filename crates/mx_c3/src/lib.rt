@@ -10,5 +10,6 @@ pub mod linearise;
 pub mod lists;
 pub mod merge;
 pub mod refusal;
-mod remaining;
+pub mod remaining;
 pub mod space;
+pub mod table;

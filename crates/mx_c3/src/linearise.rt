@@ -8,7 +8,9 @@ ghost use Rattle.mx_c3.specs.Linearisation.{c3, AreSound, IsOrder};
 use crate::lists::{BaseLists, Order};
 use crate::merge::merge_onto;
 use crate::refusal::C3Refusal;
+use crate::remaining::Remaining;
 use crate::space::SpaceId;
+use crate::table::Table;
 use std::alloc::{AllocError, Global};
 
 /// The order of a space: itself, then the merge of its bases' orders and of the list of its bases.
@@ -23,13 +25,14 @@ pub fn linearise(alloc: Global, lists: &BaseLists, space: SpaceId) -> Result<Ord
     let mut orders = no_orders(alloc, lists.len())?;
     let mut pending = Vec::new(alloc);
     pending.push(space)?;
+    let mut table = Table::new(alloc);
     while let Some(top) = pending.pop() {
         let bases = lists.bases(top);
         if let Some(base) = first_without(bases.as_slice(), &orders) {
             pending.push(top)?;
             pending.push(base)?;
         } else {
-            let order = order_from(alloc, top, bases, &orders)?;
+            let order = order_from(alloc, &mut table, top, bases, &orders)?;
             orders[top.0 as usize] = Some(order);
         }
     }
@@ -73,6 +76,7 @@ fn first_without(bases: &[SpaceId], orders: &[Option<Order>]) -> Option<SpaceId>
 /// The order of a space from those of its bases.
 fn order_from(
     alloc: Global,
+    table: &mut Table,
     space: SpaceId,
     bases: &Order,
     orders: &[Option<Order>],
@@ -83,23 +87,23 @@ fn order_from(
     let mut begun = Vec::new(alloc);
     begun.push(space)?;
     let lists = lists_of(alloc, bases, orders)?;
-    merge_onto(alloc, begun, &lists)
+    merge_onto(alloc, table, begun, lists)
 }
 
 /// The orders of the bases, and the list of the bases.
-fn lists_of(
+fn lists_of<'a>(
     alloc: Global,
-    bases: &Order,
-    orders: &[Option<Order>],
-) -> Result<Vec<Order>, AllocError>
+    bases: &'a Order,
+    orders: &'a [Option<Order>],
+) -> Result<Vec<Remaining<'a>>, AllocError>
     ensures { IfOk result (λ lists. lists.items ≡ orders_of orders.now bases.now ++ bases.now ∷ []) }
 {
-    let mut lists = Vec::new(alloc);
+    let mut lists = Vec::with_capacity(alloc, bases.as_slice().len() + 1)?;
     for base in bases.as_slice() {
         if let Some(order) = order_at(orders, *base) {
-            lists.push(order.copy()?)?;
+            lists.push(Remaining::new(order.as_slice()))?;
         }
     }
-    lists.push(bases.copy()?)?;
+    lists.push(Remaining::new(bases.as_slice()))?;
     Ok(lists)
 }

@@ -11,6 +11,7 @@ use crate::lists::Order;
 use crate::refusal::C3Refusal;
 use crate::remaining::Remaining;
 use crate::space::SpaceId;
+use crate::table::Table;
 use mx_list::items::Items;
 use std::alloc::{AllocError, Global};
 
@@ -22,40 +23,48 @@ pub fn merge(alloc: Global, lists: &[Order]) -> Result<Order, C3Refusal>
     ensures exact { Answers result (merge lists.now) }
     ensures kept { IfOk result (IsKept lists.now) }
 {
-    merge_onto(alloc, Vec::new(alloc), lists)
+    let mut table = Table::new(alloc);
+    let begun = begin(alloc, lists)?;
+    merge_onto(alloc, &mut table, Vec::new(alloc), begun)
 }
 
-/// The same behind an order that has begun.
-pub fn merge_onto(alloc: Global, begun: Vec<SpaceId>, lists: &[Order]) -> Result<Order, C3Refusal>
-    requires { AllDistinct lists.now }
-    ensures { Answers result (put_all begun.items (merge lists.now)) }
+/// The same behind an order that has begun. The table can be used again.
+pub fn merge_onto(
+    alloc: Global,
+    table: &mut Table,
+    begun: Vec<SpaceId>,
+    lists: Vec<Remaining<'_>>,
+) -> Result<Order, C3Refusal>
+    requires { AllDistinct lists.items }
+    ensures { Answers result (put_all begun.items (merge lists.entry.items)) }
 {
     let mut order = begun;
-    let mut rest = begin(alloc, lists)?;
-    let mut counts = tail_counts(alloc, lists)?;
+    let mut counts = tail_counts(alloc, table, &lists)?;
+    let mut rest = lists;
     while let Some(space) = next_head(&rest, &counts) {
         take(&mut rest, &mut counts, space);
         order.push(space)?;
     }
     let left = heads_left(alloc, &rest)?;
     if left.is_empty() {
+        table.put(counts);
         return Ok(Order::from_vec(alloc, order)?);
     }
     Err(C3Refusal::NoOrder(Items::from_vec(left)))
 }
 
-fn begin(alloc: Global, lists: &[Order]) -> Result<Vec<Remaining>, AllocError>
+fn begin(alloc: Global, lists: &[Order]) -> Result<Vec<Remaining<'_>>, AllocError>
     ensures { IfOk result (λ rest. rest.items ≡ lists.now) }
 {
-    let mut rest = Vec::new(alloc);
+    let mut rest = Vec::with_capacity(alloc, lists.len())?;
     for list in lists {
-        rest.push(Remaining::new(list)?)?;
+        rest.push(Remaining::new(list.as_slice()))?;
     }
     Ok(rest)
 }
 
 /// The head to take: the first that stands in no tail.
-fn next_head(rest: &[Remaining], counts: &[usize]) -> Option<SpaceId>
+fn next_head(rest: &[Remaining<'_>], counts: &[usize]) -> Option<SpaceId>
     requires { IsCounted rest.now counts.now }
     ensures { result ≡ next rest.now }
 {
@@ -71,7 +80,7 @@ fn next_head(rest: &[Remaining], counts: &[usize]) -> Option<SpaceId>
 }
 
 /// Removes a head that stands in no tail.
-fn take(rest: &mut [Remaining], counts: &mut [usize], space: SpaceId)
+fn take(rest: &mut [Remaining<'_>], counts: &mut [usize], space: SpaceId)
     requires counted { IsCounted rest.old counts.old }
     requires free { in_tail rest.old space ≡ false }
     ensures removed { rest.new ≡ without_all space rest.old }
@@ -83,7 +92,7 @@ fn take(rest: &mut [Remaining], counts: &mut [usize], space: SpaceId)
 }
 
 /// Goes on to the list's next head where this is its head, which then leaves the tail.
-fn take_head(list: &mut Remaining, counts: &mut [usize], space: SpaceId)
+fn take_head(list: &mut Remaining<'_>, counts: &mut [usize], space: SpaceId)
     requires { CanTake list.old counts.old }
     ensures list { list.new ≡ drop_head space list.old }
     ensures counted { Follows list.old counts.old list.new counts.new }
@@ -102,7 +111,7 @@ fn take_head(list: &mut Remaining, counts: &mut [usize], space: SpaceId)
 }
 
 /// The heads in order of the lists, each once.
-fn heads_left(alloc: Global, rest: &[Remaining]) -> Result<Vec<SpaceId>, AllocError>
+fn heads_left(alloc: Global, rest: &[Remaining<'_>]) -> Result<Vec<SpaceId>, AllocError>
     ensures { IfOk result (λ left. left.items ≡ each_once (heads rest.now)) }
 {
     let mut left = Vec::new(alloc);

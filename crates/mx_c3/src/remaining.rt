@@ -1,22 +1,19 @@
 //! What a merge has not taken yet.
-ghost use Rattle.std.specs.Prelude.{◌≡◌, IfOk};
+ghost use Rattle.std.specs.Prelude.{◌≡◌};
 ghost use Rattle.mx_c3.specs.Merge.{head, tail};
 
-use crate::lists::Order;
 use crate::space::SpaceId;
-use std::alloc::{AllocError, Global};
 use std::marker::Model;
 
-/// A list from its head on: the order that is merged, and the head's place in it.
+/// A list from its head on.
 #[derive(Drop)]
-pub struct Remaining {
-    order: Order,
-    place: usize,
+pub struct Remaining<'a> {
+    spaces: &'a [SpaceId],
 }
 
-impl Model for Remaining {
+impl<'a> Model for Remaining<'a> {
     ghost use Rattle.std.specs.Coded.{coded_list};
-    ghost use Rattle.std.specs.Prelude.{List as Many, drop};
+    ghost use Rattle.std.specs.Prelude.{List as Many};
     ghost use Rattle.mx_c3.specs.declared.space.SpaceId.{SpaceId};
     ghost use Rattle.mx_c3.specs.contracts.space.SpaceId as space;
 
@@ -24,31 +21,34 @@ impl Model for Remaining {
 
     ghost coded = { coded_list space.the_row.coded };
 
-    ghost view = { λ r. drop r.place r.order };
+    ghost view = { λ r. r.spaces.now };
 }
 
-impl Remaining {
-    pub fn new(order: &Order) -> Result<Remaining, AllocError>
-        ensures { IfOk result (λ it. it ≡ order.now) }
+impl<'a> Remaining<'a> {
+    pub fn new(spaces: &'a [SpaceId]) -> Remaining<'a>
+        ensures { result ≡ spaces.now }
     {
-        Ok(Remaining {
-            order: order.copy()?,
-            place: 0,
-        })
+        Remaining { spaces }
+    }
+
+    pub fn as_slice(&self) -> &[SpaceId]
+        ensures { result.now ≡ self.now }
+    {
+        self.spaces
     }
 
     pub fn head(&self) -> Option<SpaceId>
         ensures { result ≡ head self.now }
     {
-        self.order.as_slice().get(self.place).copied()
+        self.spaces.first().copied()
     }
 
     /// Goes on to the next head.
     pub fn step(&mut self)
         ensures { self.new ≡ tail self.old }
     {
-        if self.place < self.order.as_slice().len() {
-            self.place += 1;
+        if let [_, rest @ ..] = self.spaces {
+            self.spaces = rest;
         }
     }
 }

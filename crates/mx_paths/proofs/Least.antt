@@ -2,6 +2,8 @@
 use Rattle.std.proofs.Common.{◌≡◌, ℕ, zero, suc, ◌+◌, ◌<◌, Bool, true, false, List, [], ◌∷◌, ◌++◌, map, length, take, drop, get_or, slice_set, Option, Some, None, ◌⊎◌, inl, inr, refl, sym, ◌∙◌, ap, subst, arith, add-one}
 use Rattle.std.specs.List.{filter_map, cons_option}
 use Rattle.mx_value.specs.Name.{same_name}
+use Rattle.mx_c3.specs.declared.space.SpaceId.{SpaceId}
+use Rattle.mx_c3.specs.Lists.{Has}
 use Rattle.mx_c3.proofs.ListLemmas.{has_left, has_right, has_push_cases}
 use Rattle.mx_model.specs.Records.{Name}
 use Rattle.mx_model.proofs.NameLemmas.{same_is, is_same}
@@ -9,6 +11,7 @@ use Rattle.std.proofs.lemmas.List.{take_more}
 use Rattle.std.proofs.lemmas.List.Elements.{filter_map-append}
 use Rattle.mx_paths.specs.declared.child.Child.{Child}
 use Rattle.mx_paths.specs.Siblings.{Precedes, first, firsts, IsLeast}
+use Rattle.mx_paths.specs.Walking.{families_in}
 use Rattle.mx_paths.proofs.PathOrder.{bytes_cmp}
 use Rattle.mx_paths.proofs.SiblingLemmas.{precedes_trans}
 use Rattle.mx_paths.proofs.SortLemmas.{other_side}
@@ -72,6 +75,24 @@ pub same_get : (xs : List (List Child)) (i : ℕ) (d e : List Child) → i < len
 same_get [] i d e l = absurd (omega arith)
 same_get (x ∷ xs) zero d e l = refl
 same_get (x ∷ xs) (suc i) d e l = same_get xs i d e (omega arith)
+
+-- ---- families without children
+
+none_by : (family : List Child) (families : List (List Child)) → firsts (family ∷ families) ≡ [] → (family ≡ []) × (firsts families ≡ [])
+none_by [] families e = (refl, e)
+none_by (c ∷ cs) families e = absurd (let i : c ∷ firsts families ≡ [] = e in cc)
+
+pub none_has : (all : List (List Child)) (spaces : List SpaceId) (s : SpaceId) → firsts (families_in all spaces) ≡ [] → Has spaces s → get_or all s.0 [] ≡ []
+none_has all [] s e h = absurd h
+none_has all (x ∷ spaces) s e h =
+    let n = none_by (get_or all x.0 []) (families_in all spaces) e in
+    elim h [ inl i ↦ ap (λ (z : SpaceId). get_or all z.0 []) (sym i) ∙ n.0 | inr r ↦ none_has all spaces s n.1 r ]
+
+pub none_more : (all : List (List Child)) (spaces : List SpaceId) (s : SpaceId) → firsts (families_in all spaces) ≡ [] → get_or all s.0 [] ≡ [] → firsts (families_in all (spaces ++ s ∷ [])) ≡ []
+none_more all [] s e f = ap (λ (x : List Child). firsts (x ∷ [])) f
+none_more all (x ∷ spaces) s e f =
+    let n = none_by (get_or all x.0 []) (families_in all spaces) e in
+    ap (λ (y : List Child). firsts (y ∷ families_in all (spaces ++ s ∷ []))) n.0 ∙ none_more all spaces s n.1 f
 
 -- ---- families that are changed from the left
 

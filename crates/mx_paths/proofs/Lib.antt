@@ -1,3 +1,4 @@
+pub mod Bytes
 pub mod Expanded
 pub mod FindLemmas
 pub mod KeptLemmas

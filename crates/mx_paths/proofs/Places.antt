@@ -4,7 +4,8 @@ use Rattle.std.specs.Prelude.{option_map}
 use Rattle.std.proofs.lemmas.Option.{same_Some, slice_get-map}
 use Rattle.std.proofs.lemmas.List.{take-append-le, take_all, length-map, length-append, map-append}
 use Rattle.mx_c3.specs.declared.space.SpaceId.{SpaceId}
-use Rattle.mx_model.specs.Records.{Path, ModelRecord}
+use Rattle.mx_c3.specs.Lists.{Has}
+use Rattle.mx_model.specs.Records.{Name, Path, ModelRecord}
 use Rattle.mx_model.specs.declared.layers.Layered.{Layered}
 use Rattle.mx_model.specs.declared.layers.Layered.TheVariants.{Layers}
 use Rattle.mx_model.specs.Layers.{layers}
@@ -88,6 +89,19 @@ row_open text top families orders rows place id path spaces given ready z walked
     let are = row_spaces text rows id.0 path spaces ready.sound row in
     let R : List (List Child) → Type 0 = λ fs. IsExpanding text rows ([] ∷ take id.0 (paths_in rows)) path fs in
     subst R (sym g) (begins text rows id.0 ready.named ready.sound before path spaces row.at row.has are families ready.sources.are_families)
+
+pub layers_below : (text : ModelRecord) (top : List Child) (families : List (List Child)) (orders : Orders) (rows : List Row) (id : PathId) (spaces : List SpaceId) → IsReady text top families orders → IsBegun text rows → layers_at rows id ≡ Some spaces → (x : SpaceId) → Has spaces x → x.0 < length families
+layers_below text top families orders rows id spaces ready begun s x h =
+    let are = placed_spaces text rows id spaces ready.sound begun s in
+    let l = are.1 x h in
+    let long = ready.sources.are_families.long in
+    omega arith
+
+-- a path below others has a name
+pub not_below : (own names : Path) (last : Name) → length own < 1 → own ≡ names ++ last ∷ [] → ⊥
+not_below [] [] last h e = let f : [] ≡ last ∷ [] = e in cc
+not_below [] (n ∷ names) last h e = let f : [] ≡ n ∷ names ++ last ∷ [] = e in cc
+not_below (x ∷ own) names last h e = omega arith
 
 take_one : (paths : List Path) (i : ℕ) (p : Path) → slice_get paths i ≡ Some p → take i paths ++ p ∷ [] ≡ take (suc i) paths
 take_one [] i p at = absurd (let f : None ≡ Some p = at in cc)

@@ -1,6 +1,7 @@
 -- Families that are gone through together, by the least of their first names.
-use Rattle.std.proofs.Common.{◌≡◌, ℕ, zero, suc, ◌+◌, add-one, Bool, true, false, List, [], ◌∷◌, map, drop, slice_get, Option, Some, None, ◌⊎◌, inl, inr, refl, sym, ◌∙◌, ap, subst}
+use Rattle.std.proofs.Common.{◌≡◌, ◌-◌, ◌<◌, ◌≤◌, Bool, true, false, List, [], ◌∷◌, map, length, take, drop, Option, Some, None, ◌⊎◌, inl, inr, refl, sym, ◌∙◌, ap, subst, arith}
 use Rattle.std.proofs.lemmas.Option.{same_Some}
+use Rattle.std.proofs.lemmas.List.{take_all}
 use Rattle.std.specs.Prelude.{if◌then◌else◌}
 use Rattle.std.specs.List.{filter_map, cons_option}
 use Rattle.std.specs.declared.cmp.Ordering.TheVariants.{Less, Equal}
@@ -248,25 +249,15 @@ none_left (f ∷ families) name e =
     let m = empty_by f (firsts families) name e in
     ap (λ o. cons_option o (all_named families name)) m.0 ∙ none_left families name m.1
 
--- ---- a family by places
+-- ---- a family as a slice
 
-pub first_drop : (n : ℕ) (cs : List Child) → first (drop n cs) ≡ slice_get cs n
-first_drop zero [] = refl
-first_drop (suc n) [] = refl
-first_drop zero (c ∷ cs) = refl
-first_drop (suc n) (c ∷ cs) = first_drop n cs
+pub others_is : (cs : List Child) → 1 ≤ length cs → take (length cs - 1) (drop 1 cs) ≡ others cs
+others_is [] h = absurd (omega arith)
+others_is (c ∷ cs) h = take_all (length (c ∷ cs) - 1) cs (omega arith)
 
-pub others_drop : (n : ℕ) (cs : List Child) → drop (n + 1) cs ≡ others (drop n cs)
-others_drop n cs = ap (λ k. drop k cs) (add-one n) ∙ others_by n cs
-  where
-    others_by : (n : ℕ) (cs : List Child) → drop (suc n) cs ≡ others (drop n cs)
-    others_by zero [] = refl
-    others_by (suc n) [] = refl
-    others_by zero (c ∷ cs) = refl
-    others_by (suc n) (c ∷ cs) = others_by n cs
-
-pub others_none : (cs : List Child) → cs ≡ [] → others cs ≡ cs
-others_none cs e = ap others e ∙ sym e
+pub no_others : (cs : List Child) → length cs < 1 → cs ≡ others cs
+no_others [] h = refl
+no_others (c ∷ cs) h = absurd (omega arith)
 
 pub take_none : (cs : List Child) (name : Name) → first cs ≡ None → (first_named name cs ≡ None) × (without_first name cs ≡ cs)
 take_none [] name e = (refl, refl)

@@ -1,6 +1,9 @@
 //! The defined children of all spaces.
 ghost use Rattle.std.specs.Prelude.{◌≡◌, ◌<◌, ◌+◌, [], length, replicate, None, IfOk, OnOk, IsTrue, ◌↔◌};
 ghost use Rattle.mx_model.specs.Sound.{IsSound};
+ghost use Rattle.std.specs.Ordering.{nat_cmp};
+ghost use Rattle.std.specs.declared.cmp.Ordering.TheVariants.{Less};
+ghost use Rattle.std.specs.Cmp.Lexicographic.{slice_cmp};
 ghost use Rattle.mx_paths.specs.Names.{IsNamed};
 ghost use Rattle.mx_paths.specs.Siblings.{Precedes, IsRising, named};
 ghost use Rattle.mx_paths.specs.Sorting.{IsEntered, IsPlace, AreSorted};
@@ -13,7 +16,6 @@ use mx_model::text::ModelText;
 use mx_value::label::Label;
 use mx_value::node::Path;
 use std::alloc::{AllocError, Global};
-use std::cmp::Ordering;
 use std::marker::Model;
 
 /// Children in the order of their names.
@@ -40,11 +42,17 @@ impl Siblings {
         }
     }
 
-    /// The same children, to be gone through.
-    pub fn into_family(self, alloc: Global) -> Result<Family, AllocError>
-        ensures { IfOk result (λ f. f ≡ self) }
+    pub fn is_empty(&self) -> bool
+        ensures { IsTrue result ↔ (self.now ≡ []) }
     {
-        Family::from_vec(alloc, self.children)
+        self.children.is_empty()
+    }
+
+    /// The same children, to be gone through.
+    pub fn family(&self) -> Family<'_>
+        ensures { result ≡ self.now }
+    {
+        Family::new(&self.children)
     }
 
     /// Enters a child of a new name.
@@ -77,7 +85,7 @@ pub fn families_of(alloc: Global, text: &ModelText) -> Result<(Siblings, Vec<Sib
 fn none_of(alloc: Global, count: usize) -> Result<Vec<Siblings>, AllocError>
     ensures { IfOk result (λ v. v.items ≡ replicate count []) }
 {
-    let mut families = Vec::new(alloc);
+    let mut families = Vec::with_capacity(alloc, count)?;
     for _ in 0..count {
         families.push(Siblings::new(alloc))?;
     }
@@ -118,7 +126,7 @@ fn enter_space(
 fn copy_names(alloc: Global, names: &[Label]) -> Result<Path, AllocError>
     ensures { IfOk result (λ path. path ≡ names.now) }
 {
-    let mut copies = Vec::new(alloc);
+    let mut copies = Vec::with_capacity(alloc, names.len())?;
     for name in names {
         copies.push(name.copy()?)?;
     }
@@ -147,5 +155,17 @@ fn place_of(children: &[Child], name: &Label) -> usize
 pub fn precedes(name: &Label, other: &Label) -> bool
     ensures { IsTrue result ↔ Precedes name.now other.now }
 {
-    name.as_slice().cmp(other.as_slice()) == Ordering::Less
+    come_before(name.as_slice(), other.as_slice())
+}
+
+/// Whether bytes come before others. They are compared one by one, since names are short.
+fn come_before(a: &[u8], b: &[u8]) -> bool
+    ensures { IsTrue result ↔ slice_cmp nat_cmp a.now b.now ≡ Less }
+{
+    for at in 0..a.len().min(b.len()) {
+        if a[at] != b[at] {
+            return a[at] < b[at];
+        }
+    }
+    a.len() < b.len()
 }

@@ -1,63 +1,47 @@
 //! The defined children of one space.
-ghost use Rattle.std.specs.Prelude.{◌≡◌, IfOk, Some, None, MatchOption};
+ghost use Rattle.std.specs.Prelude.{◌≡◌, Some, None, MatchOption};
 ghost use Rattle.mx_paths.specs.Siblings.{first, others, first_named, without_first};
 
 use crate::child::Child;
 use mx_c3::space::SpaceId;
-use mx_list::list::List;
 use mx_value::label::Label;
-use std::alloc::{AllocError, Global};
 use std::marker::Model;
 
 /// Children from one on, in the order of their names.
 #[derive(Drop)]
-pub struct Family {
-    children: List<Child>,
-    place: usize,
+pub struct Family<'a> {
+    children: &'a [Child],
 }
 
-impl Model for Family {
-    ghost use Rattle.std.specs.Prelude.{List as Many, drop};
+impl<'a> Model for Family<'a> {
+    ghost use Rattle.std.specs.Prelude.{List as Many};
     ghost use Rattle.mx_paths.specs.declared.child.Child.{Child};
 
     ghost Value = { Many Child };
 
-    ghost view = { λ f. drop f.place f.children };
+    ghost view = { λ f. f.children.now };
 }
 
-impl Family {
+impl<'a> Family<'a> {
     /// All these children.
-    pub fn from_vec(alloc: Global, children: Vec<Child>) -> Result<Family, AllocError>
-        ensures { IfOk result (λ f. f ≡ children.items) }
+    pub fn new(children: &'a [Child]) -> Family<'a>
+        ensures { result ≡ children.now }
     {
-        Ok(Family {
-            children: List::from_vec(alloc, children)?,
-            place: 0,
-        })
+        Family { children }
     }
 
-    /// The same children, shared.
-    pub fn copy(&self) -> Result<Family, AllocError>
-        ensures { IfOk result (λ f. f ≡ self.now) }
-    {
-        Ok(Family {
-            children: self.children.copy()?,
-            place: self.place,
-        })
-    }
-
-    pub fn first(&self) -> Option<&Child>
+    pub fn first(&self) -> Option<&'a Child>
         ensures { MatchOption result (first self.now ≡ None) (λ child. first self.now ≡ Some child.now) }
     {
-        self.children.get(self.place)
+        self.children.first()
     }
 
     /// Goes on to the next child.
     fn step(&mut self)
         ensures { self.new ≡ others self.old }
     {
-        if self.place < self.children.len() {
-            self.place += 1;
+        if let [_, others @ ..] = self.children {
+            self.children = others;
         }
     }
 
@@ -69,7 +53,7 @@ impl Family {
         let Some(child) = self.first() else {
             return None;
         };
-        if !child.name.same(name) {
+        if *name != child.name {
             return None;
         }
         let space = child.space;

@@ -13,7 +13,9 @@ use mx_c3::linearise::linearise;
 use mx_c3::lists::Order;
 use mx_c3::merge::merge_onto;
 use mx_c3::refusal::C3Refusal;
+use mx_c3::remaining::Remaining;
 use mx_c3::space::SpaceId;
+use mx_c3::table::Table;
 use mx_model::text::ModelText;
 use std::alloc::{AllocError, Global};
 
@@ -22,9 +24,10 @@ pub fn orders_of(alloc: Global, text: &ModelText) -> Result<Vec<Option<Order>>, 
     requires { IsSound text.now }
     ensures { IfOk result (λ v. AreOrders (base_lists text.now) v.items (length text.now.spaces)) }
 {
-    let mut orders = Vec::new(alloc);
+    let mut orders = Vec::with_capacity(alloc, text.space_count() as usize)?;
+    let mut table = Table::new(alloc);
     for place in 0..text.space_count() {
-        let order = order_of(alloc, text, &orders, SpaceId(place))?;
+        let order = order_of(alloc, &mut table, text, &orders, SpaceId(place))?;
         orders.push(order)?;
     }
     Ok(orders)
@@ -33,6 +36,7 @@ pub fn orders_of(alloc: Global, text: &ModelText) -> Result<Vec<Option<Order>>, 
 /// The order of a space, from those of its bases where these stand before it.
 fn order_of(
     alloc: Global,
+    table: &mut Table,
     text: &ModelText,
     orders: &[Option<Order>],
     space: SpaceId,
@@ -42,16 +46,16 @@ fn order_of(
     requires known { AreOrders (base_lists text.now) orders.now space.0 }
     ensures { IfOk result (λ order. order ≡ told (c3 (base_lists text.now) space)) }
 {
-    let bases = text.bases_of(space);
-    if !are_before(bases.as_slice(), space) {
+    let bases = text.bases_of(space).as_slice();
+    if !are_before(bases, space) {
         return linearised(alloc, text, space);
     }
     let Some(known) = all_known(alloc, orders, bases)? else {
         return Ok(None);
     };
-    let mut begun = Vec::new(alloc);
+    let mut begun = Vec::with_capacity(alloc, bases.len() + 1)?;
     begun.push(space)?;
-    return merged(alloc, begun, known, bases);
+    return merged(alloc, table, begun, known, bases);
 }
 
 fn are_before(bases: &[SpaceId], space: SpaceId) -> bool
@@ -78,39 +82,40 @@ fn linearised(alloc: Global, text: &ModelText, space: SpaceId) -> Result<Option<
     }
 }
 
-/// The orders of these spaces, where each has one.
-fn all_known(
+/// The orders of these spaces, where each has one, with room for one list more.
+fn all_known<'a>(
     alloc: Global,
-    orders: &[Option<Order>],
-    spaces: &Order,
-) -> Result<Option<Vec<Order>>, AllocError>
+    orders: &'a [Option<Order>],
+    spaces: &[SpaceId],
+) -> Result<Option<Vec<Remaining<'a>>>, AllocError>
     ensures { let all = all_known orders.now spaces.now in
         IfOk result (λ found. MatchOption found (all ≡ None) (λ v. all ≡ Some v.items)) }
 {
-    let mut copies = Vec::new(alloc);
-    for space in spaces.as_slice() {
-        match order_at(orders, *space)? {
-            Some(order) => copies.push(order)?,
+    let mut known = Vec::with_capacity(alloc, spaces.len() + 1)?;
+    for space in spaces {
+        match known_at(orders, *space) {
+            Some(order) => known.push(Remaining::new(order.as_slice()))?,
             None => return Ok(None),
         }
     }
-    return Ok(Some(copies));
+    return Ok(Some(known));
 }
 
 /// The merge of these orders and of the list of their spaces, behind an order that has begun. None where no head can be taken.
-fn merged(
+fn merged<'a>(
     alloc: Global,
+    table: &mut Table,
     begun: Vec<SpaceId>,
-    orders: Vec<Order>,
-    spaces: &Order,
+    orders: Vec<Remaining<'a>>,
+    spaces: &'a [SpaceId],
 ) -> Result<Option<Order>, AllocError>
     requires { AllDistinct (orders.items ++ spaces.now ∷ []) }
-    ensures { let all = put_all begun.items (merge (orders.items ++ spaces.now ∷ [])) in
+    ensures { let all = put_all begun.items (merge (orders.entry.items ++ spaces.now ∷ [])) in
         IfOk result (λ order. order ≡ told all) }
 {
     let mut lists = orders;
-    lists.push(spaces.copy()?)?;
-    match merge_onto(alloc, begun, &lists) {
+    lists.push(Remaining::new(spaces))?;
+    match merge_onto(alloc, table, begun, lists) {
         Ok(order) => return Ok(Some(order)),
         Err(C3Refusal::NoOrder(_)) => return Ok(None),
         Err(C3Refusal::NoMemory) => return Err(AllocError),
@@ -122,7 +127,7 @@ pub fn layers_of(
     alloc: Global,
     text: &ModelText,
     orders: &[Option<Order>],
-    spaces: &Order,
+    spaces: &[SpaceId],
 ) -> Result<Option<Order>, AllocError>
     requires sound { IsSound text.now }
     requires known { AreOrders (base_lists text.now) orders.now (length text.now.spaces) }
@@ -130,21 +135,33 @@ pub fn layers_of(
     requires some { spaces.now ≡ [] → ⊥ }
     ensures { IfOk result (λ order. layered_by order ≡ of_children text.now spaces.now) }
 {
-    if let [space] = spaces.as_slice() {
+    if let [space] = spaces {
         return order_at(orders, *space);
     }
     let Some(known) = all_known(alloc, orders, spaces)? else {
         return Ok(None);
     };
-    return merged(alloc, Vec::new(alloc), known, spaces);
+    let mut table = Table::new(alloc);
+    return merged(alloc, &mut table, Vec::new(alloc), known, spaces);
 }
 
-/// The order of a space.
+/// The order of a space, shared.
 fn order_at(orders: &[Option<Order>], space: SpaceId) -> Result<Option<Order>, AllocError>
     ensures { IfOk result (λ order. order ≡ known orders.now space) }
 {
+    match known_at(orders, space) {
+        Some(order) => return Ok(Some(order.copy()?)),
+        None => return Ok(None),
+    }
+}
+
+/// The order of a space.
+fn known_at(orders: &[Option<Order>], space: SpaceId) -> Option<&Order>
+    ensures { let found = known orders.now space in
+        MatchOption result (found ≡ None) (λ order. found ≡ Some order.now) }
+{
     match orders.get(space.0 as usize) {
-        Some(Some(order)) => return Ok(Some(order.copy()?)),
-        _ => return Ok(None),
+        Some(Some(order)) => Some(order),
+        _ => None,
     }
 }

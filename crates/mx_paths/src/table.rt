@@ -1,5 +1,5 @@
 //! The table of static paths.
-ghost use Rattle.std.specs.Prelude.{◌≡◌, ◌<◌, ◌≤◌, ◌++◌, ◌∷◌, [], length, Some, OnOk, OnErr};
+ghost use Rattle.std.specs.Prelude.{◌≡◌, ◌<◌, ◌≤◌, ◌++◌, ◌∷◌, [], length, Some, IfOk, OnOk, OnErr};
 ghost use Rattle.mx_c3.specs.Lists.{Has};
 ghost use Rattle.mx_model.specs.Records.{ModelRecord, Path as Names};
 ghost use Rattle.mx_model.specs.Sound.{IsSound};
@@ -35,13 +35,13 @@ impl Model for Paths {
 }
 
 impl Paths {
-    /// No paths.
-    pub(crate) fn new(alloc: Global) -> Paths
-        ensures { result ≡ [] }
+    /// No paths, with room for so many.
+    pub(crate) fn with_room(alloc: Global, count: usize) -> Result<Paths, AllocError>
+        ensures { IfOk result (λ paths. paths ≡ []) }
     {
-        Paths {
-            rows: IndexMap::new(alloc),
-        }
+        Ok(Paths {
+            rows: IndexMap::with_capacity(alloc, count)?,
+        })
     }
 
     /// Adds a path with its layers behind the others.

@@ -1,6 +1,7 @@
 //! The walk over the static paths.
-ghost use Rattle.std.specs.Prelude.{◌≡◌, ◌≤◌, ◌<◌, ◌∷◌, ◌+◌, [], length, List as Many, map, IfOk, OnOk, MatchOption, slice_get, slice_index_or, Some};
+ghost use Rattle.std.specs.Prelude.{◌≡◌, ◌≤◌, ◌<◌, ◌∷◌, ◌+◌, ◌++◌, ◌↔◌, [], length, IsTrue, List as Many, map, IfOk, OnOk, MatchOption, slice_get, slice_index_or, Some};
 ghost use Rattle.std.specs.List.{filter_map};
+ghost use Rattle.mx_value.specs.Name.{same_path};
 ghost use Rattle.mx_c3.specs.Lists.{Has};
 ghost use Rattle.mx_c3.specs.InOrder.{AllBelow};
 ghost use Rattle.mx_model.specs.Records.{Path as Names};
@@ -18,6 +19,7 @@ use crate::orders::{layers_of, orders_of};
 use crate::refusal::PathsRefusal;
 use crate::table::Paths;
 use mx_c3::lists::Order;
+use mx_c3::space::SpaceId;
 use mx_edit::refusal::Limit;
 use mx_list::list::List;
 use mx_model::layers::path_below;
@@ -38,9 +40,9 @@ const MOST_PATHS: usize = 20_000;
 pub struct Walk<'a> {
     text: &'a ModelText,
     /// The spaces at the top.
-    top: Family,
+    top: Siblings,
     /// The children of each space, by its place.
-    families: Vec<Family>,
+    families: Vec<Siblings>,
     /// The order of each space, by its place.
     orders: Vec<Option<Order>>,
 }
@@ -53,7 +55,7 @@ impl Paths {
         ensures { Builds text.now result }
     {
         let walk = begin(alloc, text)?;
-        let mut paths = Paths::new(alloc);
+        let mut paths = Paths::with_room(alloc, text.space_count() as usize)?;
         let mut place = 0;
         while place <= paths.count() {
             match walk.expand(alloc, &mut paths, place) {
@@ -72,9 +74,7 @@ fn begin(alloc: Global, text: &ModelText) -> Result<Walk<'_>, AllocError>
     requires named { IsNamed text.now }
     ensures { IfOk result (λ w. IsReady w.text.now w.top w.families.items w.orders.items × (w.text.now ≡ text.now)) }
 {
-    let (tops, siblings) = families_of(alloc, text)?;
-    let top = tops.into_family(alloc)?;
-    let families = into_families(alloc, siblings)?;
+    let (top, families) = families_of(alloc, text)?;
     let orders = orders_of(alloc, text)?;
     Ok(Walk {
         text,
@@ -82,17 +82,6 @@ fn begin(alloc: Global, text: &ModelText) -> Result<Walk<'_>, AllocError>
         families,
         orders,
     })
-}
-
-/// These siblings, to be gone through.
-fn into_families(alloc: Global, siblings: Vec<Siblings>) -> Result<Vec<Family>, AllocError>
-    ensures { IfOk result (λ v. v.items ≡ siblings.items) }
-{
-    let mut families = Vec::new(alloc);
-    for children in siblings {
-        families.push(children.into_family(alloc)?)?;
-    }
-    Ok(families)
 }
 
 impl Walk<'_> {
@@ -105,23 +94,41 @@ impl Walk<'_> {
     {
         if place == 0 {
             let mut families = Vec::new(alloc);
-            families.push(self.top.copy()?)?;
+            families.push(self.top.family())?;
             return self.add_children(alloc, paths, &List::empty(alloc)?, families);
         }
         let id = PathId((place - 1) as u32);
-        let families = self.families_in(alloc, paths.layers(id))?;
-        let path = paths.path_of(id).copy()?;
-        return self.add_children(alloc, paths, &path, families);
+        let path = paths.path_of(id);
+        let layers = paths.layers(id).as_slice();
+        if self.are_childless(layers) {
+            return Ok(());
+        }
+        let families = self.families_in(alloc, layers)?;
+        let parent = path.copy()?;
+        return self.add_children(alloc, paths, &parent, families);
+    }
+
+    /// Whether none of these layers has a child.
+    fn are_childless(&self, spaces: &[SpaceId]) -> bool
+        requires { AllBelow (length self.now.families.items) spaces.now }
+        ensures { IsTrue result ↔ firsts (families_in self.now.families.items spaces.now) ≡ [] }
+    {
+        for s in spaces {
+            if !self.families[s.0 as usize].is_empty() {
+                return false;
+            }
+        }
+        true
     }
 
     /// The children of layers, of each by itself.
-    fn families_in(&self, alloc: Global, spaces: &Order) -> Result<Vec<Family>, AllocError>
+    fn families_in(&self, alloc: Global, spaces: &[SpaceId]) -> Result<Vec<Family<'_>>, AllocError>
         requires { AllBelow (length self.now.families.items) spaces.now }
         ensures { IfOk result (λ v. v.items ≡ families_in self.now.families.items spaces.now) }
     {
-        let mut families = Vec::new(alloc);
-        for s in spaces.as_slice() {
-            families.push(self.families[s.0 as usize].copy()?)?;
+        let mut families = Vec::with_capacity(alloc, spaces.len())?;
+        for s in spaces {
+            families.push(self.families[s.0 as usize].family())?;
         }
         Ok(families)
     }
@@ -132,18 +139,18 @@ impl Walk<'_> {
         alloc: Global,
         paths: &mut Paths,
         path: &Path,
-        families: Vec<Family>,
+        families: Vec<Family<'_>>,
     ) -> Result<(), PathsRefusal>
         requires ready { IsReady self.now.text.now self.now.top self.now.families.items self.now.orders.items }
         requires open { IsOpen self.now.text.now paths.old path.now families.items }
-        ensures { (done : Many Names) → IsExpanding self.now.text.now paths.old done path.now families.items →
+        ensures { (done : Many Names) → IsExpanding self.now.text.now paths.old done path.now families.entry.items →
             Closes self.now.text.now done path.now paths.old paths.new result }
     {
         let mut families = families;
-        while let Some(least) = least_name(&families) {
-            let name = least.copy()?;
-            let spaces = take_first(alloc, &mut families, &name)?;
-            let child = path_below(alloc, path.as_slice(), &name)?;
+        let mut spaces = Vec::new(alloc);
+        while let Some(name) = least_name(&families) {
+            take_first(&mut families, name, &mut spaces)?;
+            let child = self.child_path(alloc, path, name, &spaces)?;
             match self.add(alloc, paths, child, &spaces) {
                 Ok(()) => {}
                 Err(refusal) => return Err(refusal),
@@ -152,13 +159,33 @@ impl Walk<'_> {
         return Ok(());
     }
 
+    /// The path of the child of this name. It is shared with its first space, where that is defined at it.
+    fn child_path(
+        &self,
+        alloc: Global,
+        path: &Path,
+        name: &Label,
+        spaces: &[SpaceId],
+    ) -> Result<Path, AllocError>
+        requires { AllBelow (length self.now.text.now.spaces) spaces.now }
+        ensures { IfOk result (λ child. child ≡ path.now ++ name.now ∷ []) }
+    {
+        if let [space, ..] = spaces {
+            let own = self.text.path_of(*space);
+            if is_below(own.as_slice(), path.as_slice(), name) {
+                return own.copy();
+            }
+        }
+        return path_below(alloc, path.as_slice(), name);
+    }
+
     /// Adds a path with these defined children, as far as its numbers allow it.
     fn add(
         &self,
         alloc: Global,
         paths: &mut Paths,
         path: Path,
-        spaces: &Order,
+        spaces: &[SpaceId],
     ) -> Result<(), PathsRefusal>
         requires ready { IsReady self.now.text.now self.now.top self.now.families.items self.now.orders.items }
         requires new { Has (paths_in paths.old) path → ⊥ }
@@ -187,10 +214,10 @@ impl Walk<'_> {
 }
 
 /// The least of the first names.
-fn least_name(families: &[Family]) -> Option<&Label>
+fn least_name<'a>(families: &[Family<'a>]) -> Option<&'a Label>
     ensures { MatchOption result (firsts families.now ≡ []) (λ name. IsLeast (firsts families.now) name.now) }
 {
-    let mut least: Option<&Label> = None;
+    let mut least: Option<&'a Label> = None;
     for family in families {
         let Some(child) = family.first() else {
             continue;
@@ -207,17 +234,46 @@ fn least_name(families: &[Family]) -> Option<&Label>
     least
 }
 
+/// Whether a path is that of these names and one more.
+fn is_below(own: &[Label], names: &[Label], last: &Label) -> bool
+    ensures { IsTrue result ↔ own.now ≡ names.now ++ last.now ∷ [] }
+{
+    let [first @ .., end] = own else {
+        return false;
+    };
+    same_names(first, names) && *end == *last
+}
+
+/// Whether names are the same. They are compared one by one, since paths are short.
+fn same_names(a: &[Label], b: &[Label]) -> bool
+    ensures { result ≡ same_path a.now b.now }
+{
+    if a.len() != b.len() {
+        return false;
+    }
+    for at in 0..a.len() {
+        if a[at] != b[at] {
+            return false;
+        }
+    }
+    true
+}
+
 /// Takes the children of a name that stand first.
-fn take_first(alloc: Global, families: &mut [Family], name: &Label) -> Result<Order, AllocError>
-    ensures spaces { IfOk result (λ o. o ≡ filter_map (first_named name.now) families.old) }
+fn take_first(
+    families: &mut [Family<'_>],
+    name: &Label,
+    spaces: &mut Vec<SpaceId>,
+) -> Result<(), AllocError>
+    ensures spaces { OnOk result (spaces.new.items ≡ filter_map (first_named name.now) families.old) }
     ensures rest { OnOk result (families.new ≡ map (without_first name.now) families.old) }
 {
-    let mut spaces = Vec::new(alloc);
+    spaces.clear();
     for place in 0..families.len() {
         match families[place].take(name) {
             Some(space) => spaces.push(space)?,
             None => {}
         }
     }
-    Order::from_vec(alloc, spaces)
+    Ok(())
 }

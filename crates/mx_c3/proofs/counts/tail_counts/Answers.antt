@@ -6,6 +6,12 @@ use Rattle.mx_c3.proofs.ListLemmas.{all_distinct_at, among_at}
 use Rattle.mx_c3.proofs.CountLemmas.{written, counts_few, counts_more}
 use Rattle.mx_c3.proofs.counts.tail_counts.Goals as goal
 
+pub loop-list-init : goal.loop-list-init
+loop-list-init c = record {
+  room = λ x m. let l : x.0 < c.bound_of_all.result = c.bound_of_all.ensures x m in omega (arith, c.in_ok-counts.ensures.long);
+  right = λ x l. c.in_ok-counts.ensures.zeros x.0;
+}
+
 pub count_tail-requires-clause-distinct : goal.count_tail-requires-clause-distinct
 count_tail-requires-clause-distinct c =
     subst (λ xs. Distinct xs) (sym (c.as_slice.ensures ∙ c.list-item.is)) (all_distinct_at c.args.lists.now c.loop-list.list-index c.list-item.result c.requires c.loop-list-test.true)

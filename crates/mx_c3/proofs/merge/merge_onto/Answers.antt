@@ -1,21 +1,27 @@
-use Rattle.std.proofs.Common.{◌≡◌, ◌<◌, ◌++◌, [], true, false, Some, None, Ok, Err, vec_len, length, take, drop, sym, ap, subst, ◌∙◌, arith}
+use Rattle.std.proofs.Common.{◌≡◌, ◌<◌, ◌++◌, [], true, false, Some, None, Ok, Err, vec_len, length, take, drop, refl, sym, ap, subst, ◌∙◌, arith}
 use Rattle.std.proofs.lemmas.Bool.{eqb-true, eq-eqb}
 use Rattle.std.proofs.lemmas.List.{append-nil}
 use Rattle.mx_c3.specs.Merge.{next, heads, each_once, in_tail, size, merge, put, put_all, without_all}
 use Rattle.mx_c3.specs.Counts.{IsCounted}
 use Rattle.mx_c3.proofs.ListLemmas.{none_long}
-use Rattle.mx_c3.proofs.CountLemmas.{written}
-use Rattle.mx_c3.proofs.MergeLemmas.{next_free, size_less, merge_some, merge_none, stop_done, stop_blocked, put_all_push, put_all_ok, put_all_err}
+use Rattle.mx_c3.proofs.CountLemmas.{written, zeros_left}
+use Rattle.mx_c3.proofs.MergeLemmas.{next_free, size_less, merge_some, merge_none, stop_done, stop_blocked, put_all_push, put_all_ok, put_all_err, once_none}
 use Rattle.mx_c3.proofs.merge.merge_onto.Goals as goal
+
+pub loop-space-init : goal.loop-space-init
+loop-space-init c = record {
+  counted = subst (λ zs. IsCounted zs c.in_ok-counts.counts.items) c.deref.ensures.value c.in_ok-counts.ensures;
+  same = refl;
+}
 
 pub take-requires-clause-free : goal.take-requires-clause-free
 take-requires-clause-free c =
-    let n : next c.loop-space.rest.items ≡ Some c.in-Some.space = ap next (sym c.deref.ensures.value) ∙ sym c.in-Some.ensures in
+    let n : next c.loop-space.rest.items ≡ Some c.in-Some.space = ap next (sym c.deref-in-loop-space.ensures.value) ∙ sym c.in-Some.ensures in
     ap (λ zs. in_tail zs c.in-Some.space) c.deref_mut.ensures.value ∙ next_free c.loop-space.rest.items c.in-Some.space n
 
 pub loop-space-smaller : goal.loop-space-smaller
 loop-space-smaller c =
-    let n : next c.loop-space.rest.items ≡ Some c.in-Some.space = ap next (sym c.deref.ensures.value) ∙ sym c.in-Some.ensures in
+    let n : next c.loop-space.rest.items ≡ Some c.in-Some.space = ap next (sym c.deref-in-loop-space.ensures.value) ∙ sym c.in-Some.ensures in
     let l : length c.take.new.rest ≡ c.loop-space.rest.len = omega (arith, c.deref_mut.ensures.len) in
     let e = written c.loop-space.rest.len c.take.new.rest (drop (length c.take.new.rest) c.loop-space.rest.items) l in
     let r : c.take.new.rest ≡ without_all c.in-Some.space c.loop-space.rest.items = c.take.ensures.removed ∙ ap (without_all c.in-Some.space) c.deref_mut.ensures.value in
@@ -23,7 +29,7 @@ loop-space-smaller c =
 
 pub loop-space-preserved : goal.loop-space-preserved
 loop-space-preserved c =
-    let n : next c.loop-space.rest.items ≡ Some c.in-Some.space = ap next (sym c.deref.ensures.value) ∙ sym c.in-Some.ensures in
+    let n : next c.loop-space.rest.items ≡ Some c.in-Some.space = ap next (sym c.deref-in-loop-space.ensures.value) ∙ sym c.in-Some.ensures in
     let l : length c.take.new.rest ≡ c.loop-space.rest.len = omega (arith, c.deref_mut.ensures.len) in
     let e = written c.loop-space.rest.len c.take.new.rest (drop (length c.take.new.rest) c.loop-space.rest.items) l in
     let k : length c.take.new.counts ≡ c.loop-space.counts.len = omega (arith, c.deref_mut-in-Some.ensures.len) in
@@ -39,9 +45,16 @@ loop-space-preserved c =
           ∙ c.loop-space.invariant.same;
     }
 
+pub put-requires : goal.put-requires
+put-requires c =
+    let l : c.in_ok-left.left.items ≡ each_once (heads c.loop-space.rest.items) = c.in_ok-left.ensures ∙ ap (λ zs. each_once (heads zs)) c.deref-2.ensures.value in
+    let z : vec_len c.in_ok-left.left ≡ 0 = eqb-true (vec_len c.in_ok-left.left) 0 (sym c.is_empty.ensures ∙ c.if-is_empty.true) in
+    let e : c.in_ok-left.left.items ≡ [] = none_long c.in_ok-left.left.items (omega arith) in
+    zeros_left c.loop-space.rest.items c.loop-space.counts.items c.loop-space.invariant.counted (once_none (heads c.loop-space.rest.items) (sym l ∙ e))
+
 pub returns-then-is_empty : goal.returns-then-is_empty
 returns-then-is_empty c =
-    let n : next c.loop-space.rest.items ≡ None = ap next (sym c.deref.ensures.value) ∙ sym c.next_head.ensures ∙ c.in_default.is in
+    let n : next c.loop-space.rest.items ≡ None = ap next (sym c.deref-in-loop-space.ensures.value) ∙ sym c.next_head.ensures ∙ c.in_default.is in
     let l : c.in_ok-left.left.items ≡ each_once (heads c.loop-space.rest.items) = c.in_ok-left.ensures ∙ ap (λ zs. each_once (heads zs)) c.deref-2.ensures.value in
     let z : vec_len c.in_ok-left.left ≡ 0 = eqb-true (vec_len c.in_ok-left.left) 0 (sym c.is_empty.ensures ∙ c.if-is_empty.true) in
     let e : c.in_ok-left.left.items ≡ [] = none_long c.in_ok-left.left.items (omega arith) in
@@ -52,7 +65,7 @@ returns-then-is_empty c =
 
 pub returns : goal.returns
 returns c =
-    let n : next c.loop-space.rest.items ≡ None = ap next (sym c.deref.ensures.value) ∙ sym c.next_head.ensures ∙ c.in_default.is in
+    let n : next c.loop-space.rest.items ≡ None = ap next (sym c.deref-in-loop-space.ensures.value) ∙ sym c.next_head.ensures ∙ c.in_default.is in
     let l : c.in_ok-left.left.items ≡ each_once (heads c.loop-space.rest.items) = c.in_ok-left.ensures ∙ ap (λ zs. each_once (heads zs)) c.deref-2.ensures.value in
     sym c.loop-space.invariant.same
     ∙ ap (put_all c.loop-space.order.items) (merge_none c.loop-space.rest.items n ∙ stop_blocked (heads c.loop-space.rest.items) (λ e.

@@ -1,4 +1,4 @@
-use Rattle.std.proofs.Common.{◌≡◌, ◌∙◌, ◌++◌, List, [], ◌∷◌, ap, sym, None, Some, get_or}
+use Rattle.std.proofs.Common.{◌≡◌, ◌∙◌, ◌++◌, List, [], ◌∷◌, ap, None, Some, get_or}
 use Rattle.std.proofs.lemmas.Result.{IfOk-weaker}
 use Rattle.mx_c3.specs.declared.space.SpaceId.{SpaceId}
 use Rattle.mx_c3.specs.Known.{known}
@@ -15,9 +15,8 @@ first = record { 0 = 0 }
 pub returns-in-len1 : goal.returns-in-len1
 returns-in-len1 c =
     let spaces = c.args.spaces.now in
-    let items = c.as_slice.result.now in
-    let s = get_or items 0 first in
-    let is : spaces ≡ s ∷ [] = sym c.as_slice.ensures ∙ single items first c.in-len1.len_at_least c.in-len1.len_below in
+    let s = get_or spaces 0 first in
+    let is : spaces ≡ s ∷ [] = single spaces first c.in-len1.len_at_least c.in-len1.len_below in
     IfOk-weaker c.order_at.result (λ order. order ≡ known c.args.orders.now s) (λ order. layered_by order ≡ of_children c.args.text.now spaces) (λ order e.
     one_order c.args.text.now c.requires.sound c.args.orders.now c.requires.known spaces c.requires.spaces c.requires.some s order is e) c.order_at.ensures
 
