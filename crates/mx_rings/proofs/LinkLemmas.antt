@@ -12,7 +12,9 @@ use Rattle.mx_model.specs.Records.{Name, Path, SpaceRecord, ModelRecord}
 use Rattle.mx_model.specs.Paths.{prepended, split_last}
 use Rattle.mx_model.specs.Layers.{paths_of, id_of, base_lists}
 use Rattle.mx_model.specs.Readers.{path_in}
-use Rattle.mx_model.proofs.Places.{id_within}
+use Rattle.mx_model.specs.Indexed.{Kinds, ArePlaced}
+use Rattle.mx_model.proofs.Filtered.{place_has}
+use Rattle.mx_model.proofs.Places.{id_at, id_within}
 use Rattle.mx_rings.specs.Links.{IsChild, LinksUpTo, parent_of, path_at, with_child}
 use Rattle.mx_rings.proofs.SearchLemmas.{Same, Is, Not, same_number, below}
 
@@ -34,6 +36,21 @@ parent_built text path (first ∷ rest) parent found e some p f =
     let n : suc (length rest) - 1 ≡ length rest = omega arith in
     let names : parent ≡ take (length rest) (first ∷ rest) = p ∙ ap (λ (k : ℕ). take k (first ∷ rest)) n in
     f ∙ ap (id_of text) names ∙ sym (ap (option_and_then (λ (split : Path × Name). id_of text split.0)) s.is) ∙ ap (parent_of text) e
+
+no_space : (text : ModelRecord) (tables : List Kinds) → ArePlaced tables text → (found : Option SpaceId) → id_of text [] ≡ found → found ≡ None
+no_space text tables placed None e = refl
+no_space text tables placed (Some s) e =
+    absurd (placed.parents [] (place_has (paths_of text) s.0 [] (id_at text [] s e)))
+
+-- no space stands where static paths begin
+pub none_above : (text : ModelRecord) (tables : List Kinds) → ArePlaced tables text → id_of text [] ≡ None
+none_above text tables placed = no_space text tables placed (id_of text []) refl
+
+-- and so none above a path of one name
+pub parent_none : (text : ModelRecord) (path names : Path) → names ≡ path → length names ≡ 1 → id_of text [] ≡ None → None ≡ parent_of text path
+parent_none text path [] e one none = absurd (omega arith)
+parent_none text path (first ∷ []) e one none = sym none ∙ ap (parent_of text) e
+parent_none text path (first ∷ second ∷ rest) e one none = absurd (omega arith)
 
 -- ---- bases
 

@@ -1,6 +1,6 @@
 //! Where the spaces of a text lead.
-ghost use Rattle.std.specs.Prelude.{◌≡◌, ◌<◌, length, IfOk, IfSome};
-ghost use Rattle.mx_model.specs.Layers.{base_lists};
+ghost use Rattle.std.specs.Prelude.{◌≡◌, ◌<◌, [], None, length, IfOk, IfSome};
+ghost use Rattle.mx_model.specs.Layers.{base_lists, id_of};
 ghost use Rattle.mx_rings.specs.Links.{AreLinks, parent_of, with_child};
 
 use mx_c3::lists::{BaseLists, Order};
@@ -74,11 +74,24 @@ fn lists_from(alloc: Global, links: Vec<Items<SpaceId>>) -> Result<BaseLists, Al
 fn parent_of(alloc: Global, text: &ModelText, path: &Path) -> Result<Option<SpaceId>, AllocError>
     ensures { IfOk result (λ s. s ≡ parent_of text.now path.now) }
 {
-    let [names @ .., _] = path.as_slice() else {
-        return Ok(None);
-    };
-    let parent = path_from(alloc, names)?;
-    return Ok(text.id_of(&parent));
+    match path.as_slice() {
+        [] => return Ok(None),
+        [_] => {
+            none_above(text);
+            return Ok(None);
+        }
+        [names @ .., _] => {
+            let parent = path_from(alloc, names)?;
+            return Ok(text.id_of(&parent));
+        }
+    }
+}
+
+/// No space stands where static paths begin. Does nothing when it runs.
+fn none_above(text: &ModelText)
+    ensures { id_of text.now [] ≡ None }
+{
+    let _ = text.kinds();
 }
 
 /// A path of these names.
