@@ -1,3 +1,4 @@
 pub mod Restoring
 pub mod Order
 pub mod Held
+pub mod Last

@@ -38,6 +38,11 @@ nothing_held = record { held = []; last = 0; begun = [] }
 abbrev pub AreHeld : List Kept → List NodeId → Type 0
 AreHeld held ids = (id : NodeId) → Has ids id → IsHeld held id.at
 
+-- the node is the last of these
+pub record IsLast (ns : List Node) (n : Node) : Type 0 where
+  pub before : List Node
+  pub is : ns ≡ before ++ n ∷ []
+
 -- one more is held, with the next stamp
 abbrev pub HoldsLast : Memory → Memory → Kept → Type 0
 HoldsLast old new k = new ≡ record { held = old.held ++ k ∷ []; last = k.stamp; begun = old.begun }

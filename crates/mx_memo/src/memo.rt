@@ -8,7 +8,7 @@ ghost use Rattle.mx_vertices.specs.Reading.{LookedUp, Asked, AreTakers};
 ghost use Rattle.mx_vertices.specs.Stamps.{NoneAfter, IsNextAfter, IsHeldSince, renumbered};
 ghost use Rattle.mx_vertices.specs.Found.{HasCome, IsHeldAs, IsHeldWith, IsNew};
 ghost use Rattle.mx_memo.specs.Namespaces.{namespace_held};
-ghost use Rattle.mx_memo.specs.Memos.{AreHeld, HoldsLast, nothing_held, most_held};
+ghost use Rattle.mx_memo.specs.Memos.{AreHeld, HoldsLast, IsLast, nothing_held, most_held};
 ghost use Rattle.mx_memo.specs.Order.{IsInOrder};
 
 use crate::refusal::HoldRefusal;
@@ -18,7 +18,7 @@ use mx_list::shared::Shared;
 use mx_value::namespace::Namespace;
 use mx_value::node::Node;
 use mx_vertices::drops::{drop_after, drop_changed, drop_one, drop_where};
-use mx_vertices::finding::{Table, begin_in, end_in, holds_node, node_laws};
+use mx_vertices::finding::{Table, begin_in, end_as, end_in, holds_node, node_laws};
 use mx_vertices::holding::{hold_with, vertices_of};
 use mx_vertices::inputs::{find_held, node_of_input};
 use mx_vertices::settle::settle;
@@ -251,15 +251,21 @@ impl Memo {
         settle(&mut self.slots, &mut self.order);
     }
 
-    /// Holds a node behind all others, with the keys that its run looked up and the held nodes that it asked, each once
-    /// and in order of first occurrence. The key of its own input, which a static node looks up first, is not given: it is
-    /// seen among its keys all the same. Its run has ended before. `Full` comes exactly where as many are held as may be.
-    /// After an error the memo is as before.
-    pub fn hold(&mut self, body: Body, keys: &[Key], asks: &[NodeId]) -> Result<NodeId, HoldRefusal>
+    /// Holds the node whose run began last behind all others, with the keys that its run looked up and the held nodes that it
+    /// asked, each once and in order of first occurrence. The key of its own input, which a static node looks up first, is not
+    /// given: it is seen among its keys all the same. Its run has ended with that. `Full` comes exactly where as many are held
+    /// as may be. After an error the memo is as before.
+    pub fn hold_last(
+        &mut self,
+        body: Body,
+        keys: &[Key],
+        asks: &[NodeId],
+    ) -> Result<NodeId, HoldRefusal>
         requires new { IsNew self.old.held body.node }
-        requires ended { Has self.old.begun body.node → ⊥ }
+        requires last { IsLast self.old.begun body.node }
         requires asks { AreHeld self.old.held asks.now }
-        ensures held { IfOk result (λ id. HoldsLast self.old self.new (entry_with (self.old.last + 1) id.at body keys.now asks.now)) }
+        ensures held { IfOk result (λ id. HoldsLast (record self.old { begun = self.new.begun }) self.new (entry_with (self.old.last + 1) id.at body keys.now asks.now)) }
+        ensures ended { OnOk result (self.old.begun ≡ self.new.begun ++ body.node ∷ []) }
         ensures full { (result ≡ Err Full) ↔ (most_held ≤ length self.old.held) }
         ensures lost { OnErr result (self.new ≡ self.old) }
     {
@@ -267,12 +273,6 @@ impl Memo {
             return Err(HoldRefusal::Full);
         }
         node_laws();
-        let Ok(node) = body.node.copy() else {
-            return Err(HoldRefusal::NoMemory);
-        };
-        let Ok(()) = self.table.nodes.reserve(1) else {
-            return Err(HoldRefusal::NoMemory);
-        };
         let found = vertices_of(
             self.alloc,
             &mut self.graph,
@@ -298,7 +298,9 @@ impl Memo {
             return Err(HoldRefusal::NoMemory);
         };
         self.count += 1;
-        let _ = self.table.nodes.insert(node, Standing::Ended(id));
+        let Some(_ended) = end_as(&mut self.table.nodes, &mut self.begun, id) else {
+            unreachable!()
+        };
         Ok(id)
     }
 

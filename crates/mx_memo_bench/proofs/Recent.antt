@@ -1,7 +1,6 @@
 -- Ids that were held last.
 use Rattle.std.proofs.Common.{◌≡◌, List, [], ◌∷◌, ◌++◌, refl, sym, subst, ◌⊎◌, inl, inr}
 use Rattle.mx_graph.specs.declared.ids.NodeId.{NodeId}
-use Rattle.mx_vertices.specs.declared.slot.Body.{Body}
 use Rattle.mx_vertices.specs.Places.{Has}
 use Rattle.mx_vertices.specs.Kept.{Kept, IsHeld}
 use Rattle.mx_memo.specs.Memos.{Memory, AreHeld, HoldsLast}

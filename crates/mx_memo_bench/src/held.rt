@@ -42,7 +42,10 @@ fn hold_one(
         return None;
     }
     let body = parts.body(alloc, node)?;
-    let Ok(id) = memo.hold(body, &parts.keys, recent) else {
+    let Ok(()) = memo.begin(&body.node) else {
+        return None;
+    };
+    let Ok(id) = memo.hold_last(body, &parts.keys, recent) else {
         return None;
     };
     remember(recent, id)

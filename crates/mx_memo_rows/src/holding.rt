@@ -55,7 +55,8 @@ fn hold_body(
     let None = memo.standing(&body.node) else {
         return push_bytes(out, b" standing");
     };
-    match memo.hold(body, keys, &asks) {
+    memo.begin(&body.node)?;
+    match memo.hold_last(body, keys, &asks) {
         Ok(_) => push_bytes(out, b" held"),
         Err(HoldRefusal::Full) => push_bytes(out, b" full"),
         Err(HoldRefusal::NoMemory) => Err(Trouble::NoMemory),

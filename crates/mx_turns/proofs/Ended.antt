@@ -25,7 +25,7 @@ use Rattle.mx_turns.specs.declared.progress.Progress.{Progress}
 use Rattle.mx_turns.specs.declared.progress.Progress.TheVariants as progress
 use Rattle.mx_turns.proofs.Flown.{at_end, in_front}
 use Rattle.mx_turns.proofs.Sound.{distinct_front, distinct_last, distinct_pushed}
-use Rattle.mx_turns.proofs.HeldLast.{same_front}
+use Rattle.mx_memo.proofs.Last.{same_front}
 use Rattle.mx_turns.proofs.Waits.{has_turned}
 use Rattle.mx_turns.proofs.Gives.{given_held, handed_broken}
 

@@ -29,9 +29,6 @@ pub fn hold(
     ensures held { IfOk result (IsHeldLast memo.old memo.new current reply) }
     ensures lost { IfErr result (IsHeldThen memo.old memo.new) }
 {
-    let Some(_ended) = memo.end_last() else {
-        unreachable!()
-    };
     let Current { node, records } = current;
     let Records { seen, asks } = records;
     let (keys, reads) = seen.into_parts();
@@ -42,7 +39,7 @@ pub fn hold(
         return Err(HoldRefusal::NoMemory);
     };
     let others = other_keys(node.get(), keys.as_slice());
-    match memo.hold(body, others, asks.as_slice()) {
+    match memo.hold_last(body, others, asks.as_slice()) {
         Ok(id) => {
             memo.in_order();
             Ok(Given { id, node, reply })

@@ -1,5 +1,5 @@
 -- Nodes whose runs have begun.
-use Rattle.std.proofs.Common.{◌≡◌, ◌∙◌, ℕ, true, false, cond, List, [], ◌∷◌, ◌++◌, Option, Some, None, Result, Ok, Err, refl, sym, ap, subst, ◌⊎◌, inl, inr}
+use Rattle.std.proofs.Common.{◌≡◌, ◌∙◌, ℕ, Bool, true, false, cond, List, [], ◌∷◌, ◌++◌, Option, Some, None, Result, Ok, Err, refl, sym, ap, subst, ◌⊎◌, inl, inr}
 use Rattle.std.specs.Prelude.{OnOk, OnErr, MatchOption, option_to_list}
 use Rattle.mx_graph.specs.declared.ids.NodeId.{NodeId}
 use Rattle.mx_graph.specs.Relation.{Entry}
@@ -28,7 +28,7 @@ same_or laws x n = elim (node_eq x n) as (λ b. node_eq x n ≡ b → (x ≡ n) 
   | false ↦ λ t. inr (λ e. let no : true ≡ false = sym ((laws x n).1 e) ∙ t in cc)
 ] refl
 
-has_end : (xs : List Asked) (x : Asked) → Has (xs ++ x ∷ []) x
+pub has_end : (xs : List Asked) (x : Asked) → Has (xs ++ x ∷ []) x
 has_end [] x = inl refl
 has_end (y ∷ xs) x = inr (has_end xs x)
 
@@ -85,6 +85,19 @@ begun_held laws look look2 begun x id puts d a n =
           let there : look2 n ≡ look n = puts n ∙ ap (λ b. cond b (Some (Ended id)) (look n)) (test_of laws x n o) in
           (λ t. (a n).0 (sym (ap is_begun there) ∙ t), λ h. ap is_begun there ∙ (a n).1 h)
     ]
+
+over : (b : Bool) (o p : Option Standing) → cond b o p ≡ cond b o (cond b None p)
+over true o p = refl
+over false o p = refl
+
+-- the node whose run began last is held
+pub held_from_last : (laws : NodeLaws) (look look2 : Asked → Option Standing) (begun begun2 : List Asked) (x : Asked) (id : NodeId) → begun ≡ begun2 ++ x ∷ [] → ((n : Asked) → look2 n ≡ cond (node_eq x n) (Some (Ended id)) (look n)) → AreDistinct begun → AreBegun look begun → AreBegun look2 begun2 × AreDistinct begun2
+held_from_last laws look look2 begun begun2 x id b puts d a =
+    let distinct : AreDistinct (begun2 ++ x ∷ []) = subst AreDistinct b d in
+    let rest : Asked → Option Standing = λ n. cond (node_eq x n) None (look n) in
+    let less : AreBegun rest begun2 = begun_less laws look rest begun2 x (λ n. refl) distinct (subst (AreBegun look) b a) in
+    let last = distinct_less begun2 x distinct in
+    (begun_held laws rest look2 begun2 x id (λ n. puts n ∙ over (node_eq x n) (Some (Ended id)) (look n)) last.1 less, last.0)
 
 -- marks of nodes that are not held change nothing of what is found
 pub found_marked : (laws : NodeLaws) (look look2 : Asked → Option Standing) (o : Option Standing) (x : Asked) (slots : List Slot) (order : List (Option NodeId)) → ((n : Asked) → look2 n ≡ cond (node_eq x n) o (look n)) → ((p : ℕ) (id : NodeId) → at order p ≡ Some id → x ≡ node_at slots id.at → ⊥) → IsFound look slots order → IsFound look2 slots order

@@ -1,13 +1,13 @@
 //! The table of the held nodes and of those whose run has begun.
-ghost use Rattle.std.specs.Prelude.{◌≡◌, ◌++◌, ◌∷◌, [], true, if◌then◌else◌, Some, None, OnOk, OnErr, IfNone, MatchOption, option_to_list, ℕ};
-ghost use Rattle.mx_vertices.specs.declared.standing.Standing.TheVariants.{Begun};
+ghost use Rattle.std.specs.Prelude.{◌≡◌, ◌++◌, ◌∷◌, [], true, if◌then◌else◌, Some, None, OnOk, OnErr, IfNone, IfSome, MatchOption, option_to_list, ℕ};
+ghost use Rattle.mx_vertices.specs.declared.standing.Standing.TheVariants.{Begun, Ended};
 ghost use Rattle.std.specs.HashMap.{get as look_up};
 ghost use Rattle.mx_value.specs.declared.node.Node.{Node as Asked};
 ghost use Rattle.mx_value.specs.Equality.{node_eq};
 ghost use Rattle.mx_edit.specs.Equality.{key_eq};
 ghost use Rattle.mx_edit.specs.declared.key.Key.{Key as Looked};
 ghost use Rattle.mx_vertices.specs.Places.{slot_at};
-ghost use Rattle.mx_vertices.specs.Found.{IsNodeAt, look_without, key_without};
+ghost use Rattle.mx_vertices.specs.Found.{AreBegun, IsNodeAt, look_without, key_without};
 
 use crate::slot::Slot;
 use crate::standing::Standing;
@@ -120,5 +120,22 @@ pub fn end_in(table: &mut Nodes, begun: &mut Vec<Shared<Node>>) -> Option<Shared
         return None;
     };
     let _ = table.remove(&node);
+    Some(node)
+}
+
+/// The node whose run began last is held from now on, under this id. Its entry stays where it is.
+pub fn end_as(table: &mut Nodes, begun: &mut Vec<Shared<Node>>, id: NodeId) -> Option<Shared<Node>>
+    requires { AreBegun (look_up node_eq table.old) begun.old.items }
+    ensures begun { begun.old.items ≡ begun.new.items ++ option_to_list result }
+    ensures none { IfNone result (begun.old.items ≡ []) }
+    ensures table { IfSome result (λ node. (n : Asked) → look_up node_eq table.new n ≡ (if node_eq node n then Some (Ended id) else look_up node_eq table.old n)) }
+{
+    let Some(node) = begun.pop() else {
+        return None;
+    };
+    let Some(standing) = table.get_mut(&node) else {
+        unreachable!()
+    };
+    *standing = Standing::Ended(id);
     Some(node)
 }
