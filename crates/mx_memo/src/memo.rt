@@ -255,12 +255,7 @@ impl Memo {
     /// asked, each once and in order of first occurrence. The key of its own input, which a static node looks up first, is not
     /// given: it is seen among its keys all the same. Its run has ended with that. `Full` comes exactly where as many are held
     /// as may be. After an error the memo is as before.
-    pub fn hold_last(
-        &mut self,
-        body: Body,
-        keys: &[Key],
-        asks: &[NodeId],
-    ) -> Result<NodeId, HoldRefusal>
+    pub fn hold(&mut self, body: Body, keys: &[Key], asks: &[NodeId]) -> Result<NodeId, HoldRefusal>
         requires new { IsNew self.old.held body.node }
         requires last { IsLast self.old.begun body.node }
         requires asks { AreHeld self.old.held asks.now }

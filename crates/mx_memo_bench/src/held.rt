@@ -45,7 +45,7 @@ fn hold_one(
     let Ok(()) = memo.begin(&body.node) else {
         return None;
     };
-    let Ok(id) = memo.hold_last(body, &parts.keys, recent) else {
+    let Ok(id) = memo.hold(body, &parts.keys, recent) else {
         return None;
     };
     remember(recent, id)

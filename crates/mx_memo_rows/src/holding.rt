@@ -56,7 +56,7 @@ fn hold_body(
         return push_bytes(out, b" standing");
     };
     memo.begin(&body.node)?;
-    match memo.hold_last(body, keys, &asks) {
+    match memo.hold(body, keys, &asks) {
         Ok(_) => push_bytes(out, b" held"),
         Err(HoldRefusal::Full) => push_bytes(out, b" full"),
         Err(HoldRefusal::NoMemory) => Err(Trouble::NoMemory),

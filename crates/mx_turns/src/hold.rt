@@ -39,7 +39,7 @@ pub fn hold(
         return Err(HoldRefusal::NoMemory);
     };
     let others = other_keys(node.get(), keys.as_slice());
-    match memo.hold_last(body, others, asks.as_slice()) {
+    match memo.hold(body, others, asks.as_slice()) {
         Ok(id) => {
             memo.in_order();
             Ok(Given { id, node, reply })

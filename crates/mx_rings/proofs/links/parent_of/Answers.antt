@@ -1,4 +1,4 @@
-use Rattle.std.proofs.Common.{◌∙◌, arith}
+use Rattle.std.proofs.Common.{arith}
 use Rattle.mx_rings.proofs.LinkLemmas.{parent_built, parent_none}
 use Rattle.mx_rings.proofs.links.parent_of.Goals as goal
 
@@ -11,5 +11,5 @@ returns-in-len1 c =
 pub returns-in-len1-up : goal.returns-in-len1-up
 returns-in-len1-up c =
     let least = c.in-len1-up.len_at_least in
-    parent_built c.args.text.now c.args.path.now c.as_slice.result.now _ c.id_of.result c.as_slice.ensures (omega arith)
-    (c.parent.view_is ∙ c.in_ok-parent-in-len1-up.ensures) c.id_of.ensures
+    parent_built c.args.text.now c.args.path.now c.as_slice.result.now c.in_ok-parent-in-len1-up.parent c.id_of.result c.as_slice.ensures (omega arith)
+    c.in_ok-parent-in-len1-up.ensures c.id_of.ensures

@@ -17,8 +17,8 @@ use Rattle.mx_vertices.proofs.Reading.{held_node}
 use Rattle.mx_vertices.proofs.Sources.{push_length}
 use Rattle.mx_edit.specs.Equality.{key_eq}
 use Rattle.mx_vertices.proofs.Watching.{watched_kept}
-use Rattle.mx_memo.proofs.memo.Memo.hold_last.Goals.{After-hold_with-held, In-Some}
-use Rattle.mx_memo.proofs.memo.Memo.hold_last.Goals as goal
+use Rattle.mx_memo.proofs.memo.Memo.hold.Goals.{After-hold_with-held, In-Some}
+use Rattle.mx_memo.proofs.memo.Memo.hold.Goals as goal
 
 -- the keys are found where a node is held
 held_keys : (c : After-hold_with-held) → AreWatched (look_up key_eq c.vertices_of-found.new.table) c.hold_with-held.new.slots.items
