@@ -7,7 +7,7 @@ use Rattle.std.proofs.lemmas.Iterator.Adapters.{position_from-zero}
 use Rattle.std.proofs.lemmas.List.{append_assoc, length-append}
 use Rattle.std.proofs.lemmas.Map.Made.{keys_of-zip}
 use Rattle.std.proofs.lemmas.Option.{same_Some, slice_get-map}
-use Rattle.mx_members.proofs.ChunkLemmas.{take_one}
+use Rattle.mx_members.proofs.ChunkLemmas.{get_left, get_right, take_one}
 use Rattle.mx_members.specs.Chunks.{joined, IsEven}
 use Rattle.mx_members.specs.Places.{place}
 use Rattle.mx_members.specs.Words.{define, without}
@@ -77,11 +77,20 @@ module _ {K : Type 0} (test : K → Bool) where
   place_back xs ys o none e =
       sym (place_append xs ys ∙ ap (λ (p : Option ℕ). or_else p (option_map (λ j. length xs + j) (place test ys))) (sym none) ∙ ap (λ (p : Option ℕ). option_map (λ j. length xs + j) p) (sym e))
 
-  pub place_last : (xs ys : List K) (i n : ℕ) → None ≡ place test xs → Some i ≡ place test ys → n ≡ length xs + i → Some n ≡ place test (xs ++ ys)
-  place_last xs ys i n none e is = ap (λ j. Some j) is ∙ place_back xs ys (Some i) none e
+  module _ (b m t : List K) where
+    pub place_in_base : (i : ℕ) → Some i ≡ place test b → Some i ≡ place test (b ++ m ++ t)
+    place_in_base i e = place_front (b ++ m) t i (place_front b m i e)
 
-  pub place_nowhere : (xs ys : List K) → None ≡ place test xs → None ≡ place test ys → None ≡ place test (xs ++ ys)
-  place_nowhere xs ys none e = place_back xs ys None none e
+    pub place_in_middle : (i n : ℕ) → None ≡ place test b → Some i ≡ place test m → n ≡ length b + i → Some n ≡ place test (b ++ m ++ t)
+    place_in_middle i n none e is = place_front (b ++ m) t n (ap (λ j. Some j) is ∙ place_back b m (Some i) none e)
+
+    pub place_in_top : (i n : ℕ) → None ≡ place test b → None ≡ place test m → Some i ≡ place test t → n ≡ length b + length m + i → Some n ≡ place test (b ++ m ++ t)
+    place_in_top i n none none_more e is =
+        let f : n ≡ length (b ++ m) + i = omega (arith, length-append b m) in
+        ap (λ j. Some j) f ∙ place_back (b ++ m) t (Some i) (place_back b m None none none_more) e
+
+    pub place_nowhere : None ≡ place test b → None ≡ place test m → None ≡ place test t → None ≡ place test (b ++ m ++ t)
+    place_nowhere none none_more e = place_back (b ++ m) t None (place_back b m None none none_more) e
 
   -- ---- among what is left
 
@@ -126,6 +135,18 @@ module _ {K : Type 0} (test : K → Bool) where
 
   absent_from : (xs ys : List K) → None ≡ place test (xs ++ ys) → list_any test ys ≡ false
   absent_from xs ys e = absent_back xs ys (absent (xs ++ ys) e)
+
+module _ {K : Type 0} (b m t : List K) where
+  -- ---- what stands at a place of three lists
+
+  pub at_base : (i : ℕ) → i < length b → slice_get b i ≡ slice_get (b ++ m ++ t) i
+  at_base i h = sym (get_left (b ++ m) t i (omega (arith, length-append b m)) ∙ get_left b m i h)
+
+  pub at_middle : (i j : ℕ) → i ≡ length b + j → j < length m → slice_get m j ≡ slice_get (b ++ m ++ t) i
+  at_middle i j is h = sym (get_left (b ++ m) t i (omega (arith, length-append b m)) ∙ get_right b m i j is)
+
+  pub at_top : (i j : ℕ) → i ≡ length b + length m + j → slice_get t j ≡ slice_get (b ++ m ++ t) i
+  at_top i j is = sym (get_right (b ++ m) t i j (omega (arith, length-append b m)))
 
 -- ---- the place of a key in chunks
 
@@ -304,6 +325,11 @@ module _ {K : Type 0} (eq : K → K → Bool) where
   unfolding IsDistinct
   distinct_front [] ys d = tt
   distinct_front (x ∷ xs) ys d = (all_front (λ y. eq x y ≡ false) xs ys d.0, distinct_front xs ys d.1)
+
+  pub distinct_back : (xs ys : List K) → IsDistinct eq (xs ++ ys) → IsDistinct eq ys
+  unfolding IsDistinct
+  distinct_back [] ys d = d
+  distinct_back (x ∷ xs) ys d = distinct_back xs ys d.1
 
   all_at : (P : K → Type 0) (xs ys : List K) (i : ℕ) (k : K) → AllByRecursion P (xs ++ ys) → slice_get ys i ≡ Some k → P k
   all_at P [] [] i k all at = absurd (let f : None ≡ Some k = at in cc)

@@ -14,11 +14,13 @@ use std::marker::Model;
 
 /// Keys, each once, in order of their coming.
 ///
-/// They stand in a set and in a short list behind it, which copies share, so that a key is found in one hash. The list is looked
-/// through, since to copy a set hashes its keys. A copy joins both once the list has passed three times the root of the set.
+/// They stand in two sets and in a short list behind them, which copies share. A copy joins the list with the set before it once it
+/// has passed that one's root, and joins all three once the last two are long beside the first. The list is looked through, since to
+/// copy a set hashes its keys.
 #[derive(Drop)]
 pub struct Keys<K: Eq + Hash> {
-    set: Shared<IndexSet<K>>,
+    base: Shared<IndexSet<K>>,
+    middle: Shared<IndexSet<K>>,
     last: Chunks<K>,
     count: usize,
 }
@@ -29,10 +31,10 @@ impl<K: Eq + Hash> Model for Keys<K> {
 
     ghost Value = { List K };
 
-    ghost view = { λ k. k.set.keys ++ k.last };
+    ghost view = { λ k. (k.base.keys ++ k.middle.keys) ++ k.last };
 
-    ghost invariant = { λ k. IsDistinct K.eq (k.set.keys ++ k.last)
-        × (k.count ≡ length (k.set.keys ++ k.last)) };
+    ghost invariant = { λ k. IsDistinct K.eq ((k.base.keys ++ k.middle.keys) ++ k.last)
+        × (k.count ≡ length ((k.base.keys ++ k.middle.keys) ++ k.last)) };
 }
 
 impl<K: Eq + Hash + Share> Keys<K> {
@@ -48,8 +50,10 @@ impl<K: Eq + Hash + Share> Keys<K> {
         ensures { IfOk result (λ k. k ≡ keys.keys) }
     {
         let count = keys.len();
+        let base = Shared::new(alloc, keys)?;
         Ok(Keys {
-            set: Shared::new(alloc, keys)?,
+            base,
+            middle: Shared::new(alloc, IndexSet::new(alloc))?,
             last: Chunks::new(alloc),
             count,
         })
@@ -67,31 +71,49 @@ impl<K: Eq + Hash + Share> Keys<K> {
     pub fn copy(&self, alloc: Global) -> Result<Keys<K>, AllocError>
         ensures { IfOk result (λ k. k ≡ self.now) }
     {
-        if self.is_last_long() {
+        if !self.is_last_long() {
+            return Ok(Keys {
+                base: self.base.copy()?,
+                middle: self.middle.copy()?,
+                last: self.last.copy(alloc)?,
+                count: self.count,
+            });
+        }
+        if self.is_base_short() {
             let keys = self.joined(alloc)?;
             return Keys::from_set(alloc, keys);
         }
+        let middle = with_last(alloc, self.middle.get(), &self.last)?;
         Ok(Keys {
-            set: self.set.copy()?,
-            last: self.last.copy(alloc)?,
+            base: self.base.copy()?,
+            middle: Shared::new(alloc, middle)?,
+            last: Chunks::new(alloc),
             count: self.count,
         })
     }
 
-    /// Whether the list has passed three times the root of the set.
+    /// Whether the list has passed the root of the set before it.
     fn is_last_long(&self) -> bool {
         let last = self.last.len();
-        last > 16 && self.set.get().len() / last < last / 9
+        last > 16 && self.middle.get().len() / last < last
+    }
+
+    /// Whether what stands behind the first set has passed eight times its root.
+    fn is_base_short(&self) -> bool {
+        let behind = self.middle.get().len().saturating_add(self.last.len());
+        behind > 64 && self.base.get().len() / behind < behind / 64
     }
 
     /// All keys in one set.
     fn joined(&self, alloc: Global) -> Result<IndexSet<K>, AllocError>
         ensures { IfOk result (λ keys. keys.keys ≡ self.now) }
     {
-        let front = self.set.get();
+        let base = self.base.get();
+        let middle = self.middle.get();
         let last = self.last.to_vec(alloc)?;
-        let mut keys = IndexSet::with_capacity(alloc, front.len().saturating_add(last.len()))?;
-        add_keys(alloc, &mut keys, front.as_slice())?;
+        let mut keys = IndexSet::with_capacity(alloc, self.count)?;
+        add_keys(alloc, &mut keys, base.as_slice())?;
+        add_keys(alloc, &mut keys, middle.as_slice())?;
         add_keys(alloc, &mut keys, last.as_slice())?;
         Ok(keys)
     }
@@ -100,9 +122,14 @@ impl<K: Eq + Hash + Share> Keys<K> {
     pub fn place_of(&self, key: &K) -> Option<usize>
         ensures { result ≡ place (K.eq key.now) self.now }
     {
+        let base = self.base.get();
         let before_last = self.count - self.last.len();
-        match place_in(self.set.get(), key) {
+        match place_in(base, key) {
             Some(at) => return Some(at),
+            None => {}
+        }
+        match place_in(self.middle.get(), key) {
+            Some(at) => return Some(base.len() + at),
             None => {}
         }
         match self.last.place_of(key) {
@@ -115,11 +142,16 @@ impl<K: Eq + Hash + Share> Keys<K> {
     pub fn get(&self, place: usize) -> Option<&K>
         ensures { option_copied result ≡ slice_get self.now place }
     {
-        let front = self.set.get();
-        if place < front.len() {
-            return front.get_index(place);
+        let base = self.base.get();
+        let middle = self.middle.get();
+        if place < base.len() {
+            return base.get_index(place);
         }
-        self.last.get(place - front.len())
+        let behind = place - base.len();
+        if behind < middle.len() {
+            return middle.get_index(behind);
+        }
+        self.last.get(behind - middle.len())
     }
 
     /// Adds a key behind the others, unless it is there.
@@ -162,7 +194,7 @@ impl<K: Eq + Hash + Share> Keys<K> {
 
     /// Where the keys take their memory from.
     pub fn allocator(&self) -> Global {
-        *self.set.get().allocator()
+        *self.base.get().allocator()
     }
 
     /// The keys without the one at a place.
@@ -185,6 +217,22 @@ fn place_in<K: Eq + Hash>(keys: &IndexSet<K>, key: &K) -> Option<usize>
         return None;
     }
     keys.get_index_of(key)
+}
+
+/// The keys of a set and a few behind them, shared, in a set of their own.
+fn with_last<K: Eq + Hash + Share>(
+    alloc: Global,
+    front: &IndexSet<K>,
+    last: &Chunks<K>,
+) -> Result<IndexSet<K>, AllocError>
+    requires { IsDistinct K.eq (front.now.keys ++ last.now) }
+    ensures { IfOk result (λ keys. keys.keys ≡ front.now.keys ++ last.now) }
+{
+    let last = last.to_vec(alloc)?;
+    let mut keys = IndexSet::with_capacity(alloc, front.len().saturating_add(last.len()))?;
+    add_keys(alloc, &mut keys, front.as_slice())?;
+    add_keys(alloc, &mut keys, last.as_slice())?;
+    Ok(keys)
 }
 
 /// Adds keys, shared, behind those of a set.
