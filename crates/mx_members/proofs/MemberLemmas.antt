@@ -92,19 +92,6 @@ module _ {K : Type 0} (test : K → Bool) where
     pub place_nowhere : None ≡ place test b → None ≡ place test m → None ≡ place test t → None ≡ place test (b ++ m ++ t)
     place_nowhere none none_more e = place_back (b ++ m) t None (place_back b m None none none_more) e
 
-  -- ---- among what is left
-
-  pub place_left : (ks : List K) (i : ℕ) (k : K) → slice_get ks i ≡ Some k → test k ≡ false → option_map (λ j. i + j) (place test (drop i ks)) ≡ option_map (λ j. i + 1 + j) (place test (drop (i + 1) ks))
-  place_left ks i k at not =
-      ap (λ (l : List K). option_map (λ j. i + j) (place test l)) (drop_one ks i k at) ∙
-      ap (λ (t : Bool). option_map (λ j. i + j) (cond t (Some 0) (option_map suc (place test (drop (i + 1) ks))))) not ∙ sym (map_next i (place test (drop (i + 1) ks)))
-
-  pub place_here : (ks : List K) (i : ℕ) (k : K) → slice_get ks i ≡ Some k → test k ≡ true → option_map (λ j. i + j) (place test (drop i ks)) ≡ Some i
-  place_here ks i k at is =
-      let none : i + 0 ≡ i = omega arith in
-      ap (λ (l : List K). option_map (λ j. i + j) (place test l)) (drop_one ks i k at) ∙
-      ap (λ (t : Bool). option_map (λ j. i + j) (cond t (Some 0) (option_map suc (place test (drop (i + 1) ks))))) is ∙ ap (λ j. Some j) none
-
   within_by : (t : Bool) (n i : ℕ) (o : Option ℕ) → ((j : ℕ) → Some j ≡ o → j < n) → Some i ≡ cond t (Some 0) (option_map suc o) → i < suc n
   within_by true n i o rest e = let f = same_Some i 0 e in omega arith
   within_by false n i None rest e = let f : Some i ≡ None = e in cc
@@ -128,13 +115,6 @@ module _ {K : Type 0} (test : K → Bool) where
   absent (k ∷ ks) e =
       let later = none_first (test k) (place test ks) e in
       ap (λ (t : Bool). t || list_any test ks) later.0 ∙ absent ks later.1
-
-  absent_back : (xs ys : List K) → list_any test (xs ++ ys) ≡ false → list_any test ys ≡ false
-  absent_back [] ys e = e
-  absent_back (x ∷ xs) ys e = absent_back xs ys (either_not (test x) (list_any test (xs ++ ys)) e).1
-
-  absent_from : (xs ys : List K) → None ≡ place test (xs ++ ys) → list_any test ys ≡ false
-  absent_from xs ys e = absent_back xs ys (absent (xs ++ ys) e)
 
 module _ {K : Type 0} (b m t : List K) where
   -- ---- what stands at a place of three lists
