@@ -1,8 +1,9 @@
 #!/usr/bin/env python3
-"""How long edits of model texts take, with their commands read: the program of mx_model_rows over generated scripts.
+"""How long edits take, with their commands read and answered: `mx run` over generated scripts.
 
-    tools/model_bench.py            after `rt run` in crates/mx_model_rows has built the program
-    tools/model_bench.py --edges    the two limits that take too long for the gate: 4,000 spaces and 1,000,000 inputs
+    tools/model_bench.py            after `tools/build` has built the program
+    tools/model_bench.py --edges    the two limits that take too long for the gate: 4,000 spaces and 1,000,000 inputs, by the
+                                    program of mx_model_rows, after `rt run` in its folder
 
 Each line gives the seconds of a workload's edits: the time of its script less that of the part that only sets it up. The best of
 three runs counts. An edge is right where exactly the last edit is refused, for its limit.
@@ -13,7 +14,8 @@ import sys
 import time
 
 HERE = os.path.dirname(os.path.abspath(__file__))
-PROGRAM = os.path.join(HERE, "..", "crates", "mx_model_rows", "out", "mx_model_rows")
+PROGRAM = os.path.join(HERE, "..", "crates", "mx_cli", "out", "mx_cli")
+ROWS = os.path.join(HERE, "..", "crates", "mx_model_rows", "out", "mx_model_rows")
 
 
 def seconds(lines):
@@ -21,7 +23,7 @@ def seconds(lines):
     best, ok = None, 0
     for _ in range(3):
         start = time.perf_counter()
-        out = subprocess.run([PROGRAM], input=script, capture_output=True, text=True, check=True).stdout
+        out = subprocess.run([PROGRAM, "run"], input=script, capture_output=True, text=True, check=True).stdout
         took = time.perf_counter() - start
         best = took if best is None else min(best, took)
         ok = out.count("ok\n")
@@ -31,7 +33,7 @@ def seconds(lines):
 
 def edge(name, lines):
     """Whether all edits but the last are accepted, and the last is refused."""
-    out = subprocess.run([PROGRAM], input="\n".join(lines) + "\n", capture_output=True, text=True, check=True).stdout
+    out = subprocess.run([ROWS], input="\n".join(lines) + "\n", capture_output=True, text=True, check=True).stdout
     answers = out.splitlines()
     is_right = answers.count("ok") == len(lines) - 1 and answers[-1] == f"refused: TooMany {name}"
     print(f"{name}: {'right' if is_right else 'WRONG'} ({len(lines) - 1:,} accepted, then: {answers[-1]})", flush=True)
