@@ -1,3 +1,4 @@
 pub mod Chunks
+pub mod Hashed
 pub mod Places
 pub mod Words

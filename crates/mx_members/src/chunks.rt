@@ -4,9 +4,11 @@ ghost use Rattle.mx_members.specs.Places.{place};
 ghost use Rattle.std.specs.Prelude.{◌≡◌, ◌<◌, [], ◌∷◌, ◌++◌, length, slice_get, slice_set, option_copied, IfOk, IfSome, OnOk, OnErr};
 
 use crate::share::Share;
+use indexmap::Equivalent;
 use mx_list::items::Items;
 use mx_list::shared::Shared;
 use std::alloc::{AllocError, Global};
+use std::hash::Hash;
 use std::marker::Model;
 use std::mem;
 
@@ -61,10 +63,10 @@ impl<T> Chunks<T> {
     }
 }
 
-impl<T: PartialEq> Chunks<T> {
-    /// The place of the first item that equals this one, from 0.
-    pub fn place_of(&self, item: &T) -> Option<usize>
-        ensures place { result ≡ place (T.eq item.now) self.now }
+impl<T: Eq + Hash> Chunks<T> {
+    /// The place of the first item that a key stands for, from 0.
+    pub fn place_of<Q: Equivalent<T>>(&self, key: Q) -> Option<usize>
+        ensures place { result ≡ place (Q.equivalent key) self.now }
         ensures within { IfSome result (λ at. at < length self.now) }
     {
         if self.len() == 0 {
@@ -74,7 +76,7 @@ impl<T: PartialEq> Chunks<T> {
             let Some(chunk) = item_at(&self.chunks, at) else {
                 unreachable!()
             };
-            match place_among(chunk.get().as_slice(), item) {
+            match place_among(chunk.get().as_slice(), key) {
                 Some(place) => return Some(at * FULL + place),
                 None => {}
             }
@@ -83,12 +85,12 @@ impl<T: PartialEq> Chunks<T> {
     }
 }
 
-/// The place of an item among a few.
-fn place_among<T: PartialEq>(items: &[T], item: &T) -> Option<usize>
-    ensures { result ≡ place (T.eq item.now) items.now }
+/// The place of the first item that a key stands for among a few.
+fn place_among<T: Eq + Hash, Q: Equivalent<T>>(items: &[T], key: Q) -> Option<usize>
+    ensures { result ≡ place (Q.equivalent key) items.now }
 {
     for at in 0..items.len() {
-        if *item == items[at] {
+        if key.equivalent(&items[at]) {
             return Some(at);
         }
     }

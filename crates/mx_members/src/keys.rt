@@ -5,6 +5,7 @@ ghost use Rattle.indexmap.specs.IndexSet.{insert_key};
 ghost use Rattle.mx_members.specs.Places.{place};
 
 use crate::chunks::{Chunks, item_at};
+use crate::hashed::Hashed;
 use crate::share::Share;
 use indexmap::IndexSet;
 use mx_list::shared::Shared;
@@ -19,9 +20,9 @@ use std::marker::Model;
 /// copy a set hashes its keys.
 #[derive(Drop)]
 pub struct Keys<K: Eq + Hash> {
-    base: Shared<IndexSet<K>>,
-    middle: Shared<IndexSet<K>>,
-    last: Chunks<K>,
+    base: Shared<IndexSet<Hashed<K>>>,
+    middle: Shared<IndexSet<Hashed<K>>>,
+    last: Chunks<Hashed<K>>,
     count: usize,
 }
 
@@ -45,8 +46,17 @@ impl<K: Eq + Hash + Share> Keys<K> {
         Keys::from_set(alloc, IndexSet::new(alloc))
     }
 
+    /// These keys.
+    pub fn from_slice(alloc: Global, keys: &[K]) -> Result<Keys<K>, AllocError>
+        requires once { IsDistinct K.eq keys.now }
+        ensures { IfOk result (λ k. k ≡ keys.now) }
+    {
+        let set = set_of(alloc, keys)?;
+        Keys::from_set(alloc, set)
+    }
+
     /// The keys of a set.
-    pub fn from_set(alloc: Global, keys: IndexSet<K>) -> Result<Keys<K>, AllocError>
+    fn from_set(alloc: Global, keys: IndexSet<Hashed<K>>) -> Result<Keys<K>, AllocError>
         ensures { IfOk result (λ k. k ≡ keys.keys) }
     {
         let count = keys.len();
@@ -105,7 +115,7 @@ impl<K: Eq + Hash + Share> Keys<K> {
     }
 
     /// All keys in one set.
-    fn joined(&self, alloc: Global) -> Result<IndexSet<K>, AllocError>
+    fn joined(&self, alloc: Global) -> Result<IndexSet<Hashed<K>>, AllocError>
         ensures { IfOk result (λ keys. keys.keys ≡ self.now) }
     {
         let base = self.base.get();
@@ -118,9 +128,16 @@ impl<K: Eq + Hash + Share> Keys<K> {
         Ok(keys)
     }
 
-    /// The place of a key, from 0.
+    /// The place of a key, from 0. It is hashed once.
     pub fn place_of(&self, key: &K) -> Option<usize>
         ensures { result ≡ place (K.eq key.now) self.now }
+    {
+        self.place(&Hashed::new(key))
+    }
+
+    /// The place of a key whose hash is known, from 0.
+    fn place(&self, key: &Hashed<&K>) -> Option<usize>
+        ensures { result ≡ place (K.eq key.now.now) self.now }
     {
         let base = self.base.get();
         let before_last = self.count - self.last.len();
@@ -145,18 +162,19 @@ impl<K: Eq + Hash + Share> Keys<K> {
         let base = self.base.get();
         let middle = self.middle.get();
         if place < base.len() {
-            return base.get_index(place);
+            return key_of(base.get_index(place));
         }
         let behind = place - base.len();
         if behind < middle.len() {
-            return middle.get_index(behind);
+            return key_of(middle.get_index(behind));
         }
-        self.last.get(behind - middle.len())
+        key_of(self.last.get(behind - middle.len()))
     }
 
     /// Adds a key behind the others, unless it is there.
     pub fn enter(&mut self, key: K) -> Result<(), AllocError>
-        ensures { OnOk result (self.new ≡ insert_key K.eq self.old key) }
+        ensures ok { OnOk result (self.new ≡ insert_key K.eq self.old key) }
+        ensures err { OnErr result (self.new ≡ self.old) }
     {
         match self.place_of(&key) {
             Some(_) => return Ok(()),
@@ -177,7 +195,7 @@ impl<K: Eq + Hash + Share> Keys<K> {
             return Err(AllocError);
         };
         let alloc = self.allocator();
-        self.last.push(alloc, key)?;
+        self.last.push(alloc, Hashed::new(key))?;
         self.count = count;
         Ok(())
     }
@@ -208,23 +226,48 @@ impl<K: Eq + Hash + Share> Keys<K> {
     }
 }
 
-/// The place of a key in a set. One without keys is not asked, since it would hash the key first.
-fn place_in<K: Eq + Hash>(keys: &IndexSet<K>, key: &K) -> Option<usize>
-    ensures place { result ≡ place (K.eq key.now) keys.now.keys }
+/// The key alone.
+fn key_of<K: Eq + Hash>(key: Option<&Hashed<K>>) -> Option<&K>
+    ensures { option_copied result ≡ option_copied key.entry }
+{
+    match key {
+        Some(key) => Some(key.key()),
+        None => None,
+    }
+}
+
+/// The keys, shared, in a set.
+fn set_of<K: Eq + Hash + Share>(
+    alloc: Global,
+    keys: &[K],
+) -> Result<IndexSet<Hashed<K>>, AllocError>
+    requires { IsDistinct K.eq keys.now }
+    ensures { IfOk result (λ set. set.keys ≡ keys.now) }
+{
+    let mut set = IndexSet::with_capacity(alloc, keys.len())?;
+    for at in 0..keys.len() {
+        let Some(key) = item_at(keys, at) else {
+            unreachable!()
+        };
+        set.insert(Hashed::new(key.share(alloc)?))?;
+    }
+    Ok(set)
+}
+
+/// The place of a key in a set.
+fn place_in<K: Eq + Hash>(keys: &IndexSet<Hashed<K>>, key: &Hashed<&K>) -> Option<usize>
+    ensures place { result ≡ place (K.eq key.now.now) keys.now.keys }
     ensures within { IfSome result (λ at. at < length keys.now.keys) }
 {
-    if keys.is_empty() {
-        return None;
-    }
     keys.get_index_of(key)
 }
 
 /// The keys of a set and a few behind them, shared, in a set of their own.
 fn with_last<K: Eq + Hash + Share>(
     alloc: Global,
-    front: &IndexSet<K>,
-    last: &Chunks<K>,
-) -> Result<IndexSet<K>, AllocError>
+    front: &IndexSet<Hashed<K>>,
+    last: &Chunks<Hashed<K>>,
+) -> Result<IndexSet<Hashed<K>>, AllocError>
     requires { IsDistinct K.eq (front.now.keys ++ last.now) }
     ensures { IfOk result (λ keys. keys.keys ≡ front.now.keys ++ last.now) }
 {
@@ -238,8 +281,8 @@ fn with_last<K: Eq + Hash + Share>(
 /// Adds keys, shared, behind those of a set.
 fn add_keys<K: Eq + Hash + Share>(
     alloc: Global,
-    keys: &mut IndexSet<K>,
-    more: &[K],
+    keys: &mut IndexSet<Hashed<K>>,
+    more: &[Hashed<K>],
 ) -> Result<(), AllocError>
     requires { IsDistinct K.eq (keys.old.keys ++ more.now) }
     ensures { OnOk result (keys.new.keys ≡ keys.old.keys ++ more.now) }

@@ -6,14 +6,14 @@ use Rattle.mx_members.proofs.chunks.Chunks.place_of.Goals as goal
 
 pub loop-at-preserved : goal.loop-at-preserved
 loop-at-preserved g c =
-    let test = g.T.PartialEq.eq c.args.item.now in
+    let test = g.Q.Equivalent.equivalent c.args.key in
     let at = sym (c.in-Some.ensures ∙ ap (λ l. slice_get l c.loop-at.at) c.deref.ensures.value) in
     let none = c.in-None.ensures ∙ ap (λ l. place test l) (c.as_slice.ensures ∙ c.get.ensures) in
     c.loop-at.invariant ∙ chunk_past test 64 c.self.inside.chunks.items c.loop-at.at c.in-Some.chunk.now c.self.invariant.1 at none
 
 pub overflow_mul-result : goal.overflow_mul-result
 overflow_mul-result g c =
-    let test = g.T.PartialEq.eq c.args.item.now in
+    let test = g.Q.Equivalent.equivalent c.args.key in
     let i = c.loop-at.at in
     let j = c.in-Some-place_among.place in
     let at = sym (c.in-Some.ensures ∙ ap (λ l. slice_get l i) c.deref.ensures.value) in
@@ -26,7 +26,7 @@ overflow_mul-result g c =
 
 pub overflow_add-result : goal.overflow_add-result
 overflow_add-result g c =
-    let test = g.T.PartialEq.eq c.args.item.now in
+    let test = g.Q.Equivalent.equivalent c.args.key in
     let i = c.loop-at.at in
     let j = c.in-Some-place_among.place in
     let at = sym (c.in-Some.ensures ∙ ap (λ l. slice_get l i) c.deref.ensures.value) in
@@ -39,7 +39,7 @@ overflow_add-result g c =
 
 pub returns-in-Some-place_among-clause-place : goal.returns-in-Some-place_among-clause-place
 returns-in-Some-place_among-clause-place g c =
-    let test = g.T.PartialEq.eq c.args.item.now in
+    let test = g.Q.Equivalent.equivalent c.args.key in
     let i = c.loop-at.at in
     let j = c.in-Some-place_among.place in
     let at = sym (c.in-Some.ensures ∙ ap (λ l. slice_get l i) c.deref.ensures.value) in
@@ -49,7 +49,7 @@ returns-in-Some-place_among-clause-place g c =
 
 pub returns-in-Some-place_among-clause-within : goal.returns-in-Some-place_among-clause-within
 returns-in-Some-place_among-clause-within g c =
-    let test = g.T.PartialEq.eq c.args.item.now in
+    let test = g.Q.Equivalent.equivalent c.args.key in
     let i = c.loop-at.at in
     let j = c.in-Some-place_among.place in
     let at = sym (c.in-Some.ensures ∙ ap (λ l. slice_get l i) c.deref.ensures.value) in
