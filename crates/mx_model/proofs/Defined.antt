@@ -1,7 +1,7 @@
 -- Which paths are defined in a text and in another one, and how a path ends.
 use Rattle.std.proofs.Common.{◌≡◌, ℕ, zero, suc, ◌+◌, ◌-◌, ◌<◌, ◌≤◌, Bool, true, false, ◌||◌, List, [], ◌∷◌, ◌++◌, length, map, take, get_or, slice_get, Option, Some, None, refl, sym, ◌∙◌, ap, subst, arith, inl, inr}
 use Rattle.std.specs.Prelude.{IsTrue, is_some, if◌then◌else◌}
-use Rattle.std.specs.List.{list_any}
+use Rattle.std.specs.List.{list_any, AllByRecursion, IsDistinct}
 use Rattle.std.specs.Map.{lookup}
 use Rattle.std.proofs.lemmas.List.{take_all, take_more, map-append}
 use Rattle.std.proofs.lemmas.Option.{same_Some}
@@ -107,16 +107,27 @@ distinct_push {X} (y ∷ xs) x d n = (
 
 -- ---- paths, one after the other
 
-fresh_by : (k x : Path) (xs : List Path) (b : Bool) → same_path k x ≡ b → (Has xs x → ⊥) → Has xs k → same_path k x ≡ false
-fresh_by k x xs true e n h = absurd (let P : Path → Type 0 = λ p. Has xs p in n (subst P ((path_decides k x).0 e) h))
-fresh_by k x xs false e n h = e
+apart_by : (k x : Path) (b : Bool) → same_path k x ≡ b → (k ≡ x → ⊥) → same_path k x ≡ false
+apart_by k x true e n = absurd (n ((path_decides k x).0 e))
+apart_by k x false e n = e
+
+apart : (k : Path) (xs : List Path) → (Has xs k → ⊥) → AllByRecursion (λ x. same_path k x ≡ false) xs
+apart k [] n = tt
+apart k (x ∷ xs) n = (apart_by k x (same_path k x) refl (λ e. n (inl (sym e))), apart k xs (λ h. n (inr h)))
+
+-- none stands twice, by the test of paths too
+pub distinct_paths : (ks : List Path) → Distinct ks → IsDistinct same_path ks
+unfolding IsDistinct
+distinct_paths [] d = tt
+distinct_paths (k ∷ ks) d = (apart k ks d.0, distinct_paths ks d.1)
 
 -- a path is not among those before it
 any_fresh : (ks : List Path) (i : ℕ) (k : Path) → Distinct ks → slice_get ks i ≡ Some k → list_any (same_path k) (take i ks) ≡ false
 any_fresh [] i k d at = absurd (let f : None ≡ Some k = at in cc)
 any_fresh (x ∷ xs) zero k d at = refl
 any_fresh (x ∷ xs) (suc i) k d at =
-    let no = fresh_by k x xs (same_path k x) refl d.0 (place_has xs i k at) in
+    let P : Path → Type 0 = λ p. Has xs p in
+    let no = apart_by k x (same_path k x) refl (λ e. d.0 (subst P e (place_has xs i k at))) in
     ap (λ (b : Bool). b || list_any (same_path k) (take i xs)) no ∙ any_fresh xs i k d.1 at
 
 take_one : {X : Type 0} (ks : List X) (i : ℕ) (k : X) → slice_get ks i ≡ Some k → take i ks ++ k ∷ [] ≡ take (suc i) ks

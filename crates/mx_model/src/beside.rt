@@ -7,7 +7,6 @@ ghost use Rattle.mx_model.specs.Indexed.{AreAll, AreBeside, IsFront};
 ghost use Rattle.mx_model.specs.Layers.{id_in, lists_in};
 
 use crate::spaces::Spaces;
-use indexmap::IndexSet;
 use mx_c3::lists::{BaseLists, Order};
 use mx_c3::space::SpaceId;
 use mx_list::list::List;
@@ -36,11 +35,11 @@ pub(crate) fn beside(
 {
     if are_first(kept.paths, spaces) {
         let paths = more_paths(alloc, kept.paths, spaces)?;
-        let lists = more_lists(alloc, kept, spaces, &paths)?;
+        let lists = all_lists(alloc, Some(kept), spaces, &paths)?;
         return Ok((paths, lists));
     }
     let paths = all_paths(alloc, spaces)?;
-    let lists = all_lists(alloc, spaces, &paths)?;
+    let lists = all_lists(alloc, None, spaces, &paths)?;
     return Ok((paths, lists));
 }
 
@@ -94,41 +93,26 @@ fn all_paths(alloc: Global, spaces: &Spaces) -> Result<Keys<Path>, AllocError>
     requires { Distinct (map (λ (s : SpaceRecord). s.path) spaces.now) }
     ensures { IfOk result (λ paths. paths ≡ map (λ (s : SpaceRecord). s.path) spaces.now) }
 {
-    let mut paths = IndexSet::with_capacity(alloc, spaces.len())?;
+    let mut paths = Vec::with_capacity(alloc, spaces.len())?;
     for place in 0..spaces.len() {
         let Some(space) = spaces.get(place) else {
             unreachable!()
         };
-        paths.insert(space.get().path().copy()?)?;
+        paths.push(space.get().path().copy()?)?;
     }
-    Keys::from_set(alloc, paths)
+    Keys::from_slice(alloc, paths.as_slice())
 }
 
-/// The bases of spaces, each by its place among these paths.
-fn all_lists(alloc: Global, spaces: &Spaces, paths: &Keys<Path>) -> Result<BaseLists, AllocError>
-    requires { length paths.now < 2 ^ 32 }
-    ensures { IfOk result (λ lists. lists ≡ lists_in paths.now spaces.now) }
-{
-    let mut lists = BaseLists::new(alloc);
-    for place in 0..spaces.len() {
-        let Some(space) = spaces.get(place) else {
-            unreachable!()
-        };
-        lists.push(ids_of(alloc, space.get().bases.as_slice(), paths)?)?;
-    }
-    Ok(lists)
-}
-
-/// The same, sharing those that are kept.
-fn more_lists(
+/// The bases of spaces, each by its place among these paths. Those that are kept are shared.
+fn all_lists(
     alloc: Global,
-    kept: &Kept<'_>,
+    kept: Option<&Kept<'_>>,
     spaces: &Spaces,
     paths: &Keys<Path>,
 ) -> Result<BaseLists, AllocError>
     requires few { length paths.now < 2 ^ 32 }
-    requires kept { AreBeside kept.now.paths.now kept.now.lists.now kept.now.spaces.now }
-    requires front { IsFront kept.now.paths.now paths.now }
+    requires kept { IfSome kept (λ k. AreBeside k.now.paths.now k.now.lists.now k.now.spaces.now) }
+    requires front { IfSome kept (λ k. IsFront k.now.paths.now paths.now) }
     ensures { IfOk result (λ lists. lists ≡ lists_in paths.now spaces.now) }
 {
     let mut lists = BaseLists::new(alloc);
@@ -144,16 +128,19 @@ fn more_lists(
 /// The places of the bases of the space at a place.
 fn list_of(
     alloc: Global,
-    kept: &Kept<'_>,
+    kept: Option<&Kept<'_>>,
     place: usize,
     bases: &List<Path>,
     paths: &Keys<Path>,
 ) -> Result<Order, AllocError>
     requires few { length paths.now < 2 ^ 32 }
-    requires kept { AreBeside kept.now.paths.now kept.now.lists.now kept.now.spaces.now }
-    requires front { IsFront kept.now.paths.now paths.now }
+    requires kept { IfSome kept (λ k. AreBeside k.now.paths.now k.now.lists.now k.now.spaces.now) }
+    requires front { IfSome kept (λ k. IsFront k.now.paths.now paths.now) }
     ensures { IfOk result (λ ids. ids ≡ filter_map (id_in paths.now) bases.now) }
 {
+    let Some(kept) = kept else {
+        return ids_of(alloc, bases.as_slice(), paths);
+    };
     match list_kept(kept, place, bases) {
         Some(ids) => return ids.copy(),
         None => return ids_of(alloc, bases.as_slice(), paths),

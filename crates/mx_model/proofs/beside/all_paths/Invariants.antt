@@ -3,4 +3,4 @@ use Rattle.mx_model.specs.Records.{SpaceRecord}
 use Rattle.mx_model.proofs.beside.all_paths.Given as goal
 
 abbrev pub invariant-loop-place : goal.invariant-loop-place
-invariant-loop-place l = l.paths.keys ≡ take l.place (map (λ (s : SpaceRecord). s.path) l.spaces)
+invariant-loop-place l = l.paths.items ≡ map (λ (s : SpaceRecord). s.path) (take l.place l.spaces)

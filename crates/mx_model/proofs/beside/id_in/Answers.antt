@@ -1,4 +1,4 @@
-use Rattle.std.proofs.Common.{ℕ, Option, option_map, ◌∙◌, sym, ap, rules}
+use Rattle.std.proofs.Common.{ℕ, option_map, ◌∙◌, sym, ap, rules}
 use Rattle.mx_value.specs.Name.{same_path}
 use Rattle.mx_c3.specs.declared.space.SpaceId.{SpaceId}
 use Rattle.mx_members.proofs.MemberLemmas.{place_is, place_within}

@@ -1,4 +1,4 @@
-use Rattle.std.proofs.Common.{◌∙◌, Some, map, sym, ap}
+use Rattle.std.proofs.Common.{◌∙◌, Some, sym, ap}
 use Rattle.std.specs.Prelude.{option_map}
 use Rattle.std.proofs.lemmas.Option.{slice_get-map}
 use Rattle.mx_value.proofs.NodeSames.{path_decides}

@@ -1,4 +1,4 @@
-use Rattle.std.proofs.Common.{◌∙◌, ap}
+use Rattle.std.proofs.Common.{◌∙◌}
 use Rattle.mx_model.proofs.SpaceLemmas.{same_index}
 use Rattle.mx_model.proofs.text.ModelText.copy.Goals as goal
 
