@@ -132,11 +132,11 @@ impl<K: Eq + Hash + Share> Keys<K> {
     pub fn place_of(&self, key: &K) -> Option<usize>
         ensures { result ≡ place (K.eq key.now) self.now }
     {
-        self.place(&Hashed::new(key))
+        self.place_by(&Hashed::new(key))
     }
 
     /// The place of a key whose hash is known, from 0.
-    fn place(&self, key: &Hashed<&K>) -> Option<usize>
+    pub fn place_by(&self, key: &Hashed<&K>) -> Option<usize>
         ensures { result ≡ place (K.eq key.now.now) self.now }
     {
         let base = self.base.get();

@@ -6,6 +6,7 @@ ghost use Rattle.std.specs.Map.Iter.{deref_pair};
 ghost use Rattle.mx_members.specs.Words.{define, without};
 
 use crate::chunks::Chunks;
+use crate::hashed::Hashed;
 use crate::keys::Keys;
 use crate::share::Share;
 use std::alloc::{AllocError, Global};
@@ -76,7 +77,14 @@ impl<K: Eq + Hash + Share, X: Share> Members<K, X> {
     pub fn get(&self, key: &K) -> Option<&X>
         ensures { option_copied result ≡ lookup (K.eq key.now) self.now }
     {
-        match self.keys.place_of(key) {
+        self.get_by(&Hashed::new(key))
+    }
+
+    /// The member of a key whose hash is known.
+    pub fn get_by(&self, key: &Hashed<&K>) -> Option<&X>
+        ensures { option_copied result ≡ lookup (K.eq key.now.now) self.now }
+    {
+        match self.keys.place_by(key) {
             Some(at) => return self.members.get(at),
             None => return None,
         }

@@ -10,6 +10,7 @@ use crate::text::ModelText;
 use mx_c3::lists::Order;
 use mx_c3::space::SpaceId;
 use mx_code::compiled::CompiledParams;
+use mx_members::hashed::Hashed;
 use mx_value::label::Label;
 
 /// What layers bind a name to.
@@ -25,14 +26,23 @@ pub enum Binding {
     Missing,
 }
 
-/// What the first of these layers that has a name has of it.
+/// What the first of these layers that has a name has of it. The name is hashed once.
 pub fn lookup(text: &ModelText, layers: &Order, name: &Label) -> Binding
     requires { AllBelow (length text.now.spaces) layers.now }
     ensures { let member = first_with text.now (own_member text.now name.now) layers.now in
         IsBinding text.now name.now result member }
 {
+    lookup_by(text, layers, &Hashed::new(name))
+}
+
+/// The same for a name whose hash is known.
+pub fn lookup_by(text: &ModelText, layers: &Order, name: &Hashed<&Label>) -> Binding
+    requires { AllBelow (length text.now.spaces) layers.now }
+    ensures { let member = first_with text.now (own_member text.now name.now.now) layers.now in
+        IsBinding text.now name.now.now result member }
+{
     for s in layers.as_slice() {
-        match text.kind(*s, name) {
+        match text.kind_by(*s, name) {
             Some(kind) => return bound_as(kind, *s),
             None => {}
         }

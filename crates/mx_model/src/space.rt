@@ -9,6 +9,7 @@ use mx_code::compiled::{Compiled, CompiledParams};
 use mx_edit::reference::RefValue;
 use mx_list::list::List;
 use mx_list::shared::Shared;
+use mx_members::hashed::Hashed;
 use mx_members::members::Members;
 use mx_value::label::Label;
 use mx_value::node::Path;
@@ -85,7 +86,14 @@ impl Space {
     pub fn cells(&self, name: &Label) -> Option<&Cells>
         ensures { option_copied result ≡ cells_of self.now name.now }
     {
-        self.cells.get().get(name)
+        self.cells_by(&Hashed::new(name))
+    }
+
+    /// The cells of a name whose hash is known.
+    pub fn cells_by(&self, name: &Hashed<&Label>) -> Option<&Cells>
+        ensures { option_copied result ≡ cells_of self.now name.now.now }
+    {
+        self.cells.get().get_by(name)
     }
 
     /// Whether the cells of a name may give None. False where there are none.
@@ -102,7 +110,14 @@ impl Space {
     pub fn reference(&self, name: &Label) -> Option<&RefValue>
         ensures { option_copied result ≡ lookup (same_name name.now) self.now.references }
     {
-        self.references.get().get(name)
+        self.reference_by(&Hashed::new(name))
+    }
+
+    /// The reference of a name whose hash is known.
+    pub fn reference_by(&self, name: &Hashed<&Label>) -> Option<&RefValue>
+        ensures { option_copied result ≡ lookup (same_name name.now.now) self.now.references }
+    {
+        self.references.get().get_by(name)
     }
 
     pub fn params(&self) -> Option<&CompiledParams>

@@ -20,6 +20,7 @@ use mx_edit::table::Table;
 use mx_list::list::List;
 use mx_list::shared::Shared;
 use mx_members::chunks::Chunks;
+use mx_members::hashed::Hashed;
 use mx_members::keys::Keys;
 use mx_members::members::Members;
 use mx_members::share::Share;
@@ -159,6 +160,14 @@ impl ModelText {
         self.space(s).cells(name)
     }
 
+    /// The same for a name whose hash is known.
+    pub fn cells_by(&self, s: SpaceId, name: &Hashed<&Label>) -> Option<&Cells>
+        requires { s.0 < length self.now.spaces }
+        ensures { option_copied result ≡ cells_in self.now s name.now.now }
+    {
+        self.space(s).cells_by(name)
+    }
+
     /// Whether the formula of a space's own cells may give None. False where there are no such cells.
     pub fn allows_none(&self, s: SpaceId, name: &Label) -> bool
         requires { s.0 < length self.now.spaces }
@@ -186,15 +195,15 @@ impl ModelText {
         self.space(s).params()
     }
 
-    /// What a space has itself under a name.
-    pub fn kind(&self, s: SpaceId, name: &Label) -> Option<Kind>
+    /// What a space has itself under a name whose hash is known.
+    pub fn kind_by(&self, s: SpaceId, name: &Hashed<&Label>) -> Option<Kind>
         requires { s.0 < length self.now.spaces }
-        ensures { result ≡ kind_in self.now s name.now }
+        ensures { result ≡ kind_in self.now s name.now.now }
     {
         let Some(kinds) = self.kinds.get(s.0 as usize) else {
             unreachable!()
         };
-        kinds.get().get(name).copied()
+        kinds.get().get_by(name).copied()
     }
 
     /// An own reference of a space.
@@ -203,6 +212,14 @@ impl ModelText {
         ensures { option_copied result ≡ reference_in self.now s name.now }
     {
         self.space(s).reference(name)
+    }
+
+    /// The same for a name whose hash is known.
+    pub fn reference_by(&self, s: SpaceId, name: &Hashed<&Label>) -> Option<&RefValue>
+        requires { s.0 < length self.now.spaces }
+        ensures { option_copied result ≡ reference_in self.now s name.now.now }
+    {
+        self.space(s).reference_by(name)
     }
 
     /// A reference of the model.

@@ -24,7 +24,8 @@ use mx_code::compiled::CompiledParams;
 use mx_edit::reference::RefValue;
 use mx_edit::table::Table;
 use mx_list::shared::Shared;
-use mx_model::lookup::{Binding, first_params, lookup};
+use mx_members::hashed::Hashed;
+use mx_model::lookup::{Binding, first_params, lookup_by};
 use mx_model::text::ModelText;
 use mx_paths::refusal::PathsRefusal;
 use mx_paths::table::Paths;
@@ -163,7 +164,7 @@ impl World {
         ensures { told_name result ≡ key_result self.now (key.Name path.now name.now) }
     {
         match self.layers_of(path) {
-            Some(layers) => return name_in(&self.text, layers, name),
+            Some(layers) => return name_in(&self.text, layers, &Hashed::new(name)),
             None => return Bound::Missing,
         }
     }
@@ -173,7 +174,7 @@ impl World {
         ensures { told_cells result ≡ key_result self.now (key.Cells path.now name.now) }
     {
         match self.layers_of(path) {
-            Some(layers) => return cells_in(&self.text, layers, name),
+            Some(layers) => return cells_in(&self.text, layers, &Hashed::new(name)),
             None => return None,
         }
     }
@@ -192,11 +193,11 @@ impl World {
 }
 
 /// What layers bind a name to.
-fn name_in<'a>(text: &'a ModelText, layers: &Order, name: &Label) -> Bound<'a>
+fn name_in<'a>(text: &'a ModelText, layers: &Order, name: &Hashed<&Label>) -> Bound<'a>
     requires { AllBelow (length text.now.spaces) layers.now }
-    ensures { told_name result ≡ bound_to (first_with text.now (own_member text.now name.now) layers.now) }
+    ensures { told_name result ≡ bound_to (first_with text.now (own_member text.now name.now.now) layers.now) }
 {
-    match lookup(text, layers, name) {
+    match lookup_by(text, layers, name) {
         Binding::CellsHere { owner: _ } => return Bound::CellsHere,
         Binding::Child => return Bound::Child,
         Binding::Ref { owner } => return Bound::Ref(reference_of(text, owner, name)),
@@ -205,12 +206,16 @@ fn name_in<'a>(text: &'a ModelText, layers: &Order, name: &Label) -> Bound<'a>
 }
 
 /// The reference of a space.
-fn reference_of<'a>(text: &'a ModelText, owner: SpaceId, name: &Label) -> BoundReference<'a>
+fn reference_of<'a>(
+    text: &'a ModelText,
+    owner: SpaceId,
+    name: &Hashed<&Label>,
+) -> BoundReference<'a>
     requires within { owner.0 < length text.now.spaces }
-    requires of_kind { kind_in text.now owner name.now ≡ Some kind.Reference }
-    ensures { found.Ref result.value.now result.owner.now ≡ bound_to (member_in text.now owner name.now) }
+    requires of_kind { kind_in text.now owner name.now.now ≡ Some kind.Reference }
+    ensures { found.Ref result.value.now result.owner.now ≡ bound_to (member_in text.now owner name.now.now) }
 {
-    let Some(value) = text.reference(owner, name) else {
+    let Some(value) = text.reference_by(owner, name) else {
         unreachable!()
     };
     BoundReference {
@@ -220,11 +225,15 @@ fn reference_of<'a>(text: &'a ModelText, owner: SpaceId, name: &Label) -> BoundR
 }
 
 /// The cells that layers bind to a name.
-fn cells_in<'a>(text: &'a ModelText, layers: &Order, name: &Label) -> Option<BoundCells<'a>>
+fn cells_in<'a>(
+    text: &'a ModelText,
+    layers: &Order,
+    name: &Hashed<&Label>,
+) -> Option<BoundCells<'a>>
     requires { AllBelow (length text.now.spaces) layers.now }
-    ensures { told_cells result ≡ formula_of (first_with text.now (own_member text.now name.now) layers.now) }
+    ensures { told_cells result ≡ formula_of (first_with text.now (own_member text.now name.now.now) layers.now) }
 {
-    match lookup(text, layers, name) {
+    match lookup_by(text, layers, name) {
         Binding::CellsHere { owner } => return Some(cells_of(text, owner, name)),
         Binding::Child => return None,
         Binding::Ref { owner: _ } => return None,
@@ -233,12 +242,12 @@ fn cells_in<'a>(text: &'a ModelText, layers: &Order, name: &Label) -> Option<Bou
 }
 
 /// The cells of a space.
-fn cells_of<'a>(text: &'a ModelText, owner: SpaceId, name: &Label) -> BoundCells<'a>
+fn cells_of<'a>(text: &'a ModelText, owner: SpaceId, name: &Hashed<&Label>) -> BoundCells<'a>
     requires within { owner.0 < length text.now.spaces }
-    requires of_kind { kind_in text.now owner name.now ≡ Some kind.Cells }
-    ensures { found.Formula result.formula.now result.allow_none ≡ formula_of (member_in text.now owner name.now) }
+    requires of_kind { kind_in text.now owner name.now.now ≡ Some kind.Cells }
+    ensures { found.Formula result.formula.now result.allow_none ≡ formula_of (member_in text.now owner name.now.now) }
 {
-    let Some(cells) = text.cells(owner, name) else {
+    let Some(cells) = text.cells_by(owner, name) else {
         unreachable!()
     };
     BoundCells {

@@ -6,13 +6,13 @@ use Rattle.mx_model.specs.declared.lookup.Binding.{Binding}
 use Rattle.mx_model.specs.Binding.{Member, own_member, first_with}
 use Rattle.mx_model.specs.Lookup.{IsBinding, bound_as}
 use Rattle.mx_model.proofs.LookupLemmas.{none_passed, some_taken}
-use Rattle.mx_model.proofs.lookup.lookup.Goals as goal
+use Rattle.mx_model.proofs.lookup.lookup_by.Goals as goal
 
 abbrev first : SpaceId
 first = record { 0 = 0 }
 
-pub kind-requires : goal.kind-requires
-kind-requires c =
+pub kind_by-requires : goal.kind_by-requires
+kind_by-requires c =
     let items = c.as_slice-s-items.result.now in
     let s = get_or items c.loop-s.s-index first in
     let P : List SpaceId → Type 0 = λ xs. Has xs s in
@@ -21,7 +21,7 @@ kind-requires c =
 pub returns-in-Some : goal.returns-in-Some
 returns-in-Some c =
     let text = c.args.text.now in
-    let name = c.args.name.now in
+    let name = c.args.name.now.now in
     let items = c.as_slice-s-items.result.now in
     let s = get_or items c.loop-s.s-index first in
     let P : List SpaceId → Type 0 = λ xs. Has xs s in
@@ -33,4 +33,4 @@ returns-in-Some c =
 
 pub loop-s-preserved : goal.loop-s-preserved
 loop-s-preserved c =
-    c.loop-s.invariant ∙ none_passed c.args.text.now c.args.name.now c.as_slice-s-items.result.now c.loop-s.s-index first c.loop-s-test.true c.in-None.ensures
+    c.loop-s.invariant ∙ none_passed c.args.text.now c.args.name.now.now c.as_slice-s-items.result.now c.loop-s.s-index first c.loop-s-test.true c.in-None.ensures

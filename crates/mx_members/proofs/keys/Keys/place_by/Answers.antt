@@ -2,7 +2,7 @@ use Rattle.std.proofs.Common.{◌+◌, ◌-◌, ◌++◌, ◌∙◌, length, ap,
 use Rattle.std.proofs.lemmas.List.{length-append}
 use Rattle.mx_members.specs.Places.{place}
 use Rattle.mx_members.proofs.MemberLemmas.{place_in_base, place_in_middle, place_in_top, place_nowhere}
-use Rattle.mx_members.proofs.keys.Keys.place.Goals as goal
+use Rattle.mx_members.proofs.keys.Keys.place_by.Goals as goal
 
 pub returns-in-Some : goal.returns-in-Some
 returns-in-Some g c =
