@@ -15,9 +15,9 @@ use std::marker::Model;
 
 /// Keys, each once, in order of their coming.
 ///
-/// They stand in two sets and in a short list behind them, which copies share. A copy joins the list with the set before it once it
-/// has passed that one's root, and joins all three once the last two are long beside the first. The list is looked through, since to
-/// copy a set hashes its keys.
+/// They stand beside their hashes in two sets and in a short list behind them, which copies share. A copy joins the list with the
+/// set before it once it has passed twice that one's root, and joins all three once the last two are long beside the first. The list
+/// is looked through, hashes first.
 #[derive(Drop)]
 pub struct Keys<K: Eq + Hash> {
     base: Shared<IndexSet<Hashed<K>>>,
@@ -102,16 +102,18 @@ impl<K: Eq + Hash + Share> Keys<K> {
         })
     }
 
-    /// Whether the list has passed the root of the set before it.
+    /// Whether the list has passed twice the root of the set before it.
     fn is_last_long(&self) -> bool {
         let last = self.last.len();
-        last > 16 && self.middle.get().len() / last < last
+        last > 16 && self.middle.get().len() / last < last / 4
     }
 
-    /// Whether what stands behind the first set has passed eight times its root.
+    /// Whether what stands behind the first set, to the third power, has passed 16 times the square of that one's length. So a key
+    /// that comes costs the fewest copies of others.
     fn is_base_short(&self) -> bool {
         let behind = self.middle.get().len().saturating_add(self.last.len());
-        behind > 64 && self.base.get().len() / behind < behind / 64
+        let times = self.base.get().len() / behind.max(1);
+        behind > 64 && times.saturating_mul(times) < behind / 16
     }
 
     /// All keys in one set.
