@@ -1,12 +1,13 @@
 -- What the loops over chains rely on: each of their parts takes a token.
-use Rattle.std.proofs.Common.{◌≡◌, ℕ, ◌<◌, ◌≤◌, Bool, true, false, ◌||◌, List, [], ◌∷◌, length, Ok, Err, refl, sym, ap, ◌∙◌, arith}
+use Rattle.std.proofs.Common.{◌≡◌, ◌≢◌, ℕ, true, false, List, length, Result, Ok, Err, IsErrAnd, sym, ap, ◌∙◌, arith}
 use Rattle.mx_syntax.specs.declared.expr.Expr.{Expr}
 use Rattle.mx_syntax.specs.declared.expr.Arm.{Arm}
 use Rattle.mx_grammar.specs.declared.word.Symbol.TheVariants as symbol
 use Rattle.mx_grammar.specs.declared.trouble.Trouble.{Trouble}
+use Rattle.mx_grammar.specs.declared.trouble.Trouble.TheVariants.{NoMemory}
 use Rattle.mx_grammar.specs.Words.{is}
-use Rattle.mx_grammar.specs.Reading.{Words, Outcome, Parser, and_then, ◌>>=◌, ◌>>◌, pure, sees, expect, says}
-use Rattle.mx_grammar.proofs.Exact.{Kinds, Exists, bind_ok, ok_pair}
+use Rattle.mx_grammar.specs.Reading.{Words, Outcome, Parser, Reads, and_then, ◌>>=◌, ◌>>◌, pure, sees, expect, says}
+use Rattle.mx_grammar.proofs.Exact.{Exists, bind_ok, ok_pair}
 use Rattle.mx_grammar.proofs.Meets.{Shorter, accept_shorter}
 use Rattle.mx_grammar.proofs.Lists.{exact_shorter}
 use Rattle.mx_grammar.proofs.LoopCode.{Within}
@@ -15,11 +16,12 @@ use Rattle.mx_expression.specs.Chains.{Product, Sum, Compare, Not, And}
 use Rattle.mx_expression.specs.Expressions.{Ors, Expressions}
 use Rattle.mx_expression.specs.ChainParsers as spec
 use Rattle.mx_expression.specs.ChainParsers.{product_part, sum_part, comparison, and_part, or_part, Armed, choice, choice_of, armed, conditional_of}
-use Rattle.mx_expression.specs.ExpressionParsers.{ors, signed, products, sums, compares, negations, conjunctions}
+use Rattle.mx_expression.specs.ExpressionParsers.{ors, signed, products, sums, negations, conjunctions}
 use Rattle.mx_expression.proofs.OperandRules.{signed_begins, some_signed}
 use Rattle.mx_expression.proofs.ChainRules.{Starts, product_part_rule, product_tail_begins, sum_part_rule, sum_tail_begins, comparison_rule, compare_tail_begins, and_part_rule, and_tail_begins, or_part_rule, or_tail_begins}
 use Rattle.mx_expression.proofs.ExpressionRules as rules
 use Rattle.mx_expression.proofs.ExpressionRules.{or_level, signed_level, some_product, some_sum, some_negation, some_conjunction}
+use Rattle.mx_expression.proofs.ManyCode.{reads_err}
 use Rattle.mx_grammar.proofs.Gather.{gather_more, gather_err, gather_done}
 
 module _ (d : ℕ) where
@@ -78,22 +80,16 @@ finish s = pure (conditional_of s.arms s.last)
 abbrev pub finished : ℕ → List Arm → Expr → Parser Expr
 finished d arms last = λ ts. and_then (armed (ors d) (record { arms = arms; last = last }) ts) finish
 
-module _ (d : ℕ) (arms : List Arm) (last : Expr) where
-  abbrev so_far : Armed
-  so_far = record { arms = arms; last = last }
+module _ (d : ℕ) (arms : List Arm) (last : Expr) (ts : Words) (o : Outcome Expr) (so_far : finished d arms last ts ≡ o) where
+  abbrev before : Armed
+  before = record { arms = arms; last = last }
 
-  pub arms_more : (c : Expr × Expr) (ts rest : Words) → sees (is symbol.If) ts ≡ true → choice (ors d) ts ≡ Ok (c, rest)
-      → finished d arms last ts ≡ and_then (armed (ors d) (spec.with_choice so_far c) rest) finish
-  arms_more c ts rest h k = ap (λ (o : Outcome Armed). and_then o finish) (gather_more (is symbol.If) (choice (ors d)) spec.with_choice (choice_shorter d) so_far c ts rest h k)
+  pub arms_fail : (e : Trouble) (r : Result Expr Trouble) (rest : Words) → IsErrAnd r (λ f. f ≡ e) → sees (is symbol.If) ts ≡ true → (e ≢ NoMemory → choice (ors d) ts ≡ Err e) → Reads o r rest
+  arms_fail e r rest errs h k =
+      reads_err o e r rest errs (λ n. sym so_far ∙ ap (λ (p : Outcome Armed). and_then p finish) (gather_err (is symbol.If) (choice (ors d)) spec.with_choice (choice_shorter d) before ts e h (k n)))
 
-  pub arms_fail : (ts : Words) (e : Trouble) → sees (is symbol.If) ts ≡ true → choice (ors d) ts ≡ Err e → finished d arms last ts ≡ Err e
-  arms_fail ts e h k = ap (λ (o : Outcome Armed). and_then o finish) (gather_err (is symbol.If) (choice (ors d)) spec.with_choice (choice_shorter d) so_far ts e h k)
+  pub arms_more : (c : Expr × Expr) (rest : Words) → sees (is symbol.If) ts ≡ true → choice (ors d) ts ≡ Ok (c, rest) → and_then (armed (ors d) (spec.with_choice before c) rest) finish ≡ o
+  arms_more c rest h k = sym (ap (λ (p : Outcome Armed). and_then p finish) (gather_more (is symbol.If) (choice (ors d)) spec.with_choice (choice_shorter d) before c ts rest h k)) ∙ so_far
 
-  pub arms_end : (ts : Words) → sees (is symbol.If) ts ≡ false → finished d arms last ts ≡ Ok (conditional_of arms last, ts)
-  arms_end ts h = ap (λ (o : Outcome Armed). and_then o finish) (gather_done (is symbol.If) (choice (ors d)) spec.with_choice (choice_shorter d) so_far ts h)
-
--- ---- tests of the next token
-
-pub sees_or : (F G : Kinds) (ts : Words) → sees (λ t. F t || G t) ts ≡ (sees F ts || sees G ts)
-sees_or F G [] = refl
-sees_or F G (t ∷ ts) = refl
+  pub arms_end : (x : Expr) → x ≡ conditional_of arms last → sees (is symbol.If) ts ≡ false → o ≡ Ok (x, ts)
+  arms_end x same h = rw same (sym so_far ∙ ap (λ (p : Outcome Armed). and_then p finish) (gather_done (is symbol.If) (choice (ors d)) spec.with_choice (choice_shorter d) before ts h))

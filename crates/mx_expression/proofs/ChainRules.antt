@@ -1,5 +1,5 @@
 -- The parsers of chains of operators are exact.
-use Rattle.std.proofs.Common.{◌≡◌, ℕ, zero, suc, ◌+◌, Bool, true, false, List, [], ◌∷◌, ◌++◌, length, refl, sym, ap, subst, ◌∙◌, append_assoc, arith, inl, inr}
+use Rattle.std.proofs.Common.{◌≡◌, ℕ, suc, ◌+◌, Bool, ◌||◌, true, false, List, [], ◌∷◌, ◌++◌, length, refl, sym, ap, subst, ◌∙◌, append_assoc, arith, inl, inr}
 use Rattle.std.proofs.lemmas.List.{append-nil}
 use Rattle.mx_syntax.specs.declared.expr.Expr.{Expr}
 use Rattle.mx_syntax.specs.declared.expr.Comparison.{Comparison}
@@ -15,18 +15,18 @@ use Rattle.mx_syntax.specs.declared.expr.ProductOp.TheVariants as products
 use Rattle.mx_grammar.specs.declared.word.Symbol.{Symbol as Symbols}
 use Rattle.mx_grammar.specs.declared.word.Symbol.TheVariants as symbol
 use Rattle.mx_grammar.specs.declared.word.Word.{Word}
-use Rattle.mx_grammar.specs.declared.word.Word.TheVariants.{Name, Int, Fix, Text, Symbol}
+use Rattle.mx_grammar.specs.declared.word.Word.TheVariants.{Symbol}
 use Rattle.mx_grammar.specs.Words.{is}
 use Rattle.mx_grammar.specs.Grammar.{Parts}
 use Rattle.mx_grammar.specs.Reading.{Words, Parser, ◌>>=◌, pure, sees}
 use Rattle.mx_grammar.proofs.Exact.{Rel, Kinds, Stops, none, or, stops_none, Exists, Nothing, Never, Then, Either}
 use Rattle.mx_grammar.proofs.Symbols.{here, apart, at, along}
-use Rattle.mx_grammar.proofs.Rules.{Knot, Rule, plain, pure_rule, refuse_rule, any_rule, then_rule, iff_rule, map_rule, choose_rule, behind_rule, Mark, mark_rule, Behind, marked, mark, mapped, mapping, sees_mark, some_mapped, some_then, some_behind, alone, single, alone_rule, some_alone, behind_is}
+use Rattle.mx_grammar.proofs.Rules.{Knot, Rule, plain, refuse_rule, any_rule, then_rule, iff_rule, map_rule, choose_rule, behind_rule, Mark, mark_rule, Behind, marked, mark, mapped, mapping, sees_mark, some_mapped, alone, single, alone_rule, some_alone, behind_is}
 use Rattle.mx_grammar.proofs.Lists.{BeginsWith, Chained, Chain, whole_chain_rule}
 use Rattle.mx_expression.specs.Chains.{ProductSign, ProductTail, Product, SumSign, SumTail, Sum, CompareSign, CompareTail, Compare, Nots, Not, AndTail, And, OrTail, Or}
 use Rattle.mx_expression.specs.ChainParsers as spec
 use Rattle.mx_expression.specs.ChainParsers.{one_of, product_op, product_part, product, sum_op, sum_part, sum, compare_op, none_test, comparison, compare, negated, and_part, both, or_part, either}
-use Rattle.mx_expression.proofs.TokenKinds.{after_signed, begins_signed, begins}
+use Rattle.mx_expression.proofs.TokenKinds.{begins_signed, begins, after_signed, after_product, after_sum, after_compare, after_and, after_or}
 use Rattle.mx_grammar.proofs.Gather.{gathered, Gathered, gather_rule}
 
 -- ---- symbols that say something
@@ -92,9 +92,6 @@ module _ {A B : Type 0} (Sign : Rel A) (S : Rel Expr) (build : A → Expr → B)
 
 -- ---- products
 
-abbrev pub after_product : Kinds
-after_product = or spec.is_product after_signed
-
 product_off : (t : Word) → spec.is_product t ≡ true → after_signed t ≡ false
 product_off (Symbol symbol.Times) h = cc
 product_off _ h = cc
@@ -137,9 +134,6 @@ module _ {E : Type 0} {K : Knot E} {k : ℕ} {S : Rel Expr} {p : E → Parser Ex
 
 -- ---- sums
 
-abbrev pub after_sum : Kinds
-after_sum = or spec.is_sum after_product
-
 sum_off : (t : Word) → spec.is_sum t ≡ true → after_product t ≡ false
 sum_off (Symbol symbol.Plus) h = cc
 sum_off _ h = cc
@@ -177,9 +171,6 @@ module _ {E : Type 0} {K : Knot E} {k : ℕ} {S : Rel Expr} {p : E → Parser Ex
   sum_rule = whole_chain_rule (sum_chain S) spec.is_sum part sum_part_rule (sum_tail_begins S) sum_off
 
 -- ---- comparisons
-
-abbrev pub after_compare : Kinds
-after_compare = or spec.is_compare after_sum
 
 compare_off : (t : Word) → spec.is_compare t ≡ true → after_sum t ≡ false
 compare_off (Symbol symbol.Lt) h = cc
@@ -346,8 +337,7 @@ no_not (Symbol symbol.Not) h = cc
 no_not _ h = cc
 
 begins_too : (t : Word) → begins_signed t ≡ true → begins t ≡ true
-begins_too (Symbol symbol.Not) h = refl
-begins_too _ h = h
+begins_too t h = ap (λ (b : Bool). b || is symbol.Not t) h
 
 -- each spelling of a part begins an expression
 abbrev pub Begins : Rel Expr → Type 0
@@ -391,12 +381,6 @@ module _ {E : Type 0} {K : Knot E} {k : ℕ} {S : Rel Expr} {p : E → Parser Ex
 
 -- ---- and, or
 
-abbrev pub after_and : Kinds
-after_and = or (is symbol.And) after_compare
-
-abbrev pub after_either : Kinds
-after_either = or (is symbol.Or) after_and
-
 module _ (S : Rel Expr) where
   is_behind_and : (u : Words) (y : Expr) → AndTail S u y → Behind symbol.And S u y
   is_behind_and _ _ (AndTail.tail {u} {x} h) = mark symbol.And S u x h
@@ -439,6 +423,6 @@ module _ {E : Type 0} {K : Knot E} {k : ℕ} {S : Rel Expr} {p : E → Parser Ex
   unfolding or_part
   or_part_rule = iff_rule (behind_is symbol.Or S (OrTail S) (λ u x h. OrTail.tail h)) (is_behind_or S) (behind_rule symbol.Or refl some part)
 
-  pub or_rule : Rule K k (plain after_either) (Or S) (λ i. either (p i))
+  pub or_rule : Rule K k (plain after_or) (Or S) (λ i. either (p i))
   unfolding either
   or_rule = whole_chain_rule (or_chain S) (is symbol.Or) part or_part_rule (or_tail_begins S) (at symbol.Or after_and false refl)

@@ -1,15 +1,14 @@
 -- The parser of conditionals is exact.
-use Rattle.std.proofs.Common.{◌≡◌, ℕ, Bool, true, false, List, [], ◌∷◌, ◌++◌, refl, sym, ap, subst, ◌∙◌, append_assoc}
+use Rattle.std.proofs.Common.{◌≡◌, ℕ, true, false, List, [], ◌∷◌, ◌++◌, refl, sym, ap, subst, ◌∙◌, append_assoc}
 use Rattle.std.proofs.lemmas.List.{append-nil}
 use Rattle.mx_syntax.specs.declared.expr.Expr.{Expr}
 use Rattle.mx_syntax.specs.declared.expr.Arm.{Arm, roll-Arm}
 use Rattle.mx_grammar.specs.declared.word.Symbol.TheVariants as symbol
-use Rattle.mx_grammar.specs.declared.word.Word.{Word}
 use Rattle.mx_grammar.specs.declared.word.Word.TheVariants.{Symbol}
 use Rattle.mx_grammar.specs.Words.{is}
 use Rattle.mx_grammar.specs.Grammar.{Parts}
-use Rattle.mx_grammar.specs.Reading.{Words, Parser, ◌>>=◌, pure, sees}
-use Rattle.mx_grammar.proofs.Exact.{Rel, Kinds, Stops, or, Exists, Nothing, Then}
+use Rattle.mx_grammar.specs.Reading.{Words, Parser, sees}
+use Rattle.mx_grammar.proofs.Exact.{Rel, Kinds, or, Exists, Nothing, Then}
 use Rattle.mx_grammar.proofs.Symbols.{at}
 use Rattle.mx_grammar.proofs.Rules.{Knot, Rule, plain, then_rule, iff_rule, map_rule, behind_rule, Behind, marked, mark, mapped, mapping, sees_mark, some_mapped, some_then, some_behind, reached_rule}
 use Rattle.mx_grammar.proofs.Lists.{BeginsWith}

@@ -1,28 +1,25 @@
 -- The parser of expressions is exact, with brackets in any number of levels.
-use Rattle.std.proofs.Common.{◌≡◌, ℕ, zero, suc, ◌<◌, ◌≤◌, Bool, true, false, [], ◌∷◌, ◌++◌, refl, arith}
+use Rattle.std.proofs.Common.{◌≡◌, ℕ, zero, suc, ◌<◌, ◌≤◌, refl, arith}
 use Rattle.mx_syntax.specs.declared.expr.Expr.{Expr}
-use Rattle.mx_grammar.specs.declared.word.Symbol.TheVariants as symbol
-use Rattle.mx_grammar.specs.declared.word.Word.{Word}
-use Rattle.mx_grammar.specs.declared.word.Word.TheVariants.{Name, Int, Fix, Text, Symbol}
 use Rattle.mx_grammar.specs.Reading.{Words, Parser, line}
-use Rattle.mx_grammar.proofs.Exact.{Rel, Kinds, Stops, none, Exists, refuse_exact}
+use Rattle.mx_grammar.proofs.Exact.{Rel, Kinds, Exists, refuse_exact}
 use Rattle.mx_grammar.proofs.Meets.{none_meets}
-use Rattle.mx_grammar.proofs.Rules.{Knot, Rule, plain, stops_rule}
+use Rattle.mx_grammar.proofs.Rules.{Knot, Rule, plain}
 use Rattle.mx_grammar.proofs.Lists.{chain_begins, some_chain}
 use Rattle.mx_grammar.proofs.LoopCode.{Within as WithinText}
 use Rattle.mx_grammar.proofs.Lines.{line_rule, some_line}
 use Rattle.mx_grammar.proofs.Texts.{Exactly}
 use Rattle.mx_expression.specs.Operands.{SignedOf}
-use Rattle.mx_expression.specs.Chains.{Product, Sum, Compare, Not, And, Or, Conditional}
+use Rattle.mx_expression.specs.Chains.{Product, Sum, Compare, Not, And}
 use Rattle.mx_expression.specs.Expressions.{OrOf, Ors, Expressions, expression_text}
-use Rattle.mx_expression.specs.ChainParsers.{product, sum, compare, negated, both, either, or_from, conditional}
+use Rattle.mx_expression.specs.ChainParsers.{product, sum, compare, negated, both, or_from}
 use Rattle.mx_expression.specs.ExpressionParsers.{ors, expression, signed}
 use Rattle.mx_expression.proofs.TokenKinds as kinds
-use Rattle.mx_expression.proofs.TokenKinds.{after_signed, after_or, begins_signed}
+use Rattle.mx_expression.proofs.TokenKinds.{begins_signed, after_signed, after_product, after_sum, after_compare, after_and, after_or}
 use Rattle.mx_expression.proofs.OperandAtoms.{between, Brackets}
 use Rattle.mx_expression.proofs.OperandRules.{signed_rule, signed_begins, some_signed}
-use Rattle.mx_expression.proofs.ChainRules.{Starts, Begins, after_product, after_sum, after_compare, after_and, after_either, product_chain, product_rule, sum_chain, sum_rule, compare_chain, compare_rule, some_not, not_rule, not_begins, and_chain, and_rule, or_chain, or_rule}
-use Rattle.mx_expression.proofs.ConditionalRules.{after_conditional, conditional_rule, conditional_begins, has_part, some_conditional}
+use Rattle.mx_expression.proofs.ChainRules.{Starts, Begins, product_chain, product_rule, sum_chain, sum_rule, compare_chain, compare_rule, some_not, not_rule, not_begins, and_chain, and_rule, or_chain, or_rule}
+use Rattle.mx_expression.proofs.ConditionalRules.{conditional_rule, conditional_begins, has_part, some_conditional}
 
 -- what may not follow an expression, and what begins one
 abbrev pub follows : Kinds
@@ -30,25 +27,6 @@ follows = kinds.follows
 
 abbrev pub begins : Kinds
 begins = kinds.begins
-
--- ---- tokens
-
-ends_or : (t : Word) → after_or t ≡ false → after_either t ≡ false
-ends_or (Symbol symbol.Times) h = cc
-ends_or _ h = cc
-
-or_stops : (ts : Words) → Stops after_or ts → Stops after_either ts
-or_stops [] h = refl
-or_stops (t ∷ ts) h = ends_or t h
-
-ends_conditional : (t : Word) → follows t ≡ false → after_conditional after_or t ≡ false
-ends_conditional (Symbol symbol.If) h = absurd cc
-ends_conditional (Symbol _) h = h
-ends_conditional _ h = refl
-
-conditional_stops : (ts : Words) → Stops follows ts → Stops (after_conditional after_or) ts
-conditional_stops [] h = refl
-conditional_stops (t ∷ ts) h = ends_conditional t h
 
 -- ---- an `or` from its operands
 
@@ -95,7 +73,7 @@ module _ {E : Type 0} {K : Knot E} {k : ℕ} {S : Rel Expr} {p : E → Parser Ex
   boths = and_rule (some_negation some) negations
 
   or_of_rule : Rule K k (plain after_or) (OrOf S) (λ i. or_from (p i))
-  or_of_rule = stops_rule (λ u rest x h s. or_stops rest s) (or_rule (some_conjunction some) boths)
+  or_of_rule = or_rule (some_conjunction some) boths
 
 -- ---- all levels
 
@@ -128,7 +106,7 @@ none_at (suc d) e h = absurd (omega (arith, e))
 
 expression_rule : (d m : ℕ) → Rule (between d m) d (plain after_or) (Ors d) ors → Rule (between d m) d (plain follows) (Expressions d) expression
 unfolding expression
-expression_rule d m r = stops_rule (λ u rest x h s. conditional_stops rest s) (conditional_rule r refl refl)
+expression_rule d m r = conditional_rule r refl refl
 
 brackets_by : (d m : ℕ) → d ≤ m → Rule (between d m) d (plain after_or) (Ors d) ors → Brackets d m (Expressions d) (Ors d) expression ors
 brackets_by d m le r = record {

@@ -1,5 +1,5 @@
 -- The greatest of many counts, none above the greatest u32.
-use Rattle.std.proofs.Common.{◌≡◌, ℕ, suc, ◌+◌, ◌-◌, ◌^◌, ◌<◌, ◌≤◌, min, max, List, [], ◌∷◌, length, map, get_or, drop, refl, sym, ap, ◌∙◌, arith, drop-cons}
+use Rattle.std.proofs.Common.{◌≡◌, ℕ, suc, ◌+◌, ◌-◌, ◌^◌, ◌<◌, min, max, List, ◌∷◌, length, map, get_or, drop, sym, ap, ◌∙◌, arith, drop-cons}
 use Rattle.mx_expression.specs.Loops.{greatest}
 
 abbrev pub capped : ℕ → ℕ

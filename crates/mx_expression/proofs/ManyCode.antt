@@ -1,28 +1,22 @@
 -- The steps of a loop over parts, beside the parser that it computes.
-use Rattle.std.proofs.Common.{◌≡◌, Bool, true, false, cond, List, [], ◌∷◌, ◌++◌, Ok, Err, ap, ◌∙◌}
+use Rattle.std.proofs.Common.{◌≡◌, ◌≢◌, true, false, Result, Ok, Err, IsErrAnd, sym, ◌∙◌}
+use Rattle.std.proofs.lemmas.Result.{err_from_is_err_and}
 use Rattle.mx_grammar.specs.declared.trouble.Trouble.{Trouble}
-use Rattle.mx_grammar.specs.Reading.{Words, Outcome, Parser, and_then, pure, sees, Turn, On, Done, many_turn, turning}
+use Rattle.mx_grammar.specs.declared.trouble.Trouble.TheVariants.{NoMemory}
+use Rattle.mx_grammar.specs.Reading.{Words, Outcome, Parser, Reads, sees, turning}
 use Rattle.mx_grammar.proofs.Exact.{Kinds}
 use Rattle.mx_grammar.proofs.Meets.{Shorter}
-use Rattle.mx_grammar.proofs.Loops.{loop_on, loop_done, loop_err}
-use Rattle.mx_grammar.proofs.Lists.{many_shrinks}
+use Rattle.mx_grammar.proofs.Gather.{gather_turn, gather_more, gather_err, gather_done}
 
-module _ {A : Type 0} (is : Kinds) (item : Parser A) (short : Shorter item) where
-  abbrev goes_on : List A → A → Parser (Turn (List A) (List A))
-  goes_on found a = pure (On (found ++ a ∷ []))
+pub reads_err : {A : Type 0} (o : Outcome A) (e : Trouble) (r : Result A Trouble) (rest : Words) → IsErrAnd r (λ f. f ≡ e) → (e ≢ NoMemory → o ≡ Err e) → Reads o r rest
+reads_err o e r rest errs k = let p = err_from_is_err_and r errs in rw (p.1, p.2) k
 
-  abbrev by_kind : List A → Bool → Words → Outcome (Turn (List A) (List A))
-  by_kind found b ts = cond b (and_then (item ts) (goes_on found)) (Ok (Done found, ts))
+module _ {A S : Type 0} (is : Kinds) (P : Parser A) (add : S → A → S) (short : Shorter P) (s : S) (ts : Words) (o : Outcome S) (so_far : turning (gather_turn is P add) s ts ≡ o) where
+  pub part_fails : (e : Trouble) (r : Result S Trouble) (rest : Words) → IsErrAnd r (λ f. f ≡ e) → sees is ts ≡ true → (e ≢ NoMemory → P ts ≡ Err e) → Reads o r rest
+  part_fails e r rest errs here k = reads_err o e r rest errs (λ n. sym so_far ∙ gather_err is P add short s ts e here (k n))
 
-  pub many_more : (found : List A) (a : A) (ts r : Words) → sees is ts ≡ true → item ts ≡ Ok (a, r) → turning (many_turn is item) found ts ≡ turning (many_turn is item) (found ++ a ∷ []) r
-  many_more found a ts r h k =
-      loop_on (many_turn is item) (many_shrinks is item short) found (found ++ a ∷ []) ts r
-      (ap (λ (b : Bool). by_kind found b ts) h ∙ ap (λ (o : Outcome A). and_then o (goes_on found)) k)
+  pub part_more : (a : A) (t : S) (rest : Words) → t ≡ add s a → sees is ts ≡ true → P ts ≡ Ok (a, rest) → turning (gather_turn is P add) t rest ≡ o
+  part_more a t rest put here k = rw put (sym (gather_more is P add short s a ts rest here k) ∙ so_far)
 
-  pub many_ends : (found : List A) (ts : Words) → sees is ts ≡ false → turning (many_turn is item) found ts ≡ Ok (found, ts)
-  many_ends found ts h = loop_done (many_turn is item) (many_shrinks is item short) found found ts ts (ap (λ (b : Bool). by_kind found b ts) h)
-
-  pub many_fails : (found : List A) (ts : Words) (e : Trouble) → sees is ts ≡ true → item ts ≡ Err e → turning (many_turn is item) found ts ≡ Err e
-  many_fails found ts e h k =
-      loop_err (many_turn is item) (many_shrinks is item short) found ts e
-      (ap (λ (b : Bool). by_kind found b ts) h ∙ ap (λ (o : Outcome A). and_then o (goes_on found)) k)
+  pub parts_end : sees is ts ≡ false → o ≡ Ok (s, ts)
+  parts_end gone = sym so_far ∙ gather_done is P add short s ts gone

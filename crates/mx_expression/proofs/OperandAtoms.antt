@@ -1,26 +1,24 @@
 -- The parser of atoms is exact.
-use Rattle.std.proofs.Common.{◌≡◌, ℕ, suc, ◌<◌, ◌≤◌, ◌^◌, Bool, true, false, nat_lt, List, [], ◌∷◌, ◌++◌, Option, Some, pos, refl, sym, ap, subst, ◌∙◌, append_assoc, inl, inr}
-use Rattle.std.proofs.lemmas.Bool.Decides.{Decides-ltb}
+use Rattle.std.proofs.Common.{◌≡◌, ℕ, suc, ◌<◌, ◌≤◌, true, false, [], ◌∷◌, ◌++◌, Option, Some, pos, refl, sym, ap, subst, ◌∙◌, append_assoc, inl, inr}
 use Rattle.mx_value.specs.declared.value.Value.{Value}
 use Rattle.mx_value.specs.declared.value.Value.TheVariants as value
 use Rattle.mx_syntax.specs.declared.expr.Expr.{Expr}
 use Rattle.mx_syntax.specs.declared.expr.Expr.TheVariants as expr
-use Rattle.mx_grammar.specs.declared.word.Symbol.{Symbol as Symbols}
 use Rattle.mx_grammar.specs.declared.word.Symbol.TheVariants as symbol
 use Rattle.mx_grammar.specs.declared.word.Word.{Word}
 use Rattle.mx_grammar.specs.declared.word.Word.TheVariants.{Name, Int, Fix, Text, Symbol}
 use Rattle.mx_grammar.specs.Words.{is}
 use Rattle.mx_grammar.specs.Reading.{Words, Parser, sees}
-use Rattle.mx_grammar.specs.LiteralParsers.{fitting, constant, simple_of}
+use Rattle.mx_grammar.specs.LiteralParsers.{simple_of}
 use Rattle.mx_grammar.specs.AddressParsers.{name_of, is_name}
-use Rattle.mx_grammar.proofs.Exact.{Rel, Kinds, Stops, none, Exists, Nothing, Then, Either, One, Inner}
+use Rattle.mx_grammar.proofs.Exact.{Rel, Kinds, Stops, none, Exists, Nothing, Then, Either, One}
 use Rattle.mx_grammar.proofs.Symbols.{apart, unlike, unsaid}
-use Rattle.mx_grammar.proofs.Rules.{Knot, Rule, plain, pure_rule, accept_rule, then_rule, iff_rule, map_rule, choose_rule, behind_rule, open_rule, Behind, marked, mark, mapped, mapping, sees_mark, alone, single, alone_rule}
+use Rattle.mx_grammar.proofs.Rules.{Knot, Rule, plain, accept_rule, then_rule, iff_rule, map_rule, choose_rule, behind_rule, open_rule, Behind, marked, mark, mapped, mapping, sees_mark, alone, single, alone_rule}
 use Rattle.mx_grammar.proofs.Lists.{Closes, Others, others, some_others, others_are, others_rule}
 use Rattle.mx_grammar.proofs.AddressRules.{name_inner, one_name, named}
 use Rattle.mx_expression.specs.Operands.{Atom}
 use Rattle.mx_expression.specs.OperandParsers.{group_rest, group, atom}
-use Rattle.mx_expression.proofs.TokenKinds.{follows, after_or, begins}
+use Rattle.mx_expression.proofs.TokenKinds.{follows, after_or, begins, begins_atom}
 use Rattle.mx_grammar.proofs.LiteralRules.{Simple, simple_is, simple_one}
 
 -- a number of levels of brackets, and a greater one
@@ -40,18 +38,6 @@ pub record Brackets (d m : ℕ) (Inside In : Rel Expr) (inside inner : ℕ → P
   pub never : d ≡ 0 → (u : Words) (x : Expr) → Inside u x → ⊥
 
 -- ---- tokens
-
--- what begins an atom
-abbrev pub begins_atom : Word → Bool
-begins_atom (Name n) = true
-begins_atom (Int n) = true
-begins_atom (Fix z) = true
-begins_atom (Text t) = true
-begins_atom (Symbol symbol.None) = true
-begins_atom (Symbol symbol.True) = true
-begins_atom (Symbol symbol.False) = true
-begins_atom (Symbol symbol.OpenRound) = true
-begins_atom _ = false
 
 no_name : (t : Word) (v : Value) → simple_of t ≡ Some v → is_name t ≡ false
 no_name (Name n) v h = absurd cc

@@ -1,9 +1,7 @@
 -- What the loops over operands rely on: each of their parts takes a token.
-use Rattle.std.proofs.Common.{◌≡◌, ℕ, Bool, true, false, ◌||◌, [], ◌∷◌, refl}
+use Rattle.std.proofs.Common.{ℕ}
 use Rattle.mx_grammar.specs.declared.word.Symbol.TheVariants as symbol
 use Rattle.mx_grammar.specs.Words.{is}
-use Rattle.mx_grammar.specs.Reading.{Words, sees}
-use Rattle.mx_grammar.proofs.Exact.{Kinds}
 use Rattle.mx_grammar.proofs.Meets.{Shorter}
 use Rattle.mx_grammar.proofs.Lists.{exact_shorter}
 use Rattle.mx_grammar.proofs.LoopCode.{Within}
@@ -26,7 +24,3 @@ trailer_shorter d = exact_shorter begins_trailer (trailer_rule (brackets d)).exa
 
 pub part_shorter : (d : ℕ) → Shorter (power_part d (expression d) (ors d))
 part_shorter d = exact_shorter (is symbol.Power) (power_part_rule (brackets d)).exact (tail_begins (Expressions d) (Ors d))
-
-pub sees_or : (F G : Kinds) (ts : Words) → sees (λ t. F t || G t) ts ≡ (sees F ts || sees G ts)
-sees_or F G [] = refl
-sees_or F G (t ∷ ts) = refl

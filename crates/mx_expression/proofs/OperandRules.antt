@@ -1,51 +1,35 @@
 -- The parsers of powers and signs are exact.
-use Rattle.std.proofs.Common.{◌≡◌, ℕ, suc, true, false, List, [], ◌∷◌, ◌++◌, Ok, length, ◌≤◌, refl, sym, ap, subst, ◌∙◌, append_assoc, inl, inr}
+use Rattle.std.proofs.Common.{◌≡◌, ℕ, suc, Bool, ◌||◌, true, false, List, [], ◌∷◌, ◌++◌, refl, sym, ap, subst, ◌∙◌, append_assoc, inl, inr}
 use Rattle.std.proofs.lemmas.List.{append-nil}
 use Rattle.mx_syntax.specs.declared.expr.Expr.{Expr}
 use Rattle.mx_syntax.specs.declared.expr.Expr.TheVariants as expr
-use Rattle.mx_syntax.specs.declared.expr.Trailer.{Trailer}
 use Rattle.mx_syntax.specs.declared.expr.PowerPart.{PowerPart}
 use Rattle.mx_syntax.specs.declared.expr.Sign.{Sign}
 use Rattle.mx_syntax.specs.declared.expr.Sign.TheVariants as sign
 use Rattle.mx_grammar.specs.declared.word.Symbol.TheVariants as symbol
 use Rattle.mx_grammar.specs.declared.word.Word.{Word}
-use Rattle.mx_grammar.specs.declared.word.Word.TheVariants.{Name, Int, Fix, Text, Symbol}
+use Rattle.mx_grammar.specs.declared.word.Word.TheVariants.{Name, Symbol}
 use Rattle.mx_grammar.specs.Words.{is}
 use Rattle.mx_grammar.specs.Grammar.{Parts}
 use Rattle.mx_grammar.specs.Reading.{Words, Parser, sees}
-use Rattle.mx_grammar.proofs.Exact.{Rel, Kinds, Stops, none, or, Exists, Nothing, Then, Either}
+use Rattle.mx_grammar.proofs.Exact.{Rel, Stops, none, or, Exists, Nothing, Then, Either}
 use Rattle.mx_grammar.proofs.Symbols.{apart, at, along}
-use Rattle.mx_grammar.proofs.Rules.{Knot, Rule, plain, pure_rule, then_rule, iff_rule, stops_rule, map_rule, choose_rule, behind_rule, Behind, marked, mark, mapped, mapping, sees_mark, some_mapped, some_then, alone, single, alone_rule}
+use Rattle.mx_grammar.proofs.Rules.{Knot, Rule, plain, then_rule, iff_rule, map_rule, choose_rule, behind_rule, Behind, marked, mark, mapped, mapping, sees_mark, some_mapped, some_then, alone, single, alone_rule}
 use Rattle.mx_grammar.proofs.Lists.{BeginsWith, Chained, Chain, chain_begins, some_chain, whole_chain_rule, many_rule}
 use Rattle.mx_expression.specs.Operands.{Atom, Trailing, Post, OneSign, PowerTail, Power, SignedOf}
 use Rattle.mx_expression.specs.OperandParsers.{begins_trailer, is_sign, one_sign, post_of, power_of, signed_by, power_part_of, signs, post, power_part, power, signed_of}
-use Rattle.mx_expression.proofs.TokenKinds.{after_signed, begins_signed}
-use Rattle.mx_expression.proofs.OperandAtoms.{between, Brackets, begins_atom, atom_begins, atom_rule}
+use Rattle.mx_expression.proofs.TokenKinds.{begins_atom, begins_signed, after_post, after_signed}
+use Rattle.mx_expression.proofs.OperandAtoms.{between, Brackets, atom_begins, atom_rule}
 use Rattle.mx_expression.proofs.OperandTrailers.{trailing_begins, trailer_rule}
 
 -- ---- tokens
-
-abbrev after_post : Kinds
-after_post = or begins_trailer none
-
-abbrev after_power : Kinds
-after_power = or (is symbol.Power) after_post
 
 no_sign : (t : Word) → begins_atom t ≡ true → or is_sign none t ≡ false
 no_sign (Symbol symbol.Plus) h = cc
 no_sign _ h = cc
 
 atom_first : (t : Word) → begins_atom t ≡ true → begins_signed t ≡ true
-atom_first (Symbol symbol.None) h = cc
-atom_first _ h = cc
-
-ends_power : (t : Word) → after_signed t ≡ false → after_power t ≡ false
-ends_power (Symbol symbol.OpenRound) h = cc
-ends_power _ h = cc
-
-power_stops : (ts : Words) → Stops after_signed ts → Stops after_power ts
-power_stops [] h = refl
-power_stops (t ∷ ts) h = ends_power t h
+atom_first t h = ap (λ (b : Bool). b || is_sign t) h
 
 -- ---- signs
 
@@ -173,13 +157,12 @@ module _ {d m : ℕ} {Inside In : Rel Expr} {inside inner : ℕ → Parser Expr}
       (behind_rule symbol.Power refl (some_then (record { tokens = []; tree = []; spells = Parts.none }) (λ ss. some_mapped (power_part_of ss) (some_post Inside In)))
       (then_rule signs_rule (λ ss. map_rule (power_part_of ss) post_rule) (λ ss v rest y h s. part_stops Inside In (Post Inside In) (power_part_of ss) (post_begins Inside In) v rest y h) (λ ss. some_mapped (power_part_of ss) (some_post Inside In))))
 
-  pub power_rule : Rule (between d m) (suc d) (plain after_power) (Power Inside In) (λ i. power i (inside i) (inner i))
+  pub power_rule : Rule (between d m) (suc d) (plain after_signed) (Power Inside In) (λ i. power i (inside i) (inner i))
   unfolding power
   power_rule = whole_chain_rule (power_chain Inside In) (is symbol.Power) post_rule power_part_rule (tail_begins Inside In) (at symbol.Power after_post false refl)
 
   pub signed_rule : Rule (between d m) (suc d) (plain after_signed) (SignedOf Inside In) (λ i. signed_of i (inside i) (inner i))
   unfolding signed_of
   signed_rule =
-      stops_rule (λ u rest x h s. power_stops rest s)
-      (iff_rule (to_signed Inside In) (from_signed Inside In)
-      (then_rule signs_rule (λ ss. map_rule (signed_by ss) power_rule) (λ ss v rest y h s. part_stops Inside In (Power Inside In) (signed_by ss) (power_begins Inside In) v rest y h) (λ ss. some_mapped (signed_by ss) (some_power Inside In))))
+      iff_rule (to_signed Inside In) (from_signed Inside In)
+      (then_rule signs_rule (λ ss. map_rule (signed_by ss) power_rule) (λ ss v rest y h s. part_stops Inside In (Power Inside In) (signed_by ss) (power_begins Inside In) v rest y h) (λ ss. some_mapped (signed_by ss) (some_power Inside In)))

@@ -3,53 +3,52 @@ use Rattle.std.specs.Prelude.{Bool, true, false}
 use Rattle.mx_grammar.specs.declared.word.Symbol.TheVariants as symbol
 use Rattle.mx_grammar.specs.declared.word.Word.{Word}
 use Rattle.mx_grammar.specs.declared.word.Word.TheVariants.{Name, Int, Fix, Text, Symbol}
+use Rattle.mx_grammar.specs.Words.{is}
+use Rattle.mx_grammar.proofs.Exact.{Kinds, none, or}
+use Rattle.mx_expression.specs.OperandParsers.{begins_trailer, is_sign}
+use Rattle.mx_expression.specs.ChainParsers.{is_product, is_sum, is_compare}
+
+-- what begins an atom
+abbrev pub begins_atom : Word → Bool
+begins_atom (Name n) = true
+begins_atom (Int n) = true
+begins_atom (Fix z) = true
+begins_atom (Text t) = true
+begins_atom (Symbol symbol.None) = true
+begins_atom (Symbol symbol.True) = true
+begins_atom (Symbol symbol.False) = true
+begins_atom (Symbol symbol.OpenRound) = true
+begins_atom _ = false
 
 -- what begins an operand with its signs
-abbrev pub begins_signed : Word → Bool
-begins_signed (Name n) = true
-begins_signed (Int n) = true
-begins_signed (Fix z) = true
-begins_signed (Text t) = true
-begins_signed (Symbol symbol.None) = true
-begins_signed (Symbol symbol.True) = true
-begins_signed (Symbol symbol.False) = true
-begins_signed (Symbol symbol.OpenRound) = true
-begins_signed (Symbol symbol.Plus) = true
-begins_signed (Symbol symbol.Minus) = true
-begins_signed _ = false
+abbrev pub begins_signed : Kinds
+begins_signed = or begins_atom is_sign
 
-abbrev pub begins : Word → Bool
-begins (Symbol symbol.Not) = true
-begins t = begins_signed t
+abbrev pub begins : Kinds
+begins = or begins_signed (is symbol.Not)
 
-abbrev pub after_signed : Word → Bool
-after_signed (Symbol symbol.OpenRound) = true
-after_signed (Symbol symbol.OpenSquare) = true
-after_signed (Symbol symbol.Dot) = true
-after_signed (Symbol symbol.Power) = true
-after_signed _ = false
+-- what may not follow a part, by what it is a part of
+abbrev pub after_post : Kinds
+after_post = or begins_trailer none
 
-abbrev pub after_or : Word → Bool
-after_or (Symbol symbol.Times) = true
-after_or (Symbol symbol.Over) = true
-after_or (Symbol symbol.Floor) = true
-after_or (Symbol symbol.Rem) = true
-after_or (Symbol symbol.Plus) = true
-after_or (Symbol symbol.Minus) = true
-after_or (Symbol symbol.Lt) = true
-after_or (Symbol symbol.Le) = true
-after_or (Symbol symbol.Gt) = true
-after_or (Symbol symbol.Ge) = true
-after_or (Symbol symbol.Eq) = true
-after_or (Symbol symbol.Ne) = true
-after_or (Symbol symbol.In) = true
-after_or (Symbol symbol.Is) = true
-after_or (Symbol symbol.Not) = true
-after_or (Symbol symbol.And) = true
-after_or (Symbol symbol.Or) = true
-after_or t = after_signed t
+abbrev pub after_signed : Kinds
+after_signed = or (is symbol.Power) after_post
+
+abbrev pub after_product : Kinds
+after_product = or is_product after_signed
+
+abbrev pub after_sum : Kinds
+after_sum = or is_sum after_product
+
+abbrev pub after_compare : Kinds
+after_compare = or is_compare after_sum
+
+abbrev pub after_and : Kinds
+after_and = or (is symbol.And) after_compare
+
+abbrev pub after_or : Kinds
+after_or = or (is symbol.Or) after_and
 
 -- what may not follow a whole expression
-abbrev pub follows : Word → Bool
-follows (Symbol symbol.If) = true
-follows t = after_or t
+abbrev pub follows : Kinds
+follows = or (is symbol.If) after_or

@@ -1,32 +1,16 @@
-use Rattle.std.proofs.Common.{rules, arith, sym, ◌∙◌, ◌≡◌, ◌+◌, ◌<◌, true, false, length}
-use Rattle.std.proofs.lemmas.Grind.{common_steps}
-use Rattle.std.proofs.lemmas.Result.{err_from_is_err_and}
-use Rattle.mx_grammar.specs.Reading.{sees, expect}
-use Rattle.mx_grammar.specs.declared.word.Symbol.TheVariants.{Not}
-use Rattle.mx_grammar.specs.Words.{is}
-use Rattle.mx_expression.specs.ChainParsers.{one_more}
+use Rattle.std.proofs.Common.{rules}
+use Rattle.mx_expression.proofs.ManyCode.{part_fails, part_more, parts_end}
 use Rattle.mx_expression.proofs.ChainCode.{not_shorter}
 use Rattle.mx_expression.proofs.connective.nots.Goals as goal
-use Rattle.mx_grammar.proofs.Gather.{gather_more, gather_err, gather_done}
 
 pub returns-in_err-expect : goal.returns-in_err-expect
-returns-in_err-expect c =
-    let p = err_from_is_err_and c.from_residual.result c.from_residual.ensures.1 in
-    let here : sees (is Not) c.loop-tokens.tokens ≡ true = first_of (search rules, grind (arith, common_steps)) in
-    rw (p.1, p.2) (λ n. sym c.loop-tokens.invariant ∙ gather_err (is Not) (expect Not) one_more not_shorter c.loop-tokens.count c.loop-tokens.tokens c.in_err-expect.field-0.0 here (c.in_err-expect.ensures n))
+returns-in_err-expect c = part_fails _ _ _ not_shorter _ _ _ c.loop-tokens.invariant _ _ _ c.from_residual.ensures.1 (search rules) c.in_err-expect.ensures
 
 pub loop-tokens-smaller : goal.loop-tokens-smaller
-loop-tokens-smaller c =
-    let less : length c.expect.new.self < length c.loop-tokens.tokens = not_shorter c.loop-tokens.tokens c.expect.new.self tt c.in_ok-expect.ensures in
-    less
+loop-tokens-smaller c = not_shorter _ _ tt c.in_ok-expect.ensures
 
 pub loop-tokens-preserved : goal.loop-tokens-preserved
-loop-tokens-preserved c =
-    let here : sees (is Not) c.loop-tokens.tokens ≡ true = first_of (search rules, grind (arith, common_steps)) in
-    let counted : c.in-Some.more ≡ c.loop-tokens.count + 1 = first_of (search rules, grind (arith, common_steps)) in
-    rw counted (sym (gather_more (is Not) (expect Not) one_more not_shorter c.loop-tokens.count tt c.loop-tokens.tokens c.expect.new.self here c.in_ok-expect.ensures) ∙ c.loop-tokens.invariant)
+loop-tokens-preserved c = part_more _ _ _ not_shorter _ _ _ c.loop-tokens.invariant tt _ _ (search rules) (search rules) c.in_ok-expect.ensures
 
 pub returns : goal.returns
-returns c =
-    let gone : sees (is Not) c.loop-tokens.tokens ≡ false = first_of (search rules, grind (arith, common_steps)) in
-    sym c.loop-tokens.invariant ∙ gather_done (is Not) (expect Not) one_more not_shorter c.loop-tokens.count c.loop-tokens.tokens gone
+returns c = parts_end _ _ _ not_shorter _ _ _ c.loop-tokens.invariant (search rules)

@@ -1,31 +1,16 @@
-use Rattle.std.proofs.Common.{rules, arith, sym, ◌∙◌, ◌≡◌, true, false, ◌++◌, ◌∷◌, [], ◌<◌, length}
-use Rattle.std.proofs.lemmas.Grind.{common_steps}
-use Rattle.std.proofs.lemmas.Result.{err_from_is_err_and}
-use Rattle.mx_grammar.specs.Reading.{sees}
-use Rattle.mx_expression.specs.ChainParsers.{is_product, product_part}
-use Rattle.mx_expression.specs.ExpressionParsers.{signed}
-use Rattle.mx_expression.proofs.ManyCode.{many_more, many_ends, many_fails}
+use Rattle.std.proofs.Common.{rules}
+use Rattle.mx_expression.proofs.ManyCode.{part_fails, part_more, parts_end}
 use Rattle.mx_expression.proofs.ChainCode.{product_shorter}
 use Rattle.mx_expression.proofs.operand.Operands.product_parts.Goals as goal
 
 pub returns-in_err-product_part : goal.returns-in_err-product_part
-returns-in_err-product_part g c =
-    let p = err_from_is_err_and c.from_residual.result c.from_residual.ensures.1 in
-    let here : sees is_product c.loop-found.tokens ≡ true = first_of (search rules, grind (arith, common_steps)) in
-    rw (p.1, p.2) (λ n. sym c.loop-found.invariant ∙ many_fails is_product (product_part (signed c.args.self.now.levels)) (product_shorter c.args.self.now.levels) c.loop-found.found c.loop-found.tokens c.in_err-product_part.field-0.0 here (c.in_err-product_part.ensures n))
+returns-in_err-product_part g c = part_fails _ _ _ (product_shorter c.args.self.now.levels) _ _ _ c.loop-found.invariant _ _ _ c.from_residual.ensures.1 (search rules) c.in_err-product_part.ensures
 
 pub loop-found-smaller : goal.loop-found-smaller
-loop-found-smaller g c =
-    let less : length c.product_part.new.tokens < length c.loop-found.tokens = product_shorter c.args.self.now.levels c.loop-found.tokens c.product_part.new.tokens c.in_ok-product_part.field-0 c.in_ok-product_part.ensures in
-    less
+loop-found-smaller g c = product_shorter c.args.self.now.levels _ _ _ c.in_ok-product_part.ensures
 
 pub loop-found-preserved : goal.loop-found-preserved
-loop-found-preserved g c =
-    let here : sees is_product c.loop-found.tokens ≡ true = first_of (search rules, grind (arith, common_steps)) in
-    let pushed : c.push.new.self ≡ c.loop-found.found ++ c.in_ok-product_part.field-0 ∷ [] = first_of (search rules, grind (arith, common_steps)) in
-    rw pushed (sym (many_more is_product (product_part (signed c.args.self.now.levels)) (product_shorter c.args.self.now.levels) c.loop-found.found c.in_ok-product_part.field-0 c.loop-found.tokens c.product_part.new.tokens here c.in_ok-product_part.ensures) ∙ c.loop-found.invariant)
+loop-found-preserved g c = part_more _ _ _ (product_shorter c.args.self.now.levels) _ _ _ c.loop-found.invariant _ _ _ (search rules) (search rules) c.in_ok-product_part.ensures
 
 pub returns : goal.returns
-returns g c =
-    let gone : sees is_product c.loop-found.tokens ≡ false = first_of (search rules, grind (arith, common_steps)) in
-    sym c.loop-found.invariant ∙ many_ends is_product (product_part (signed c.args.self.now.levels)) (product_shorter c.args.self.now.levels) c.loop-found.found c.loop-found.tokens gone
+returns g c = parts_end _ _ _ (product_shorter c.args.self.now.levels) _ _ _ c.loop-found.invariant (search rules)
