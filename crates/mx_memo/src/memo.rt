@@ -5,6 +5,7 @@ ghost use Rattle.mx_vertices.specs.Places.{Has};
 ghost use Rattle.mx_vertices.specs.Kept.{looked, asked, IsHeld, IsTouched, HasChanged, IsToGo, Sifts};
 ghost use Rattle.mx_vertices.specs.Held.{entry_with};
 ghost use Rattle.mx_vertices.specs.Reading.{LookedUp, Asked, AreTakers};
+ghost use Rattle.mx_vertices.specs.Walks.{AreKeysOf, AreHeldKeys};
 ghost use Rattle.mx_vertices.specs.Stamps.{NoneAfter, IsNextAfter, IsHeldSince, renumbered};
 ghost use Rattle.mx_vertices.specs.Found.{HasCome, IsHeldAs, IsHeldWith, IsNew};
 ghost use Rattle.mx_memo.specs.Namespaces.{namespace_held};
@@ -17,10 +18,11 @@ use mx_graph::{NoMemory, NodeId, ReadGraph};
 use mx_list::shared::Shared;
 use mx_value::namespace::Namespace;
 use mx_value::node::Node;
+use mx_vertices::along::Readers;
 use mx_vertices::drops::{drop_after, drop_changed, drop_one, drop_where};
 use mx_vertices::finding::{Table, begin_in, end_as, end_in, holds_node, node_laws};
 use mx_vertices::holding::{hold_with, vertices_of};
-use mx_vertices::inputs::{find_held, node_of_input};
+use mx_vertices::inputs::find_held;
 use mx_vertices::settle::settle;
 use mx_vertices::slot::{Body, Slot};
 use mx_vertices::stamps::{first_from, place_at};
@@ -28,9 +30,10 @@ use mx_vertices::standing::Standing;
 use mx_vertices::test_of_key::KeyTest;
 use mx_vertices::test_of_node::NodeTest;
 use mx_vertices::vertices::{body_at, namespace_at};
-use mx_vertices::walks::{asks_at, key_readers, keys_at, readers_at};
+use mx_vertices::walks::{AllKeys, Asks, HeldKeys, keys_at};
 use std::alloc::Global;
 use std::collections::HashMap;
+use std::iter::Iterator;
 use std::marker::Model;
 
 /// The most nodes that are held.
@@ -196,8 +199,17 @@ impl Memo {
         Some(place + 1)
     }
 
-    /// The keys that the run of a held node looked up, in order of first occurrence: that of its own input first, where the
-    /// node is static, and then those that it was held with.
+    /// The keys that a held node was held with, in order: those that its run looked up, but for that of its own input, which a
+    /// static node looks up first. Takes no memory.
+    pub fn keys(&self, id: NodeId) -> HeldKeys<'_>
+        requires { IsHeld self.now.held id.at }
+        ensures { AreKeysOf self.now.held id.at result }
+    {
+        HeldKeys::of(&self.graph, &self.slots, id)
+    }
+
+    /// A copy of the keys that the run of a held node looked up, in order of first occurrence: that of its own input first, where
+    /// the node is static, and then those that it was held with.
     pub fn keys_of(&self, alloc: Global, id: NodeId) -> Result<Vec<Key>, NoMemory>
         requires { IsHeld self.now.held id.at }
         ensures { IfOk result (λ keys. LookedUp self.now.held id.at keys.items) }
@@ -205,34 +217,61 @@ impl Memo {
         keys_at(alloc, &self.graph, &self.slots, id)
     }
 
-    /// The held nodes that the run of a held node asked, each once and in order of first occurrence.
+    /// The held nodes that the run of a held node asked, each once and in order of first occurrence. Takes no memory.
+    pub fn asks(&self, id: NodeId) -> Asks<'_>
+        requires { IsHeld self.now.held id.at }
+        ensures { Asked self.now.held id.at result }
+    {
+        Asks::of(&self.graph, &self.slots, id)
+    }
+
+    /// A copy of what `asks` gives.
     pub fn asks_of(&self, alloc: Global, id: NodeId) -> Result<Vec<NodeId>, NoMemory>
         requires { IsHeld self.now.held id.at }
         ensures { IfOk result (λ ids. Asked self.now.held id.at ids.items) }
     {
-        asks_at(alloc, &self.graph, &self.slots, id)
+        Ok(self.asks(id).collect(alloc)?)
     }
 
-    /// The held nodes whose runs looked a key up. Where the key is that of an input, the input's own node is among them.
+    /// The held nodes whose runs looked a key up. Where the key is that of an input, the input's own node is among them. Takes no
+    /// memory.
+    pub fn readers(&self, key: &Key) -> Readers<'_>
+        ensures { AreTakers self.now.held (looked key.now) result }
+    {
+        self.graph.relation();
+        Readers::of_key(&self.graph, &self.slots, &self.table, key)
+    }
+
+    /// A copy of what `readers` gives.
     pub fn readers_of(&self, alloc: Global, key: &Key) -> Result<Vec<NodeId>, NoMemory>
         ensures { IfOk result (λ ids. AreTakers self.now.held (looked key.now) ids.items) }
     {
-        self.graph.relation();
-        let mut ids = key_readers(alloc, &self.graph, &self.slots, &self.table.keys, key)?;
-        let Some(id) = node_of_input(&self.slots, &self.table.nodes, key) else {
-            return Ok(ids);
-        };
-        ids.push(id)?;
-        Ok(ids)
+        Ok(self.readers(key).collect(alloc)?)
     }
 
-    /// The held nodes whose runs asked a held node.
+    /// The held nodes whose runs asked a held node. Takes no memory.
+    pub fn askers(&self, id: NodeId) -> Readers<'_>
+        requires { IsHeld self.now.held id.at }
+        ensures { AreTakers self.now.held (asked id.at) result }
+    {
+        self.graph.relation();
+        Readers::of(&self.graph, id)
+    }
+
+    /// A copy of what `askers` gives.
     pub fn askers_of(&self, alloc: Global, id: NodeId) -> Result<Vec<NodeId>, NoMemory>
         requires { IsHeld self.now.held id.at }
         ensures { IfOk result (λ ids. AreTakers self.now.held (asked id.at) ids.items) }
     {
+        Ok(self.askers(id).collect(alloc)?)
+    }
+
+    /// The keys that held nodes were held with, each once. Takes no memory.
+    pub fn all_keys(&self) -> AllKeys<'_>
+        ensures { AreHeldKeys self.now.held result }
+    {
         self.graph.relation();
-        readers_at(alloc, &self.graph, id)
+        AllKeys::of(&self.graph, &self.slots, &self.keys)
     }
 
     /// The held node of the least stamp above this one. None exactly where there is none.

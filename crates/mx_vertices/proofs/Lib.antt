@@ -15,6 +15,8 @@ pub mod Starts
 pub mod Dropping
 pub mod Settling
 pub mod Settled
+pub mod EdgeWalks
+pub mod HeldKeys
 pub mod Walking
 pub mod Begun
 pub mod Takers

@@ -14,7 +14,7 @@ use Rattle.mx_vertices.specs.declared.slot.Slot.{Slot}
 use Rattle.mx_vertices.specs.declared.slot.Watched.{Watched}
 use Rattle.mx_vertices.specs.declared.slot.Slot.TheVariants.{Free, Node, Watch}
 use Rattle.mx_vertices.specs.Places.{slot_at, node_place, key_place, at, Has}
-use Rattle.mx_vertices.specs.Marked.{IsChangedKey, IsInputChanged, IsChangedStart, IsInputFrom, IsMarkedBy, IsMarkedFrom, DoesReach, IsReaching, AreLive, IsGoing, DoesGo, IsGoingFrom, IsUnreadBy, IsUnreadFrom}
+use Rattle.mx_vertices.specs.Marked.{IsChangedKey, IsChangedStart, IsInputFrom, IsMarkedBy, IsMarkedFrom, DoesReach, IsReaching, AreLive, IsGoing, DoesGo, IsGoingFrom, IsUnreadBy, IsUnreadFrom}
 use Rattle.mx_vertices.specs.Kept.{Kept, looked, own_key, sources_at, kept, entries, body_of, IsNode, IsWhole, HasChanged, IsToGo}
 use Rattle.mx_vertices.proofs.Places.{at_below}
 use Rattle.mx_vertices.proofs.Edges.{has_find}

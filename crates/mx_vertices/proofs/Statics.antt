@@ -1,24 +1,19 @@
 -- How static nodes are found and marked.
-use Rattle.std.proofs.Common.{◌≡◌, ◌∙◌, ℕ, ◌+◌, ◌<◌, Bool, true, false, List, [], ◌∷◌, ◌++◌, length, take, get_or, Option, Some, None, refl, sym, ap, subst, ◌⊎◌, inl, inr}
-use Rattle.std.specs.Prelude.{◌↔◌, IsSome, map as map_list}
-use Rattle.std.specs.Ordering.{nat_cmp}
+use Rattle.std.proofs.Common.{◌≡◌, ◌∙◌, ℕ, ◌+◌, ◌<◌, true, List, [], ◌∷◌, ◌++◌, length, take, get_or, Option, Some, None, refl, sym, ap, subst, ◌⊎◌, inl, inr}
+use Rattle.std.specs.Prelude.{◌↔◌, IsSome}
 use Rattle.std.specs.FinMap as map
 use Rattle.mx_graph.specs.declared.ids.NodeId.{NodeId}
-use Rattle.mx_graph.specs.Relation.{Entry, Graph, Reaches}
+use Rattle.mx_graph.specs.Relation.{Entry, Reaches}
 use Rattle.mx_value.specs.declared.node.Node.{Node as Asked}
-use Rattle.mx_edit.specs.declared.key.Key.{Key}
-use Rattle.mx_edit.specs.declared.key.Key.TheVariants.{Input}
-use Rattle.mx_vertices.specs.declared.slot.Held.{Held}
 use Rattle.mx_vertices.specs.declared.slot.Slot.{Slot}
-use Rattle.mx_vertices.specs.declared.slot.Slot.TheVariants.{Node}
 use Rattle.mx_vertices.specs.declared.standing.Standing.{Standing}
 use Rattle.mx_vertices.specs.declared.standing.Standing.TheVariants.{Begun, Ended}
 use Rattle.mx_vertices.specs.Inputs.{is_static}
-use Rattle.mx_vertices.specs.Places.{slot_at, node_place, at, IsPlacedIn, Has}
+use Rattle.mx_vertices.specs.Places.{node_place, IsPlacedIn, Has}
 use Rattle.mx_vertices.specs.Found.{node_at, IsFound, IsNodeAt, LeadsTo}
 use Rattle.mx_vertices.specs.Kept.{body_of}
 use Rattle.mx_vertices.specs.Marked.{IsInputBy, IsInputFrom, AreNodesLive}
-use Rattle.mx_vertices.specs.Reading.{id_at, IsOwnKeyAt}
+use Rattle.mx_vertices.specs.Reading.{id_at}
 use Rattle.mx_vertices.proofs.Places.{Nodes}
 use Rattle.std.proofs.lemmas.List.{take_more}
 

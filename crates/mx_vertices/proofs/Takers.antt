@@ -12,7 +12,7 @@ use Rattle.mx_vertices.specs.declared.slot.Slot.TheVariants.{Free, Node, Watch}
 use Rattle.mx_vertices.specs.Inputs.{is_static}
 use Rattle.mx_vertices.specs.Places.{slot_at, node_place, Has}
 use Rattle.mx_vertices.specs.Found.{node_at}
-use Rattle.mx_vertices.specs.Kept.{Kept, Source, looked, asked, own_key, body_of, source_in, sources_at, kept, entries, IsNode, IsWhole, IsKeyAt}
+use Rattle.mx_vertices.specs.Kept.{Kept, Source, looked, asked, own_key, body_of, source_in, sources_at, kept, entries, IsNode, IsWhole}
 use Rattle.mx_vertices.specs.Reading.{id_at, entry_reader, readers_in, IsOwnKeyAt, AreKeyReaders, DidTake, AreTakers}
 use Rattle.mx_vertices.proofs.Edges.{has_find, filter_has}
 use Rattle.mx_vertices.proofs.Touching.{read_edge, edge_read, entry_at, at_entry, key_read, node_read, has_behind, asked_behind, looked_either, own_looked}

@@ -6,3 +6,4 @@ pub mod Found
 pub mod Stamps
 pub mod Reading
 pub mod Inputs
+pub mod Walks

@@ -2,6 +2,7 @@
 //! and sweeping.
 #![tactic(auto)]
 
+pub mod along;
 pub mod drops;
 pub mod finding;
 pub mod holding;

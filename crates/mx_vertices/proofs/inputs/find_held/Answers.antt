@@ -3,7 +3,6 @@ use Rattle.std.specs.Prelude.{option_copied}
 use Rattle.std.specs.HashMap.{get as look_up}
 use Rattle.mx_value.specs.declared.node.Node.{Node as Asked}
 use Rattle.mx_value.specs.Equality.{node_eq}
-use Rattle.mx_vertices.specs.declared.standing.Standing.{Standing}
 use Rattle.mx_vertices.specs.declared.standing.Standing.TheVariants.{Begun, Ended}
 use Rattle.mx_vertices.specs.Found.{IsNodeAt}
 use Rattle.mx_vertices.proofs.Statics.{is_led, not_led, led_at}

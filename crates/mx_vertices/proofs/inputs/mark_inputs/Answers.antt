@@ -1,4 +1,4 @@
-use Rattle.std.proofs.Common.{◌∙◌, ◌≡◌, ℕ, List, Some, true, ap, sym, subst, ◌⊎◌}
+use Rattle.std.proofs.Common.{◌∙◌, ◌≡◌, List, Some, true, subst, ◌⊎◌}
 use Rattle.std.specs.Prelude.{◌↔◌}
 use Rattle.std.specs.FinMap as map
 use Rattle.mx_graph.specs.Relation.{Entry}

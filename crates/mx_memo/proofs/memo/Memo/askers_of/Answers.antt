@@ -1,24 +1,12 @@
-use Rattle.std.proofs.Common.{◌≡◌, List, sym, subst}
+use Rattle.std.proofs.Common.{◌≡◌, List, Ok, refl, sym, subst}
+use Rattle.std.proofs.lemmas.Iterator.{items_from_collect}
+use Rattle.std.proofs.lemmas.Iterator.Consumers.{YieldsList-from_first}
 use Rattle.mx_graph.specs.declared.ids.NodeId.{NodeId}
-use Rattle.mx_vertices.specs.Places.{slot_at}
-use Rattle.mx_vertices.specs.Kept.{asked, IsHeld, entries}
-use Rattle.mx_vertices.specs.Reading.{readers_in, AreTakers}
-use Rattle.mx_memo.specs.Memos.{Memory}
-use Rattle.mx_vertices.proofs.Reading.{held_node, held_live, node_not_free, ok_map}
-use Rattle.mx_vertices.proofs.Takers.{node_takers}
+use Rattle.mx_vertices.specs.Kept.{asked}
+use Rattle.mx_vertices.specs.Reading.{AreTakers}
 use Rattle.mx_memo.proofs.memo.Memo.askers_of.Goals as goal
-
-pub readers_at-requires : goal.readers_at-requires
-readers_at-requires c =
-    let node = held_node c.self.inside.graph c.self.inside.slots.items c.self.inside.order.items c.self.inside.keys.items c.self.invariant.whole c.args.id.at (subst (λ (m : Memory). IsHeld m.held c.args.id.at) (sym c.self.view_is) c.requires) in
-    held_live c.self.inside.graph.nodes c.self.inside.slots.items c.self.inside.order.items c.self.inside.keys.items c.self.invariant.whole.placed c.args.id.at (node_not_free (slot_at c.self.inside.slots.items c.args.id.at) node)
 
 pub returns : goal.returns
 returns c =
-    let node = held_node c.self.inside.graph c.self.inside.slots.items c.self.inside.order.items c.self.inside.keys.items c.self.invariant.whole c.args.id.at (subst (λ (m : Memory). IsHeld m.held c.args.id.at) (sym c.self.view_is) c.requires) in
-    ok_map c.readers_at.result (λ ids. ids.items ≡ readers_in c.args.id c.self.inside.graph.edges) (λ ids. AreTakers c.args.self.now.held (asked c.args.id.at) ids.items)
-    (λ ids e.
-    subst (λ (m : Memory). AreTakers m.held (asked c.args.id.at) ids.items) c.self.view_is
-    (subst (λ (xs : List NodeId). AreTakers (entries c.self.inside.graph.edges c.self.inside.slots.items 0 c.self.inside.order.items) (asked c.args.id.at) xs) (sym e)
-    (node_takers c.self.inside.graph c.self.inside.slots.items c.self.inside.order.items c.self.inside.keys.items c.self.invariant.whole c.relation.ensures c.args.id node)))
-    c.readers_at.ensures
+    let items : c.in_ok-collect.field-0.items ≡ c.askers.result = items_from_collect {E = Unit {0}} (Ok c.in_ok-collect.field-0) c.in_ok-collect.ensures.ran (YieldsList-from_first (λ x. x) (λ s. s) c.askers.result refl) in
+    subst (λ (ids : List NodeId). AreTakers c.args.self.now.held (asked c.args.id.at) ids) (sym items) c.askers.ensures

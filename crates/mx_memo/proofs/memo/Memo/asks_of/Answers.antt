@@ -1,30 +1,11 @@
-use Rattle.std.proofs.Common.{◌≡◌, ◌∙◌, List, map as map_list, ap, sym, subst}
-use Rattle.mx_vertices.specs.declared.slot.Slot.{Slot}
-use Rattle.mx_vertices.specs.Places.{slot_at}
-use Rattle.mx_vertices.specs.Kept.{IsHeld, kept, sources_at}
-use Rattle.mx_vertices.specs.Reading.{Asked, asks_in, id_at}
-use Rattle.mx_vertices.specs.Found.{node_at}
-use Rattle.mx_vertices.proofs.Walking.{asks_own}
-use Rattle.mx_memo.specs.Memos.{Memory}
-use Rattle.mx_vertices.proofs.Reading.{held_node, held_kept, held_live, node_not_free, ok_map}
+use Rattle.std.proofs.Common.{◌≡◌, List, Ok, refl, sym, subst}
+use Rattle.std.proofs.lemmas.Iterator.{items_from_collect}
+use Rattle.std.proofs.lemmas.Iterator.Consumers.{YieldsList-from_first}
+use Rattle.mx_graph.specs.declared.ids.NodeId.{NodeId}
+use Rattle.mx_vertices.specs.Reading.{Asked}
 use Rattle.mx_memo.proofs.memo.Memo.asks_of.Goals as goal
-
-pub asks_at-requires : goal.asks_at-requires
-asks_at-requires c =
-    let node = held_node c.self.inside.graph c.self.inside.slots.items c.self.inside.order.items c.self.inside.keys.items c.self.invariant.whole c.args.id.at (subst (λ (m : Memory). IsHeld m.held c.args.id.at) (sym c.self.view_is) c.requires) in
-    held_live c.self.inside.graph.nodes c.self.inside.slots.items c.self.inside.order.items c.self.inside.keys.items c.self.invariant.whole.placed c.args.id.at (node_not_free (slot_at c.self.inside.slots.items c.args.id.at) node)
 
 pub returns : goal.returns
 returns c =
-    let node = held_node c.self.inside.graph c.self.inside.slots.items c.self.inside.order.items c.self.inside.keys.items c.self.invariant.whole c.args.id.at (subst (λ (m : Memory). IsHeld m.held c.args.id.at) (sym c.self.view_is) c.requires) in
-    let k = held_kept c.self.inside.graph c.self.inside.slots.items c.self.inside.order.items c.self.inside.keys.items c.self.invariant.whole c.args.id.at node in
-    ok_map c.asks_at.result (λ asks. map_list id_at asks.items ≡ asks_in (sources_at c.deref.result.now c.args.id.at c.self.inside.graph.edges)) (λ asks. Asked c.args.self.now.held c.args.id.at asks.items)
-    (λ asks e.
-    subst (λ (m : Memory). Asked m.held c.args.id.at asks.items) c.self.view_is
-    (record {
-      entry = kept c.self.inside.graph.edges c.self.inside.slots.items k.0 k.1;
-      among = k.2;
-      id_is = k.3;
-      are = e ∙ ap (λ (xs : List Slot). asks_in (sources_at xs c.args.id.at c.self.inside.graph.edges)) c.deref.ensures.value ∙ ap (λ q. asks_in (sources_at c.self.inside.slots.items q c.self.inside.graph.edges)) (sym k.3) ∙ sym (asks_own (node_at c.self.inside.slots.items k.1.at) (sources_at c.self.inside.slots.items k.1.at c.self.inside.graph.edges));
-    }))
-    c.asks_at.ensures
+    let items : c.in_ok-collect.field-0.items ≡ c.asks.result = items_from_collect {E = Unit {0}} (Ok c.in_ok-collect.field-0) c.in_ok-collect.ensures.ran (YieldsList-from_first (λ x. x) (λ s. s) c.asks.result refl) in
+    subst (λ (ids : List NodeId). Asked c.args.self.now.held c.args.id.at ids) (sym items) c.asks.ensures
