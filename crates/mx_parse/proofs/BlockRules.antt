@@ -1,5 +1,5 @@
 -- The parsers of blocks are exact.
-use Rattle.std.proofs.Common.{◌≡◌, ℕ, zero, suc, ◌≤◌, Bool, true, false, List, [], ◌∷◌, ◌++◌, refl, sym, ap, subst, ◌∙◌, append_assoc, arith, inl, inr}
+use Rattle.std.proofs.Common.{◌≡◌, ℕ, zero, suc, ◌≤◌, true, false, List, [], ◌∷◌, ◌++◌, refl, sym, ap, subst, ◌∙◌, append_assoc, arith, inl, inr}
 use Rattle.std.proofs.lemmas.List.{append-nil}
 use Rattle.mx_syntax.specs.declared.expr.Expr.{Expr}
 use Rattle.mx_syntax.specs.declared.stmt.Stmt.{Stmt}
@@ -10,15 +10,15 @@ use Rattle.mx_grammar.specs.declared.word.Word.TheVariants.{Symbol}
 use Rattle.mx_grammar.specs.Words.{is}
 use Rattle.mx_grammar.specs.Grammar.{Parts, Line}
 use Rattle.mx_grammar.specs.Reading.{Words, Parser, ◌>>◌, pure, sees, expect, choose, Turn, On, Done, levels}
-use Rattle.mx_grammar.proofs.Exact.{Rel, Kinds, Stops, none, stops_none, or, or_stops, Exists, Nothing, Then, Either, refuse_exact}
+use Rattle.mx_grammar.proofs.Exact.{Rel, Kinds, Stops, none, or, or_stops, Exists, Nothing, Then, Either, refuse_exact}
 use Rattle.mx_grammar.proofs.Meets.{fewer_meets, none_meets}
 use Rattle.mx_grammar.proofs.Symbols.{apart}
 use Rattle.mx_grammar.proofs.Loops.{Turns, last, next, Shrinks}
 use Rattle.mx_grammar.proofs.Rules.{Knot, Rule, plain, pure_rule, then_rule, iff_rule, map_rule, choose_rule, behind_rule, open_rule, loop_rule, Behind, marked, mark, mapped, mapping, sees_mark, some_behind, marked_alone}
-use Rattle.mx_grammar.proofs.Lists.{exact_shorter, shorter, not_nothing, on_done, on_same, done_same}
+use Rattle.mx_grammar.proofs.Lists.{shorter, not_nothing, on_done, on_same, done_same}
 use Rattle.mx_parse.specs.Statements.{Simple, Statement, Body, Block, Blocks, Bodies}
 use Rattle.mx_parse.specs.StatementParsers.{body_by, statement_turn, statements, block_rule, block, body}
-use Rattle.mx_parse.proofs.StatementRules.{starts, after_if, starts_apart, starts_no_newline, some_nothing, then_sees, Expressive, Displays, line_sees, statement_begins, simple_rule, some_simple, statement_rule}
+use Rattle.mx_parse.proofs.StatementRules.{starts, after_if, starts_apart, some_nothing, then_sees, Expressive, Displays, line_sees, statement_begins, simple_rule, statement_rule}
 
 -- each block begins with a line's end
 abbrev pub Broken : Rel (List Stmt) → Type 0

@@ -1,20 +1,19 @@
 -- The steps of the code of displays.
-use Rattle.std.proofs.Common.{◌≡◌, ℕ, Bool, true, false, List, [], Option, Some, None, Ok, Err, length, refl, sym, ap, ◌∙◌}
+use Rattle.std.proofs.Common.{◌≡◌, ℕ, Bool, true, false, List, [], Option, Ok, Err, length, refl, sym, ap, ◌∙◌}
 use Rattle.mx_syntax.specs.declared.expr.Expr.{Expr}
 use Rattle.mx_syntax.specs.declared.stmt.ItemEntry.{ItemEntry}
 use Rattle.mx_syntax.specs.declared.stmt.ItemEntry.TheVariants as entry
 use Rattle.mx_grammar.specs.declared.word.Symbol.TheVariants as symbol
 use Rattle.mx_grammar.specs.declared.word.Word.{Word}
 use Rattle.mx_grammar.specs.declared.word.Word.TheVariants.{Text}
-use Rattle.mx_grammar.specs.declared.trouble.Trouble.{Trouble}
 use Rattle.mx_grammar.specs.declared.trouble.Trouble.TheVariants.{Unexpected}
-use Rattle.mx_grammar.specs.Reading.{Words, Outcome, Parser, ◌>>=◌, ◌>>◌, pure, accept, taken, text_of, expect}
+use Rattle.mx_grammar.specs.Reading.{Words, Outcome, Parser, accept, taken, text_of}
 use Rattle.mx_grammar.proofs.Loops.{Shrinks}
 use Rattle.mx_grammar.proofs.Meets.{accept_shorter}
 use Rattle.mx_grammar.proofs.LoopCode.{Within}
 use Rattle.mx_parse.specs.Following.{unless}
-use Rattle.mx_parse.specs.DisplayParsers.{is_wrong_key, new_key, pair, reference, ref_turn, refs, says_refs, new_entry, refs_entry, base_entry, entry_rest, item_entry, entry_turn, entries, display}
-use Rattle.mx_parse.proofs.StatementLengths.{shorter_within, pure_within, then_within, behind_shorter}
+use Rattle.mx_parse.specs.DisplayParsers.{is_wrong_key, new_key, pair, reference, ref_turn, new_entry, refs_entry, base_entry, entry_rest, item_entry, entry_turn, display}
+use Rattle.mx_parse.proofs.StatementLengths.{shorter_within, pure_within, then_within, behind_within}
 use Rattle.mx_parse.proofs.FollowingCode.{turn_shrinks, following_within, refined, accept_ok}
 
 abbrev key_of : List (List ℕ × Expr) → List ℕ → Option (List ℕ)
@@ -40,29 +39,23 @@ key_taken before ts rest n read fine = key_ok before ts rest n read ∙ ap (λ (
 module _ (expression : Parser Expr) (w : Within expression) where
   ref_within : (before : List (List ℕ × Expr)) → Within (reference expression before)
   unfolding reference
-  ref_within before =
-      then_within (accept (new_key before)) (λ n. expect symbol.Colon >> (expression >>= λ x. pure (pair n x))) (shorter_within (accept (new_key before)) (accept_shorter (new_key before)))
-      (λ n. shorter_within (expect symbol.Colon >> (expression >>= λ x. pure (pair n x))) (behind_shorter symbol.Colon (expression >>= λ x. pure (pair n x)) (then_within expression (λ x. pure (pair n x)) w (λ x. pure_within (pair n x)))))
+  ref_within before = then_within _ _ (shorter_within _ (accept_shorter (new_key before))) (λ n. behind_within symbol.Colon _ (then_within _ _ w (λ x. pure_within (pair n x))))
 
   pub ref_shrinks : Shrinks (ref_turn expression)
   ref_shrinks = turn_shrinks symbol.CloseCurly (reference expression) ref_within
 
   rest_within : (has : Bool) → Within (entry_rest expression has)
   unfolding refs_entry base_entry
-  rest_within true =
-      shorter_within (refs_entry expression)
-      (behind_shorter symbol.OpenCurly (refs expression [] >>= λ rs. pure (entry.Refs rs)) (then_within (refs expression []) (λ rs. pure (entry.Refs rs)) (following_within symbol.CloseCurly (reference expression) ref_within []) (λ rs. pure_within (entry.Refs rs))))
-  rest_within false = then_within expression (λ x. pure (entry.Base x)) w (λ x. pure_within (entry.Base x))
+  rest_within true = behind_within symbol.OpenCurly _ (then_within _ _ (following_within symbol.CloseCurly (reference expression) ref_within []) (λ rs. pure_within (entry.Refs rs)))
+  rest_within false = then_within _ _ w (λ x. pure_within (entry.Base x))
 
   entry_within : (before : List ItemEntry) → Within (item_entry expression before)
   unfolding item_entry
-  entry_within before =
-      then_within (accept (new_entry before)) (λ has. expect symbol.Colon >> entry_rest expression has) (shorter_within (accept (new_entry before)) (accept_shorter (new_entry before)))
-      (λ has. shorter_within (expect symbol.Colon >> entry_rest expression has) (behind_shorter symbol.Colon (entry_rest expression has) (rest_within has)))
+  entry_within before = then_within _ _ (shorter_within _ (accept_shorter (new_entry before))) (λ has. behind_within symbol.Colon _ (rest_within has))
 
   pub entry_shrinks : Shrinks (entry_turn expression)
   entry_shrinks = turn_shrinks symbol.CloseCurly (item_entry expression) entry_within
 
   pub display_within : Within (display expression)
   unfolding display
-  display_within = shorter_within (display expression) (behind_shorter symbol.OpenCurly (entries expression []) (following_within symbol.CloseCurly (item_entry expression) entry_within []))
+  display_within = behind_within symbol.OpenCurly _ (following_within symbol.CloseCurly (item_entry expression) entry_within [])

@@ -1,5 +1,5 @@
 -- The parser of displays is exact.
-use Rattle.std.proofs.Common.{◌≡◌, ◌≢◌, ℕ, ◌==◌, ◌⊎◌, Bool, true, false, ◌||◌, not, List, [], ◌∷◌, ◌++◌, Option, Some, None, codes, cond, refl, sym, ap, subst, ◌∙◌, inl, inr}
+use Rattle.std.proofs.Common.{◌≡◌, ℕ, ◌==◌, ◌⊎◌, Bool, true, false, ◌||◌, not, List, [], ◌∷◌, ◌++◌, Some, None, codes, cond, refl, sym, ap, subst, ◌∙◌, inl, inr}
 use Rattle.std.specs.Cmp.Lexicographic.{pointwise}
 use Rattle.mx_value.specs.Name.{is_name}
 use Rattle.mx_syntax.specs.declared.expr.Expr.{Expr}
@@ -10,12 +10,12 @@ use Rattle.mx_grammar.specs.declared.word.Word.{Word}
 use Rattle.mx_grammar.specs.declared.word.Word.TheVariants.{Text, Symbol}
 use Rattle.mx_grammar.specs.Words.{is}
 use Rattle.mx_grammar.specs.Reading.{Words, Parser, sees}
-use Rattle.mx_grammar.proofs.Exact.{Rel, Kinds, Stops, none, stops_none, Exists, Nothing, Then, One, Inner, chosen}
+use Rattle.mx_grammar.proofs.Exact.{Rel, Kinds, none, stops_none, Exists, Nothing, Then, One, Inner, chosen}
 use Rattle.mx_grammar.proofs.Rules.{Knot, Rule, plain, accept_rule, then_rule, iff_rule, any_rule, map_rule, behind_rule, Behind, marked, mark, mapped, mapping, some_mapped, some_behind}
 use Rattle.mx_grammar.proofs.Lists.{Closes}
 use Rattle.mx_parse.specs.Following.{Following, IsNew, unless}
 use Rattle.mx_parse.specs.Displays.{keys_of, NoRefs, NoBase, RefText, EntryText, Display}
-use Rattle.mx_parse.specs.DisplayParsers.{is_refs, has_refs, has_base, has_key, new_key, pair, reference, refs, says_refs, new_entry, refs_entry, base_entry, entry_rest, item_entry, entries, display}
+use Rattle.mx_parse.specs.DisplayParsers.{has_refs, has_base, has_key, new_key, pair, reference, refs, says_refs, new_entry, refs_entry, base_entry, entry_rest, item_entry, entries, display}
 use Rattle.mx_parse.proofs.FollowingRules.{ClosedBehind, all_following_rule}
 use Rattle.mx_parse.proofs.ParameterRules.{same_name, neither, both_false, is_new, not_named, unless_some}
 use Rattle.mx_grammar.proofs.Symbols.{unsaid}

@@ -1,41 +1,37 @@
 -- The steps of the code's loops over lists where each item depends on those before, and of its tokens that depend on them.
-use Rattle.std.proofs.Common.{◌≡◌, ℕ, suc, ◌<◌, ◌≤◌, Bool, true, false, List, [], ◌∷◌, ◌++◌, length, Option, Some, None, Ok, Err, refl, ap, ◌∙◌}
+use Rattle.std.proofs.Common.{◌≡◌, ◌≢◌, ℕ, suc, ◌<◌, Bool, true, false, List, [], ◌∷◌, ◌++◌, length, Option, Some, None, Result, Ok, Err, IsErrAnd, sym, ap, ◌∙◌}
 use Rattle.mx_grammar.specs.declared.word.Symbol.{Symbol}
 use Rattle.mx_grammar.specs.declared.word.Symbol.TheVariants.{Comma}
 use Rattle.mx_grammar.specs.declared.word.Word.{Word}
 use Rattle.mx_grammar.specs.declared.trouble.Trouble.{Trouble}
-use Rattle.mx_grammar.specs.declared.trouble.Trouble.TheVariants.{Unexpected}
-use Rattle.mx_grammar.specs.Words.{is}
-use Rattle.mx_grammar.specs.Reading.{Words, Outcome, Parser, ◌>>=◌, ◌>>◌, pure, accept, taken, expect, choose, Turn, On, Done, turning}
+use Rattle.mx_grammar.specs.declared.trouble.Trouble.TheVariants.{NoMemory}
+use Rattle.mx_grammar.specs.Reading.{Words, Outcome, Parser, Reads, accept, taken, Turn, On, Done, turning}
 use Rattle.mx_grammar.proofs.Exact.{ok_pair}
-use Rattle.mx_grammar.proofs.Loops.{Shrinks, loop_on, loop_done}
+use Rattle.mx_grammar.proofs.Loops.{Shrinks, loop_on, loop_done, loop_err}
 use Rattle.mx_grammar.proofs.LoopCode.{Within, item_shrinks}
+use Rattle.mx_expression.proofs.ManyCode.{reads_err}
 use Rattle.mx_parse.specs.Following.{following_turn, following, Goes}
-use Rattle.mx_parse.proofs.StatementLengths.{shorter_within, pure_within, then_within, behind_shorter, choose_within, loop_within}
+use Rattle.mx_parse.proofs.StatementLengths.{marked_within, then_within, choose_within, loop_within}
 
 -- what a turn that the code took leaves of the loop
-module _ {A : Type 0} (turn : List A → Parser (Turn (List A) (List A))) (shrinks : Shrinks turn) (s t : List A) (ts rest : Words) where
-  goes_on : (b : Bool) → b ≡ true → Goes (turn s ts) (Ok b) t rest → turn s ts ≡ Ok (On t, rest)
-  goes_on true h g = g
-  goes_on false h g = absurd cc
+module _ {A : Type 0} (turn : List A → Parser (Turn (List A) (List A))) (shrinks : Shrinks turn) (s : List A) (ts : Words) where
+  pub turn_shorter : (t : List A) (rest : Words) (b : Bool) → b ≡ true → Goes (turn s ts) (Ok b) t rest → length rest < length ts
+  turn_shorter t rest true h g = shrinks s ts rest t g
+  turn_shorter t rest false h g = absurd cc
 
-  goes_out : (b : Bool) → b ≡ false → Goes (turn s ts) (Ok b) t rest → turn s ts ≡ Ok (Done t, rest)
-  goes_out true h g = absurd cc
-  goes_out false h g = g
+  module _ (o : Outcome (List A)) (so_far : turning turn s ts ≡ o) where
+    pub turn_fails : (e : Trouble) (r : Result (List A) Trouble) (rest : Words) → IsErrAnd r (λ f. f ≡ e) → (e ≢ NoMemory → turn s ts ≡ Err e) → Reads o r rest
+    turn_fails e r rest errs k = reads_err o e r rest errs (λ n. sym so_far ∙ loop_err turn shrinks s ts e (k n))
 
-  pub turn_shorter : (b : Bool) → b ≡ true → Goes (turn s ts) (Ok b) t rest → length rest < length ts
-  turn_shorter b h g = shrinks s ts rest t (goes_on b h g)
+    pub turn_on : (t : List A) (rest : Words) (b : Bool) → b ≡ true → Goes (turn s ts) (Ok b) t rest → turning turn t rest ≡ o
+    turn_on t rest true h g = sym (loop_on turn shrinks s t ts rest g) ∙ so_far
+    turn_on t rest false h g = absurd cc
 
-  pub turn_on : (b : Bool) → b ≡ true → Goes (turn s ts) (Ok b) t rest → turning turn s ts ≡ turning turn t rest
-  turn_on b h g = loop_on turn shrinks s t ts rest (goes_on b h g)
-
-  pub turn_out : (b : Bool) → b ≡ false → Goes (turn s ts) (Ok b) t rest → turning turn s ts ≡ Ok (t, rest)
-  turn_out b h g = loop_done turn shrinks s t ts rest (goes_out b h g)
+    pub turn_out : (t : List A) (rest : Words) (b : Bool) → b ≡ false → Goes (turn s ts) (Ok b) t rest → o ≡ Ok (t, rest)
+    turn_out t rest true h g = absurd cc
+    turn_out t rest false h g = sym so_far ∙ loop_done turn shrinks s t ts rest g
 
 -- ---- lengths
-
-marked_within : {A : Type 0} (s : Symbol) (a : A) → Within (expect s >> pure a)
-marked_within s a = shorter_within (expect s >> pure a) (behind_shorter s (pure a) (pure_within a))
 
 module _ {A : Type 0} (close : Symbol) (item : List A → Parser A) (w : (found : List A) → Within (item found)) where
   pub turn_shrinks : Shrinks (following_turn close item)
@@ -43,9 +39,8 @@ module _ {A : Type 0} (close : Symbol) (item : List A → Parser A) (w : (found 
 
   turn_within : (found : List A) → Within (following_turn close item found)
   turn_within found =
-      choose_within (is close) (expect close >> pure (Done found)) (item found >>= λ a. choose (is Comma) (expect Comma >> pure (On (found ++ a ∷ []))) (expect close >> pure (Done (found ++ a ∷ [])))) (marked_within close (Done found))
-      (then_within (item found) (λ a. choose (is Comma) (expect Comma >> pure (On (found ++ a ∷ []))) (expect close >> pure (Done (found ++ a ∷ [])))) (w found)
-      (λ a. choose_within (is Comma) (expect Comma >> pure (On (found ++ a ∷ []))) (expect close >> pure (Done (found ++ a ∷ []))) (marked_within Comma (On (found ++ a ∷ []))) (marked_within close (Done (found ++ a ∷ [])))))
+      choose_within _ _ _ (marked_within close (Done found))
+      (then_within _ _ (w found) (λ a. choose_within _ _ _ (marked_within Comma (On (found ++ a ∷ []))) (marked_within close (Done (found ++ a ∷ [])))))
 
   pub following_within : (found : List A) → Within (following close item found)
   following_within = loop_within (following_turn close item) turn_within

@@ -1,5 +1,5 @@
 -- The loops of a statement by those of its parts.
-use Rattle.std.proofs.Common.{◌≡◌, ℕ, ◌+◌, ◌-◌, ◌<◌, Bool, true, false, nat_le, max, List, map, Option, Some, None, refl, sym, ap, ◌∙◌, arith}
+use Rattle.std.proofs.Common.{◌≡◌, ℕ, ◌+◌, ◌-◌, ◌<◌, Bool, true, nat_le, max, List, map, Option, Some, None, sym, ap, ◌∙◌, arith}
 use Rattle.mx_syntax.specs.declared.expr.Expr.{Expr}
 use Rattle.mx_syntax.specs.declared.stmt.Stmt.{Stmt, fold-roll-Stmt}
 use Rattle.mx_syntax.specs.declared.stmt.Stmt.TheVariants as made
@@ -39,12 +39,12 @@ arm_is arm = fold_out-IfArm ℕ ℕ stmt_step if_arm_step arm
 -- ---- what the code answers
 
 -- a list, and then another
-pub lists : (ns ms : List ℕ) (n most : ℕ) (r : Bool) → few most ns ≡ true → r ≡ few most ms → n ≡ max (greatest ns) (greatest ms) → r ≡ nat_le n most
-lists ns ms n most r held h is = h ∙ sym (le_greatest ms most) ∙ sym (le_both (greatest ns) (greatest ms) most (le_greatest ns most ∙ held)) ∙ ap (λ (k : ℕ). nat_le k most) (sym is)
+pub lists : (ns ms : List ℕ) (n most : ℕ) (r : Bool) → n ≡ max (greatest ns) (greatest ms) → few most ns ≡ true → r ≡ few most ms → r ≡ nat_le n most
+lists ns ms n most r is held h = h ∙ sym (le_greatest ms most) ∙ sym (le_both (greatest ns) (greatest ms) most (le_greatest ns most ∙ held)) ∙ ap (λ (k : ℕ). nat_le k most) (sym is)
 
-pub list_alone : (ns : List ℕ) (n most : ℕ) → few most ns ≡ true → n ≡ max (greatest ns) 0 → true ≡ nat_le n most
-list_alone ns n most held is = sym (le_true 0 most (omega arith)) ∙ sym (le_both (greatest ns) 0 most (le_greatest ns most ∙ held)) ∙ ap (λ (k : ℕ). nat_le k most) (sym is)
+pub list_alone : (ns : List ℕ) (n most : ℕ) → n ≡ max (greatest ns) 0 → few most ns ≡ true → true ≡ nat_le n most
+list_alone ns n most is held = sym (le_true 0 most (omega arith)) ∙ sym (le_both (greatest ns) 0 most (le_greatest ns most ∙ held)) ∙ ap (λ (k : ℕ). nat_le k most) (sym is)
 
 -- a part, and then the body of a loop
-pub loop_body : (a : ℕ) (ns : List ℕ) (n most : ℕ) (r : Bool) → 0 < most → nat_le a most ≡ true → r ≡ few (most - 1) ns → n ≡ max a (greatest ns + 1) → r ≡ nat_le n most
-loop_body a ns n most r some held h is = h ∙ sym (le_greatest ns (most - 1)) ∙ sym (le_loop (greatest ns) most some) ∙ sym (le_both a (greatest ns + 1) most held) ∙ ap (λ (k : ℕ). nat_le k most) (sym is)
+pub loop_body : (a : ℕ) (ns : List ℕ) (n most : ℕ) (r : Bool) → n ≡ max a (greatest ns + 1) → 0 < most → nat_le a most ≡ true → r ≡ few (most - 1) ns → r ≡ nat_le n most
+loop_body a ns n most r is some held h = h ∙ sym (le_greatest ns (most - 1)) ∙ sym (le_loop (greatest ns) most some) ∙ sym (le_both a (greatest ns + 1) most held) ∙ ap (λ (k : ℕ). nat_le k most) (sym is)

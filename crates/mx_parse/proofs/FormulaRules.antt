@@ -1,8 +1,7 @@
 -- The parsers of formulas and of the parameters of spaces are exact.
-use Rattle.std.proofs.Common.{◌≡◌, ℕ, Bool, true, false, List, [], ◌∷◌, ◌++◌, Option, Some, None, refl, sym, ap, subst, ◌∙◌, append_assoc, inl, inr}
+use Rattle.std.proofs.Common.{◌≡◌, ℕ, true, false, List, [], ◌∷◌, ◌++◌, None, refl, sym, subst, append_assoc, inl, inr}
 use Rattle.mx_syntax.specs.declared.expr.Expr.{Expr}
 use Rattle.mx_syntax.specs.declared.stmt.Stmt.{Stmt}
-use Rattle.mx_syntax.specs.declared.stmt.Stmt.TheVariants as stmt
 use Rattle.mx_syntax.specs.declared.stmt.ItemEntry.{ItemEntry}
 use Rattle.mx_syntax.specs.declared.stmt.Param.{Param}
 use Rattle.mx_syntax.specs.declared.stmt.Formula.{Formula}
@@ -10,12 +9,12 @@ use Rattle.mx_syntax.specs.declared.stmt.Params.{Params}
 use Rattle.mx_grammar.specs.declared.word.Symbol.TheVariants as symbol
 use Rattle.mx_grammar.specs.declared.word.Word.TheVariants.{Symbol}
 use Rattle.mx_grammar.specs.Words.{is}
-use Rattle.mx_grammar.specs.Reading.{Words, Parser, sees}
+use Rattle.mx_grammar.specs.Reading.{Words, Parser}
 use Rattle.mx_grammar.proofs.Exact.{Rel, Kinds, none, stops_none, Exists, Nothing, Then, Either}
-use Rattle.mx_grammar.proofs.Rules.{Knot, Rule, plain, pure_rule, then_rule, iff_rule, choose_rule, behind_rule, Behind, marked, mark, sees_mark, some_behind, single, behind_is}
+use Rattle.mx_grammar.proofs.Rules.{Knot, Rule, plain, pure_rule, then_rule, iff_rule, choose_rule, behind_rule, Behind, mark, sees_mark, some_behind, single, behind_is}
 use Rattle.mx_parse.specs.Statements.{FormulaText, ParamsText}
 use Rattle.mx_parse.specs.StatementParsers.{returning, formula_of, formula_rest, formula, params_of, item_of, item_value_of, item_body_of, params_rest, space_params}
-use Rattle.mx_parse.proofs.StatementRules.{some_nothing, then_sees, Expressive, Displays, Ended, ended_to, is_ended, some_ended, Given, Headed, headed_is, is_headed, some_headed, valued_rule, given_rule, headed_rule}
+use Rattle.mx_parse.proofs.StatementRules.{some_nothing, Expressive, Displays, Ended, ended_to, is_ended, some_ended, Given, Headed, headed_is, is_headed, some_headed, valued_rule, given_rule, headed_rule}
 
 module _ (E : Rel Expr) (Item : Rel (List ItemEntry)) (B : Rel (List Stmt)) where
   abbrev value_of : List Param → Expr → Formula

@@ -1,18 +1,16 @@
 -- The parsers of formulas and of the parameters of spaces are exact for their languages.
 use Rattle.std.proofs.Common.{◌≡◌, ℕ, suc, ◌+◌, ◌≤◌, Bool, true, false, List, [], ◌∷◌, ◌++◌, refl, subst, arith}
-use Rattle.mx_value.specs.declared.value.Value.{Value}
 use Rattle.mx_value.specs.declared.value.Value.TheVariants as value
 use Rattle.mx_syntax.specs.declared.expr.Expr.{Expr}
 use Rattle.mx_syntax.specs.declared.stmt.Stmt.{Stmt}
 use Rattle.mx_syntax.specs.declared.stmt.ItemEntry.{ItemEntry}
 use Rattle.mx_grammar.specs.declared.word.Symbol.TheVariants as symbol
-use Rattle.mx_grammar.specs.declared.word.Word.{Word}
-use Rattle.mx_grammar.specs.declared.word.Word.TheVariants.{Name, Int, Fix, Text, Symbol}
+use Rattle.mx_grammar.specs.declared.word.Word.TheVariants.{Symbol}
 use Rattle.mx_grammar.specs.Words.{is}
 use Rattle.mx_grammar.specs.Literals.{Literal}
 use Rattle.mx_grammar.specs.LiteralParsers.{literal}
-use Rattle.mx_grammar.specs.Reading.{Words, Parser, sees}
-use Rattle.mx_grammar.proofs.Exact.{Rel, Kinds, none, Exists, Never}
+use Rattle.mx_grammar.specs.Reading.{Parser}
+use Rattle.mx_grammar.proofs.Exact.{Rel, none, Exists, Never}
 use Rattle.mx_grammar.proofs.Meets.{fewer_meets}
 use Rattle.mx_grammar.proofs.Symbols.{apart, unlike}
 use Rattle.mx_grammar.proofs.Rules.{Knot, Rule, plain, refuse_rule}
@@ -22,18 +20,17 @@ use Rattle.mx_grammar.proofs.LiteralRules as literals
 use Rattle.mx_expression.specs.Expressions.{Expressions}
 use Rattle.mx_expression.specs.ExpressionParsers.{expression}
 use Rattle.mx_expression.proofs.ExpressionRules.{follows, begins, expressions_begin, some_expression, between_expressions, level}
-use Rattle.mx_parse.specs.Parameters.{Parameters, SomeParameters}
 use Rattle.mx_parse.specs.ParameterParsers.{parameters, some_parameters}
 use Rattle.mx_parse.specs.Displays.{Display}
 use Rattle.mx_parse.specs.DisplayParsers.{display}
-use Rattle.mx_parse.specs.Statements.{Blocks, Bodies, FormulaText, ParamsText}
+use Rattle.mx_parse.specs.Statements.{Blocks, Bodies}
 use Rattle.mx_parse.specs.StatementParsers.{block, body_by, formula, space_params}
 use Rattle.mx_parse.specs.Insides.{display_by, formula_by, params_by}
 use Rattle.mx_parse.specs.Formulas.{formula_text, params_text}
 use Rattle.mx_parse.proofs.ParameterRules.{parameters_rule, some_parameters_rule, some_parameters_text, some_some_parameters}
 use Rattle.mx_parse.proofs.DisplayRules.{display_rule, display_begins}
 use Rattle.mx_parse.proofs.StatementRules.{Expressive, Displays}
-use Rattle.mx_parse.proofs.BlockRules.{with_rule, nested, body_level, some_body}
+use Rattle.mx_parse.proofs.BlockRules.{with_rule, body_level, some_body}
 use Rattle.mx_parse.proofs.FormulaRules.{formula_rule, space_params_rule, some_formula, some_space_params}
 
 some_inside : (n : ℕ) → Exists (Expressions (n + 1))

@@ -1,10 +1,9 @@
 -- The answers for a tree within its limits, and for one past them.
-use Rattle.std.proofs.Common.{◌≡◌, ◌≢◌, ℕ, ◌<◌, ◌≤◌, Bool, true, false, nat_le, List, Option, Some, None, Result, Ok, Err, refl, sym, ap, subst, ◌∙◌, arith, inl, inr}
+use Rattle.std.proofs.Common.{◌≡◌, ℕ, ◌<◌, true, false, nat_le, List, Some, None, Ok, Err, sym, subst, ◌∙◌, inl, inr}
 use Rattle.std.proofs.lemmas.Bool.Decides.{leb_tells}
-use Rattle.mx_grammar.specs.declared.refusal.ParseRefusal.{ParseRefusal}
 use Rattle.mx_grammar.specs.declared.refusal.ParseRefusal.TheVariants.{TooManyLoops, PrintsTooLong}
 use Rattle.mx_grammar.specs.Spelling.{Language, SpellsIn}
-use Rattle.mx_grammar.specs.Limits.{Limits, IsShort, IsLong, IsWithin, IsPast, SpellsPast, AnswersWithin}
+use Rattle.mx_grammar.specs.Limits.{Limits, IsShort, IsLong, AnswersWithin}
 use Rattle.mx_parse.proofs.FewLoops.{le_is}
 
 more_than : (a m : ℕ) → nat_le a m ≡ false → m < a

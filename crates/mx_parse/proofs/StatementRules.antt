@@ -1,6 +1,5 @@
 -- The parsers of statements are exact.
-use Rattle.std.proofs.Common.{◌≡◌, ℕ, suc, Bool, true, false, ◌||◌, List, [], ◌∷◌, ◌++◌, Option, Some, None, refl, sym, ap, subst, ◌∙◌, append_assoc, inl, inr}
-use Rattle.std.proofs.lemmas.List.{append-nil}
+use Rattle.std.proofs.Common.{◌≡◌, ℕ, Bool, true, false, ◌||◌, List, [], ◌∷◌, ◌++◌, Option, Some, None, refl, sym, ap, subst, ◌∙◌, append_assoc, inl, inr}
 use Rattle.mx_syntax.specs.declared.expr.Expr.{Expr}
 use Rattle.mx_syntax.specs.declared.stmt.Stmt.{Stmt}
 use Rattle.mx_syntax.specs.declared.stmt.Stmt.TheVariants as stmt
@@ -11,7 +10,7 @@ use Rattle.mx_syntax.specs.declared.stmt.ItemEntry.{ItemEntry}
 use Rattle.mx_grammar.specs.declared.word.Symbol.{Symbol as Symbols}
 use Rattle.mx_grammar.specs.declared.word.Symbol.TheVariants as symbol
 use Rattle.mx_grammar.specs.declared.word.Word.{Word}
-use Rattle.mx_grammar.specs.declared.word.Word.TheVariants.{Name, Int, Fix, Text, Symbol}
+use Rattle.mx_grammar.specs.declared.word.Word.TheVariants.{Name, Symbol}
 use Rattle.mx_grammar.specs.Words.{is}
 use Rattle.mx_grammar.specs.Grammar.{Parts, Line}
 use Rattle.mx_grammar.specs.Reading.{Words, Parser, sees}
@@ -429,13 +428,9 @@ module _ {X : Type 0} {K : Knot X} {k : ℕ} {F : Kinds} {E : Rel Expr} {Item : 
     some_otherwise : (arms : List IfArm) → Exists (Otherwise E Item In arms)
     some_otherwise arms = record { tokens = []; tree = stmt.If arms None; spells = inr (refl, refl) }
 
-    or_none : (a : Bool) → a ≡ false → (a || false) ≡ false
-    or_none true h = absurd cc
-    or_none false h = refl
-
     elif_only : (ts : Words) → Stops (is symbol.Elif) ts → Stops (or (is symbol.Elif) none) ts
     elif_only [] h = refl
-    elif_only (t ∷ ts) h = or_none (is symbol.Elif t) h
+    elif_only (t ∷ ts) h = ap (λ (b : Bool). b || false) h
 
     otherwise_fits : (arms : List IfArm) (v rest : Words) (s : Stmt) → Otherwise E Item In arms v s → Stops after_if rest → Stops (or (is symbol.Elif) none) (v ++ rest)
     otherwise_fits arms v rest s (inl h) st = sees_mark symbol.Else (Headed E Item In (λ c. stmt.If arms (Some c))) (or (is symbol.Elif) none) false refl v rest s h

@@ -1,23 +1,16 @@
-use Rattle.std.proofs.Common.{sym, ◌∙◌}
-use Rattle.std.proofs.lemmas.Result.{err_from_is_err_and}
-use Rattle.mx_expression.specs.ExpressionParsers.{expression}
-use Rattle.mx_parse.specs.DisplayParsers.{entry_turn}
-use Rattle.mx_grammar.proofs.Loops.{loop_err}
-use Rattle.mx_parse.proofs.FollowingCode.{turn_shorter, turn_on, turn_out}
 use Rattle.mx_expression.proofs.ExpressionRules.{expression_within}
 use Rattle.mx_parse.proofs.DisplayCode.{entry_shrinks}
+use Rattle.mx_parse.proofs.FollowingCode.{turn_fails, turn_shorter, turn_on, turn_out}
 use Rattle.mx_parse.proofs.display.entries.Goals as goal
 
 pub returns-in_err-entry_turn : goal.returns-in_err-entry_turn
-returns-in_err-entry_turn c =
-    let p = err_from_is_err_and c.from_residual.result c.from_residual.ensures.1 in
-    rw (p.1, p.2) (λ n. sym c.loop-found.invariant ∙ loop_err (entry_turn (expression c.args.levels)) (entry_shrinks (expression c.args.levels) (expression_within c.args.levels)) c.loop-found.found c.loop-found.tokens c.in_err-entry_turn.field-0.0 (c.in_err-entry_turn.ensures n))
+returns-in_err-entry_turn c = turn_fails _ (entry_shrinks _ (expression_within c.args.levels)) _ _ _ c.loop-found.invariant _ _ _ c.from_residual.ensures.1 c.in_err-entry_turn.ensures
 
 pub loop-found-smaller : goal.loop-found-smaller
-loop-found-smaller c = turn_shorter (entry_turn (expression c.args.levels)) (entry_shrinks (expression c.args.levels) (expression_within c.args.levels)) c.loop-found.found c.entry_turn.new.found c.loop-found.tokens c.entry_turn.new.tokens c.in_ok-entry_turn.field-0 c.if-branch.true c.in_ok-entry_turn.ensures
+loop-found-smaller c = turn_shorter _ (entry_shrinks _ (expression_within c.args.levels)) _ _ _ _ _ c.if-branch.true c.in_ok-entry_turn.ensures
 
 pub loop-found-preserved : goal.loop-found-preserved
-loop-found-preserved c = sym (turn_on (entry_turn (expression c.args.levels)) (entry_shrinks (expression c.args.levels) (expression_within c.args.levels)) c.loop-found.found c.entry_turn.new.found c.loop-found.tokens c.entry_turn.new.tokens c.in_ok-entry_turn.field-0 c.if-branch.true c.in_ok-entry_turn.ensures) ∙ c.loop-found.invariant
+loop-found-preserved c = turn_on _ (entry_shrinks _ (expression_within c.args.levels)) _ _ _ c.loop-found.invariant _ _ _ c.if-branch.true c.in_ok-entry_turn.ensures
 
 pub returns : goal.returns
-returns c = sym c.loop-found.invariant ∙ turn_out (entry_turn (expression c.args.levels)) (entry_shrinks (expression c.args.levels) (expression_within c.args.levels)) c.loop-found.found c.entry_turn.new.found c.loop-found.tokens c.entry_turn.new.tokens c.in_ok-entry_turn.field-0 c.if-branch.false c.in_ok-entry_turn.ensures
+returns c = turn_out _ (entry_shrinks _ (expression_within c.args.levels)) _ _ _ c.loop-found.invariant _ _ _ c.if-branch.false c.in_ok-entry_turn.ensures
