@@ -20,7 +20,7 @@ space 1 . | there there there
 space 2 . | not held at 1 not held at 1 not held at 1
 space 1 A | there there there
 space 2 A | not held at 1 not held at 1 not held at 1
-drop_all | 1 | 0 1 | 0[0:] 1[0:] 2[0:] 3[0:] 4[0:]
+drop_all | 1 | 0 1 | 0[0:] 1[0:] 2[0:] 3[0:] 4[0:] | 0:
 space 1 . | there there not held at 1
 """
 
@@ -69,14 +69,23 @@ class Held:
         parts = [f"{len(self.nodes)} {self.last}"]
         for n in sorted(self.nodes):
             value, stamp, keys, asks = self.nodes[n]
-            looked = (f"S.c({n})" if n % 2 == 0 else "") + "".join(NAMES[k] for k in keys)
+            held_with = "".join(NAMES[k] for k in keys)
+            looked = (f"S.c({n})" if n % 2 == 0 else "") + held_with
+            askers = [m for m in sorted(self.nodes) if n in self.nodes[m][3]]
             own = f"1:{n}" if n % 2 == 0 else "0:"
-            parts.append(f"{n}={value}@{stamp}[{looked}][{''.join(map(str, asks))}][{own}]")
+            asked = "".join(map(str, asks))
+            parts.append(f"{n}={value}@{stamp}[{looked}][{held_with}][{asked}][{numbered(askers)}][{own}]")
         parts.append("|")
         for k in range(KEYS):
             readers = [n for n in sorted(self.nodes) if k in self.nodes[n][2]]
-            parts.append(f"{k}[{len(readers)}:{''.join(map(str, readers))}]")
+            parts.append(f"{k}[{numbered(readers)}]")
+        all_keys = [NAMES[k] for k in range(KEYS) if any(k in keys for _, _, keys, _ in self.nodes.values())]
+        parts += ["|", numbered(all_keys)]
         return " ".join(parts)
+
+
+def numbered(items):
+    return f"{len(items)}:{''.join(map(str, items))}"
 
 
 def listed(numbers):

@@ -1,7 +1,8 @@
 //! What a memo tells of the nodes that are held.
 //!
 //! ` | COUNT LAST`, and ` after` where a node is held since a later stamp; for each held node
-//! ` NODE=VALUE@STAMP[KEYS][ASKS][READERS OF ITS INPUT]`; ` |` and for each key ` KEY[NUMBER OF READERS:READERS]`.
+//! ` NODE=VALUE@STAMP[KEYS][KEYS IT WAS HELD WITH][ASKS][NUMBER OF ASKERS:ASKERS][READERS OF ITS INPUT]`; ` |` and for each key
+//! ` KEY[NUMBER OF READERS:READERS]`; ` | NUMBER:KEYS` of all keys that nodes were held with.
 ghost use Rattle.mx_vertices.specs.Kept.{IsHeld};
 
 use crate::reading::{push_bytes, push_counted};
@@ -10,7 +11,7 @@ use crate::trouble::Trouble;
 use mx_edit::key::Key;
 use mx_graph::NodeId;
 use mx_list::shared::Shared;
-use mx_memo::{Body, Memo};
+use mx_memo::{AllKeys, Asks, Body, HeldKeys, Memo, Readers};
 use mx_print::value::{push_node, push_value};
 use mx_value::node::Node;
 use mx_value::value::Value;
@@ -18,6 +19,8 @@ use std::alloc::Global;
 
 /// How many nodes the rows have.
 const NODES: u8 = 10;
+/// How many keys the rows have.
+const KEYS: u8 = 5;
 
 /// Adds all that a memo tells.
 pub fn push_state(alloc: Global, memo: &Memo, out: &mut Vec<u8>) -> Result<(), Trouble> {
@@ -26,10 +29,10 @@ pub fn push_state(alloc: Global, memo: &Memo, out: &mut Vec<u8>) -> Result<(), T
         push_one(alloc, memo, n, out)?;
     }
     push_bytes(out, b" |")?;
-    for k in 0..5 {
+    for k in 0..KEYS {
         push_key(alloc, memo, k, out)?;
     }
-    Ok(())
+    push_all_keys(alloc, memo, out)
 }
 
 /// Adds how many nodes are held and the last stamp.
@@ -71,7 +74,9 @@ fn push_held(
 {
     push_body(memo, id, node, out)?;
     push_keys(&memo.keys_of(alloc, id)?, out)?;
-    push_asks(memo, &memo.asks_of(alloc, id)?, out)
+    push_held_with(memo.keys(id), out)?;
+    push_asks(memo, memo.asks(id), out)?;
+    push_askers(alloc, memo, id, out)
 }
 
 /// Adds the value and the stamp of a node, and ` other` where it is another node's.
@@ -109,6 +114,15 @@ fn push_keys(keys: &[Key], out: &mut Vec<u8>) -> Result<(), Trouble> {
     push_bytes(out, b"]")
 }
 
+/// Adds the keys that a node was held with.
+fn push_held_with(keys: HeldKeys<'_>, out: &mut Vec<u8>) -> Result<(), Trouble> {
+    push_bytes(out, b"[")?;
+    for key in keys {
+        push_looked(key, out)?;
+    }
+    push_bytes(out, b"]")
+}
+
 /// Adds the name of a reference, or the node of an input.
 fn push_looked(key: &Key, out: &mut Vec<u8>) -> Result<(), Trouble> {
     match key {
@@ -119,10 +133,10 @@ fn push_looked(key: &Key, out: &mut Vec<u8>) -> Result<(), Trouble> {
 }
 
 /// Adds the arguments of the nodes of these ids.
-fn push_asks(memo: &Memo, asks: &[NodeId], out: &mut Vec<u8>) -> Result<(), Trouble> {
+fn push_asks(memo: &Memo, asks: Asks<'_>, out: &mut Vec<u8>) -> Result<(), Trouble> {
     push_bytes(out, b"[")?;
     for id in asks {
-        push_arguments(memo.body(*id).ok_or(Trouble::NoRow)?, out)?;
+        push_arguments(memo.body(id).ok_or(Trouble::NoRow)?, out)?;
     }
     push_bytes(out, b"]")
 }
@@ -143,30 +157,70 @@ fn push_argument(argument: &Value, out: &mut Vec<u8>) -> Result<(), Trouble> {
 
 /// Adds how many nodes read a key, and which of the nodes do.
 fn push_readers(alloc: Global, memo: &Memo, key: &Key, out: &mut Vec<u8>) -> Result<(), Trouble> {
-    push_among(alloc, memo, &memo.readers_of(alloc, key)?, out)
-}
-
-/// Adds how many ids these are, and the nodes that have them.
-fn push_among(
-    alloc: Global,
-    memo: &Memo,
-    readers: &[NodeId],
-    out: &mut Vec<u8>,
-) -> Result<(), Trouble> {
-    push_counted(out, b"[", readers.len() as u64)?;
+    push_counted(out, b"[", memo.readers_of(alloc, key)?.len() as u64)?;
     push_bytes(out, b":")?;
     for n in 0..NODES {
-        if is_among(alloc, memo, readers, n)? {
-            push_counted(out, b"", u64::from(n))?;
+        if let Some(id) = memo.find(&node(alloc, n)?) {
+            push_if_among(memo.readers(key), id, n, out)?;
         }
     }
     push_bytes(out, b"]")
 }
 
-/// Whether a node is held under one of these ids.
-fn is_among(alloc: Global, memo: &Memo, ids: &[NodeId], n: u8) -> Result<bool, Trouble> {
-    match memo.find(&node(alloc, n)?) {
-        Some(id) => Ok(ids.contains(&id)),
-        None => Ok(false),
+/// Adds how many nodes asked a held node, and which of the nodes did.
+fn push_askers(alloc: Global, memo: &Memo, asked: NodeId, out: &mut Vec<u8>) -> Result<(), Trouble>
+    requires { IsHeld memo.now.held asked.at }
+{
+    push_counted(out, b"[", memo.askers_of(alloc, asked)?.len() as u64)?;
+    push_bytes(out, b":")?;
+    for n in 0..NODES {
+        if let Some(id) = memo.find(&node(alloc, n)?) {
+            push_if_among(memo.askers(asked), id, n, out)?;
+        }
     }
+    push_bytes(out, b"]")
+}
+
+/// Adds the number of a node where its id is one of these.
+fn push_if_among(
+    readers: Readers<'_>,
+    id: NodeId,
+    n: u8,
+    out: &mut Vec<u8>,
+) -> Result<(), Trouble> {
+    for reader in readers {
+        if reader == id {
+            return push_counted(out, b"", u64::from(n));
+        }
+    }
+    Ok(())
+}
+
+/// Adds how many keys nodes were held with, and which of the keys are.
+fn push_all_keys(alloc: Global, memo: &Memo, out: &mut Vec<u8>) -> Result<(), Trouble> {
+    push_counted(out, b" | ", number_of(memo.all_keys()))?;
+    push_bytes(out, b":")?;
+    for k in 0..KEYS {
+        push_if_key(memo.all_keys(), &key(alloc, k)?, out)?;
+    }
+    Ok(())
+}
+
+/// How many keys these are.
+fn number_of(keys: AllKeys<'_>) -> u64 {
+    let mut number: u64 = 0;
+    for _key in keys {
+        number = number.saturating_add(1);
+    }
+    number
+}
+
+/// Adds a key where it is one of these.
+fn push_if_key(keys: AllKeys<'_>, key: &Key, out: &mut Vec<u8>) -> Result<(), Trouble> {
+    for one in keys {
+        if *one == *key {
+            return push_looked(key, out);
+        }
+    }
+    Ok(())
 }
