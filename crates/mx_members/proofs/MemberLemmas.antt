@@ -1,14 +1,14 @@
 -- Keys and their members by place: what is found, and what a definition or a removal makes of both.
-use Rattle.std.proofs.Common.{◌≡◌, ℕ, zero, suc, ◌+◌, ◌*◌, ◌<◌, Bool, true, false, ◌||◌, cond, if◌then◌else◌, List, [], ◌∷◌, ◌++◌, length, set, take, drop, remove, position, zip, Option, Some, None, slice_get, option_map, refl, sym, ◌∙◌, ap, subst, arith}
+use Rattle.std.proofs.Common.{◌≡◌, ℕ, zero, suc, ◌+◌, ◌*◌, ◌<◌, ◌≤◌, Bool, true, false, ◌||◌, cond, if◌then◌else◌, List, [], ◌∷◌, ◌++◌, length, set, take, drop, remove, position, zip, Option, Some, None, slice_get, option_map, refl, sym, ◌∙◌, ap, subst, arith}
 use Rattle.std.specs.Cmp.{IsEquivalence}
 use Rattle.std.specs.List.{IsDistinct, AllByRecursion, list_any, position_from}
 use Rattle.std.specs.Map.{keys_of, lookup}
 use Rattle.std.proofs.lemmas.Iterator.Adapters.{position_from-zero}
-use Rattle.std.proofs.lemmas.List.{append_assoc, length-append}
+use Rattle.std.proofs.lemmas.List.{append_assoc, length-append, take_all}
 use Rattle.std.proofs.lemmas.Map.Made.{keys_of-zip}
 use Rattle.std.proofs.lemmas.Option.{same_Some, slice_get-map}
-use Rattle.mx_members.proofs.ChunkLemmas.{get_left, get_right, take_one}
-use Rattle.mx_members.specs.Chunks.{joined, IsEven}
+use Rattle.mx_members.proofs.ChunkLemmas.{get_left, get_right, take_one, joined_take, joined_around, front_length}
+use Rattle.mx_members.specs.Chunks.{joined, IsFull}
 use Rattle.mx_members.specs.Places.{place}
 use Rattle.mx_members.specs.Words.{define, without}
 
@@ -37,13 +37,6 @@ none_first : (t : Bool) (o : Option ℕ) → None ≡ cond t (Some 0) (option_ma
 none_first true o e = absurd (let f : ◌≡◌ {A = Option ℕ} None (Some 0) = e in cc)
 none_first false None e = (refl, refl)
 none_first false (Some i) e = absurd (let f : ◌≡◌ {A = Option ℕ} None (Some (suc i)) = e in cc)
-
-drop_one : {X : Type 0} (xs : List X) (i : ℕ) (x : X) → slice_get xs i ≡ Some x → drop i xs ≡ x ∷ drop (i + 1) xs
-drop_one [] i x at = absurd (let f : None ≡ Some x = at in cc)
-drop_one {X} (y ∷ xs) zero x at = ap (λ (z : X). z ∷ xs) (same_Some y x at)
-drop_one {X} (y ∷ xs) (suc i) x at =
-    let next : suc (i + 1) ≡ suc i + 1 = omega arith in
-    drop_one xs i x at ∙ ap (λ n. x ∷ drop n (y ∷ xs)) next
 
 module _ {K : Type 0} (test : K → Bool) where
   -- ---- the place of a key
@@ -130,37 +123,23 @@ module _ {K : Type 0} (b m t : List K) where
 
 -- ---- the place of a key in chunks
 
-even_drop : {X : Type 0} (n i : ℕ) (cs : List (List X)) → IsEven n cs → IsEven n (drop i cs)
-even_drop n zero cs even = even
-even_drop n (suc i) [] even = tt
-even_drop n (suc i) (c ∷ cs) even = even_drop n i cs even.2
-
-module _ {K : Type 0} (test : K → Bool) (n : ℕ) where
+module _ {K : Type 0} (test : K → Bool) where
   -- past a chunk without it
-  past_by : (c : List K) (cs : List (List K)) (i : ℕ) → IsEven n (c ∷ cs) → None ≡ place test c → option_map (λ j. n * i + j) (place test (c ++ joined cs)) ≡ option_map (λ j. n * (i + 1) + j) (place test (joined cs))
-  past_by c [] i even none = ap (λ (o : Option ℕ). option_map (λ j. n * i + j) o) (sym (place_back test c [] None none refl))
-  past_by c (d ∷ cs) i even none =
-      let full = even.1 (omega arith) in
-      ap (λ (o : Option ℕ). option_map (λ j. n * i + j) o) (sym (place_back test c (joined (d ∷ cs)) (place test (joined (d ∷ cs))) none refl)) ∙
-      both (place test (joined (d ∷ cs))) full
-    where
-      both : (o : Option ℕ) → length c ≡ n → option_map (λ j. n * i + j) (option_map (λ j. length c + j) o) ≡ option_map (λ j. n * (i + 1) + j) o
-      both None e = refl
-      both (Some j) e = let f : n * i + (length c + j) ≡ n * (i + 1) + j = omega arith in ap (λ m. Some m) f
+  pub chunk_past : (cs : List (List K)) (i : ℕ) (c : List K) → slice_get cs i ≡ Some c → None ≡ place test (joined (take i cs)) → None ≡ place test c → None ≡ place test (joined (take (i + 1) cs))
+  chunk_past cs i c at before none =
+      place_back test (joined (take i cs)) c None before none ∙ ap (λ (l : List K). place test l) (sym (joined_take cs i c at))
 
-  pub chunk_past : (cs : List (List K)) (i : ℕ) (c : List K) → IsEven n cs → slice_get cs i ≡ Some c → None ≡ place test c → option_map (λ j. n * i + j) (place test (joined (drop i cs))) ≡ option_map (λ j. n * (i + 1) + j) (place test (joined (drop (i + 1) cs)))
-  chunk_past cs i c even at none =
-      let one = drop_one cs i c at in
-      ap (λ (l : List (List K)). option_map (λ j. n * i + j) (place test (joined l))) one ∙
-      past_by c (drop (i + 1) cs) i (subst (IsEven n) one (even_drop n i cs even)) none
+  pub chunk_found : (n : ℕ) (cs : List (List K)) (last : List K) (i j : ℕ) (c : List K) → IsFull n cs → slice_get cs i ≡ Some c → None ≡ place test (joined (take i cs)) → Some j ≡ place test c → Some (n * i + j) ≡ place test (joined cs ++ last)
+  chunk_found n cs last i j c full at before here =
+      let e = front_length n cs i c full at in
+      let found = place_in_middle test (joined (take i cs)) c (joined (drop (i + 1) cs)) j (n * i + j) before here (omega arith) in
+      place_front test (joined cs) last (n * i + j) (found ∙ ap (λ (l : List K). place test l) (sym (joined_around cs i c at)))
 
-  pub chunk_here : (cs : List (List K)) (i j : ℕ) (c : List K) → slice_get cs i ≡ Some c → Some j ≡ place test c → option_map (λ j. n * i + j) (place test (joined (drop i cs))) ≡ Some (n * i + j)
-  chunk_here cs i j c at here =
-      ap (λ (l : List (List K)). option_map (λ j. n * i + j) (place test (joined l))) (drop_one cs i c at) ∙
-      ap (λ (o : Option ℕ). option_map (λ j. n * i + j) o) (sym (place_front test c (joined (drop (i + 1) cs)) j here))
-
-  pub chunk_found : (cs : List (List K)) (i j : ℕ) (c : List K) → place test (joined cs) ≡ option_map (λ j. n * i + j) (place test (joined (drop i cs))) → slice_get cs i ≡ Some c → Some j ≡ place test c → Some (n * i + j) ≡ place test (joined cs)
-  chunk_found cs i j c left at here = sym (left ∙ chunk_here cs i j c at here)
+  -- in no chunk before the last one
+  pub last_found : (cs : List (List K)) (last : List K) (i m : ℕ) (o : Option ℕ) → None ≡ place test (joined (take i cs)) → length cs ≤ i → m ≡ length (joined cs) → o ≡ place test last → option_map (λ j. m + j) o ≡ place test (joined cs ++ last)
+  last_found cs last i m o before all is here =
+      let none : None ≡ place test (joined cs) = before ∙ ap (λ (l : List (List K)). place test (joined l)) (take_all i cs all) in
+      ap (λ (k : ℕ). option_map (λ j. k + j) o) is ∙ place_back test (joined cs) last o none here
 
 module _ {X : Type 0} where
   abbrev at_place : Option ℕ → List X → Option X

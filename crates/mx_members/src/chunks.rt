@@ -1,12 +1,11 @@
 //! `Chunks`: items in order, in chunks that copies share.
-ghost use Rattle.mx_members.specs.Chunks.{joined, IsEven};
+ghost use Rattle.mx_members.specs.Chunks.{joined, IsFull};
 ghost use Rattle.mx_members.specs.Places.{place};
-ghost use Rattle.std.specs.Prelude.{◌≡◌, ◌<◌, [], ◌∷◌, ◌++◌, length, slice_get, slice_set, option_copied, IfOk, IfSome, OnOk, OnErr};
+ghost use Rattle.std.specs.Prelude.{◌≡◌, ◌<◌, ◌≤◌, [], ◌∷◌, ◌++◌, length, slice_get, slice_set, option_copied, IfOk, IfSome, OnOk, OnErr};
 
 use crate::share::Share;
 use indexmap::Equivalent;
-use mx_list::items::Items;
-use mx_list::shared::Shared;
+use mx_list::list::List;
 use std::alloc::{AllocError, Global};
 use std::hash::Hash;
 use std::marker::Model;
@@ -15,32 +14,107 @@ use std::mem;
 /// How many items a full chunk has.
 const FULL: usize = 64;
 
-/// Items in order. A copy shares all chunks, and a change copies the one chunk that it falls in.
+/// A list that copies share, and that takes no memory while it is empty.
+#[derive(Drop)]
+struct Part<T> {
+    items: Option<List<T>>,
+}
+
+impl<T> Model for Part<T> {
+    ghost use Rattle.std.specs.Prelude.{List as Many};
+    ghost use Rattle.mx_members.specs.Chunks.{or_empty};
+
+    ghost Value = { Many T };
+
+    ghost view = { λ p. or_empty p.items };
+}
+
+impl<T> Part<T> {
+    /// No items.
+    fn new() -> Part<T>
+        ensures { result ≡ [] }
+    {
+        Part { items: None }
+    }
+
+    /// The items, to read.
+    fn as_slice(&self) -> &[T]
+        ensures { result.now ≡ self.now }
+    {
+        match &self.items {
+            Some(items) => items.as_slice(),
+            None => &[],
+        }
+    }
+}
+
+impl<T: Drop> Part<T> {
+    /// The vector's items, without a copy of any.
+    fn from_vec(alloc: Global, items: Vec<T>) -> Result<Part<T>, AllocError>
+        ensures { IfOk result (λ p. p ≡ items.items) }
+    {
+        if items.is_empty() {
+            return Ok(Part::new());
+        }
+        Ok(Part {
+            items: Some(List::from_vec(alloc, items)?),
+        })
+    }
+
+    /// The same items, in one step.
+    fn copy(&self) -> Result<Part<T>, AllocError>
+        ensures { IfOk result (λ p. p ≡ self.now) }
+    {
+        match &self.items {
+            Some(items) => Ok(Part {
+                items: Some(items.copy()?),
+            }),
+            None => Ok(Part::new()),
+        }
+    }
+
+    /// The same items as a list, without a copy of any.
+    fn to_list(&self, alloc: Global) -> Result<List<T>, AllocError>
+        ensures { IfOk result (λ l. l ≡ self.now) }
+    {
+        match &self.items {
+            Some(items) => items.copy(),
+            None => List::empty(alloc),
+        }
+    }
+}
+
+/// Items in order: full chunks, and a last chunk for what stands behind them.
+///
+/// Copies share both. A change or an item more copies the chunk that it falls in, and the list of
+/// the full chunks only where one of them changes or one is added.
 #[derive(Drop)]
 pub struct Chunks<T> {
-    chunks: Vec<Shared<Items<T>>>,
+    full: Part<List<T>>,
+    last: Part<T>,
     count: usize,
 }
 
 impl<T> Model for Chunks<T> {
-    ghost use Rattle.std.specs.Prelude.{◌≡◌, List, length};
-    ghost use Rattle.mx_members.specs.Chunks.{joined, IsEven};
+    ghost use Rattle.std.specs.Prelude.{◌≡◌, ◌≤◌, ◌++◌, List as Many, length};
+    ghost use Rattle.mx_members.specs.Chunks.{joined, IsFull};
 
-    ghost Value = { List T };
+    ghost Value = { Many T };
 
-    ghost view = { λ c. joined c.chunks.items };
+    ghost view = { λ c. joined c.full ++ c.last };
 
-    ghost invariant = { λ c. (c.count ≡ length (joined c.chunks.items))
-        × IsEven 64 c.chunks.items };
+    ghost invariant = { λ c. (c.count ≡ length (joined c.full ++ c.last))
+        × IsFull 64 c.full × (length c.last ≤ 64) };
 }
 
 impl<T> Chunks<T> {
     /// No items. Takes no memory until the first item comes.
-    pub fn new(alloc: Global) -> Chunks<T>
+    pub fn new(_alloc: Global) -> Chunks<T>
         ensures { result ≡ [] }
     {
         Chunks {
-            chunks: Vec::new(alloc),
+            full: Part::new(),
+            last: Part::new(),
             count: 0,
         }
     }
@@ -56,10 +130,15 @@ impl<T> Chunks<T> {
     pub fn get(&self, at: usize) -> Option<&T>
         ensures { option_copied result ≡ slice_get self.now at }
     {
-        let Some(chunk) = item_at(&self.chunks, at / FULL) else {
-            return None;
+        let last = self.last.as_slice();
+        let before = self.count - last.len();
+        if before <= at {
+            return item_at(last, at - before);
+        }
+        let Some(chunk) = item_at(self.full.as_slice(), at / FULL) else {
+            unreachable!()
         };
-        item_at(chunk.get().as_slice(), at % FULL)
+        item_at(chunk.as_slice(), at % FULL)
     }
 }
 
@@ -69,19 +148,22 @@ impl<T: Eq + Hash> Chunks<T> {
         ensures place { result ≡ place (Q.equivalent key) self.now }
         ensures within { IfSome result (λ at. at < length self.now) }
     {
-        if self.len() == 0 {
-            return None;
-        }
-        for at in 0..self.chunks.len() {
-            let Some(chunk) = item_at(&self.chunks, at) else {
+        let full = self.full.as_slice();
+        let last = self.last.as_slice();
+        let before = self.len() - last.len();
+        for at in 0..full.len() {
+            let Some(chunk) = item_at(full, at) else {
                 unreachable!()
             };
-            match place_among(chunk.get().as_slice(), key) {
+            match place_among(chunk.as_slice(), key) {
                 Some(place) => return Some(at * FULL + place),
                 None => {}
             }
         }
-        None
+        match place_among(last, key) {
+            Some(place) => return Some(before + place),
+            None => return None,
+        }
     }
 }
 
@@ -98,16 +180,13 @@ fn place_among<T: Eq + Hash, Q: Equivalent<T>>(items: &[T], key: Q) -> Option<us
 }
 
 impl<T: Drop> Chunks<T> {
-    /// The same items. Takes the time of the number of chunks.
-    pub fn copy(&self, alloc: Global) -> Result<Chunks<T>, AllocError>
+    /// The same items, in two steps.
+    pub fn copy(&self, _alloc: Global) -> Result<Chunks<T>, AllocError>
         ensures { IfOk result (λ c. c ≡ self.now) }
     {
-        let mut chunks = Vec::with_capacity(alloc, self.chunks.len())?;
-        for chunk in &self.chunks {
-            chunks.push(chunk.copy()?)?;
-        }
         Ok(Chunks {
-            chunks,
+            full: self.full.copy()?,
+            last: self.last.copy()?,
             count: self.count,
         })
     }
@@ -117,45 +196,38 @@ impl<T: Drop> Chunks<T> {
         ensures { IfOk result (λ c. c ≡ items.items) }
     {
         let count = items.len();
+        let mut full = Vec::with_capacity(alloc, count / FULL)?;
+        let mut last = Vec::with_capacity(alloc, count.min(FULL))?;
+        for item in items {
+            make_room(alloc, &mut full, &mut last)?;
+            last.push(item)?;
+        }
         Ok(Chunks {
-            chunks: cut(alloc, items)?,
+            full: Part::from_vec(alloc, full)?,
+            last: Part::from_vec(alloc, last)?,
             count,
         })
     }
 }
 
-/// The vector's items in chunks.
-fn cut<T: Drop>(alloc: Global, items: Vec<T>) -> Result<Vec<Shared<Items<T>>>, AllocError>
-    ensures even { IfOk result (λ chunks. IsEven 64 chunks.items) }
-    ensures items { IfOk result (λ chunks. joined chunks.items ≡ items.items) }
-{
-    let mut chunks = Vec::with_capacity(alloc, items.len() / FULL + 1)?;
-    let mut last = Vec::new(alloc);
-    for item in items {
-        make_room(alloc, &mut chunks, &mut last)?;
-        last.push(item)?;
-    }
-    chunks.push(Shared::new(alloc, Items::from_vec(last))?)?;
-    Ok(chunks)
-}
-
-/// Puts the last chunk among the others where it is full, and begins another.
+/// Puts the last chunk behind the others where it is full, and begins another.
 fn make_room<T: Drop>(
     alloc: Global,
-    chunks: &mut Vec<Shared<Items<T>>>,
+    full: &mut Vec<List<T>>,
     last: &mut Vec<T>,
 ) -> Result<(), AllocError>
-    requires { IsEven 64 (chunks.old.items ++ last.old.items ∷ []) }
-    ensures even { OnOk result (IsEven 64 (chunks.new.items ++ last.new.items ∷ [])) }
+    requires full { IsFull 64 full.old.items }
+    requires last { length last.old.items ≤ 64 }
+    ensures full { OnOk result (IsFull 64 full.new.items) }
     ensures room { OnOk result (length last.new.items < 64) }
-    ensures items { OnOk result (joined chunks.new.items ++ last.new.items
-        ≡ joined chunks.old.items ++ last.old.items) }
+    ensures items { OnOk result (joined full.new.items ++ last.new.items
+        ≡ joined full.old.items ++ last.old.items) }
 {
     if last.len() < FULL {
         return Ok(());
     }
-    let full = mem::replace(last, Vec::with_capacity(alloc, FULL)?);
-    chunks.push(Shared::new(alloc, Items::from_vec(full))?)?;
+    let chunk = mem::replace(last, Vec::with_capacity(alloc, FULL)?);
+    full.push(List::from_vec(alloc, chunk)?)?;
     Ok(())
 }
 
@@ -180,12 +252,16 @@ impl<T: Share> Chunks<T> {
         ensures ok { OnOk result (self.new ≡ slice_set self.old at item) }
         ensures err { OnErr result (self.new ≡ self.old) }
     {
-        let Some(chunk) = item_at(&self.chunks, at / FULL) else {
-            unreachable!()
-        };
-        let mut items = shared_items(alloc, chunk.get().as_slice())?;
-        items[at % FULL] = item;
-        self.chunks[at / FULL] = Shared::new(alloc, Items::from_vec(items))?;
+        let last = self.last.as_slice();
+        let before = self.count - last.len();
+        if before <= at {
+            let mut items = shared_items(alloc, last)?;
+            items[at - before] = item;
+            self.last = Part::from_vec(alloc, items)?;
+            return Ok(());
+        }
+        let full = with_changed(alloc, self.full.as_slice(), at, item)?;
+        self.full = Part::from_vec(alloc, full)?;
         Ok(())
     }
 
@@ -197,25 +273,54 @@ impl<T: Share> Chunks<T> {
         let Some(count) = self.count.checked_add(1) else {
             return Err(AllocError);
         };
-        let place = self.count / FULL;
-        match item_at(&self.chunks, place) {
-            Some(chunk) => {
-                let mut items = shared_items(alloc, chunk.get().as_slice())?;
-                items.push(item)?;
-                self.chunks[place] = Shared::new(alloc, Items::from_vec(items))?;
-                self.count = count;
-                return Ok(());
-            }
-            None => {
-                let mut items = Vec::new(alloc);
-                items.push(item)?;
-                let chunk = Shared::new(alloc, Items::from_vec(items))?;
-                self.chunks.push(chunk)?;
-                self.count = count;
-                return Ok(());
-            }
+        let last = self.last.as_slice();
+        if last.len() < FULL {
+            self.last = Part::from_vec(alloc, with_one(alloc, last, item)?)?;
+            self.count = count;
+            return Ok(());
         }
+        let full = with_one(alloc, self.full.as_slice(), self.last.to_list(alloc)?)?;
+        let full = Part::from_vec(alloc, full)?;
+        self.last = Part::from_vec(alloc, with_one(alloc, &[], item)?)?;
+        self.full = full;
+        self.count = count;
+        Ok(())
     }
+}
+
+/// Full chunks with another item at a place. All chunks but one are shared.
+fn with_changed<T: Share>(
+    alloc: Global,
+    full: &[List<T>],
+    at: usize,
+    item: T,
+) -> Result<Vec<List<T>>, AllocError>
+    requires full { IsFull 64 full.now }
+    requires within { at < length (joined full.now) }
+    ensures full { IfOk result (λ chunks. IsFull 64 chunks.items) }
+    ensures items { IfOk result (λ chunks.
+        joined chunks.items ≡ slice_set (joined full.now) at item) }
+{
+    let Some(chunk) = item_at(full, at / FULL) else {
+        unreachable!()
+    };
+    let mut items = shared_items(alloc, chunk.as_slice())?;
+    items[at % FULL] = item;
+    let mut chunks = shared_items(alloc, full)?;
+    chunks[at / FULL] = List::from_vec(alloc, items)?;
+    Ok(chunks)
+}
+
+/// The same items, shared, and one behind them, with no room for more.
+fn with_one<T: Share>(alloc: Global, items: &[T], more: T) -> Result<Vec<T>, AllocError>
+    ensures { IfOk result (λ all. all.items ≡ items.now ++ more ∷ []) }
+{
+    let mut all = Vec::with_capacity(alloc, items.len().saturating_add(1))?;
+    for item in items {
+        all.push(item.share(alloc)?)?;
+    }
+    all.push(more)?;
+    Ok(all)
 }
 
 /// The same items in a vector of their own.

@@ -1,47 +1,30 @@
-use Rattle.std.proofs.Common.{◌/◌, ◌∷◌, [], ◌++◌, slice_get, length, sym, ap, arith, ◌∙◌}
+use Rattle.std.proofs.Common.{◌≡◌, ◌∙◌, ◌∷◌, [], ◌++◌, length, ap, arith}
 use Rattle.std.proofs.lemmas.List.{length-append}
 use Rattle.mx_members.specs.Chunks.{joined}
-use Rattle.mx_members.proofs.ChunkLemmas.{pushed_within, even_within, even_behind, joined_added, even_added}
+use Rattle.mx_members.proofs.ChunkLemmas.{full_added, joined_next}
 use Rattle.mx_members.proofs.chunks.Chunks.push.Goals as goal
 
-pub invariant_of-self : goal.invariant_of-self
-invariant_of-self g c =
-    let cs = c.self.inside.chunks.items in
-    let at = c.self.inside.count in
-    let d = c.in_ok-self-inside-in-Some-item_at.field-0 in
-    let here = c.in-Some-item_at.ensures ∙ ap (λ l. slice_get l (at / 64)) c.deref.ensures.value in
-    let is = c.in_ok-self-inside-in-Some-item_at.ensures ∙ c.from_vec.ensures ∙ c.in_ok-push-in-Some-item_at.ensures.items ∙ ap (λ l. l ++ c.args.item ∷ []) (c.in_ok-items-in-Some-item_at.ensures ∙ c.as_slice.ensures ∙ c.get.ensures) in
-    let e = ap (λ l. length l) (pushed_within 64 (omega arith) cs at c.args.item c.in-Some-item_at.chunk.now d c.self.invariant.1 c.self.invariant.0 here is) ∙ length-append (joined cs) (c.args.item ∷ []) in
+pub invariant_of-self-2 : goal.invariant_of-self-2
+invariant_of-self-2 g c =
+    let cs = c.self.inside.full in
+    let last = c.self.inside.last in
+    let chunk = c.in_ok-to_list.field-0 in
+    let one = c.in_ok-self-inside-2.field-0 in
+    let is = c.in_ok-full-2.ensures ∙ c.in_ok-full.ensures ∙ ap (λ l. l ++ chunk ∷ []) c.as_slice.ensures in
+    let single : one ≡ c.args.item ∷ [] = c.in_ok-self-inside-2.ensures ∙ c.in_ok-with_one-2.ensures in
+    let e = ap (λ l. length l) (joined_next cs c.in_ok-full-2.full last chunk is c.in_ok-to_list.ensures one c.args.item single) in
+    let more = length-append (joined cs ++ last) (c.args.item ∷ []) in
     let count = c.self.invariant.0 in
-    let more = c.in-Some.ensures in
-    (omega arith, even_within 64 (omega arith) cs at c.args.item c.in-Some-item_at.chunk.now d c.self.invariant.1 c.self.invariant.0 here is)
+    let at_most = c.self.invariant.2 in
+    let next = c.in-Some.ensures in
+    let now = ap (λ l. length l) c.as_slice-last.ensures in
+    let short = ap (λ l. length l) single in
+    (omega arith, full_added cs c.in_ok-full-2.full last chunk is c.in_ok-to_list.ensures 64 c.self.invariant.1 (omega arith), omega arith)
 
-pub returns-in-Some-item_at-clause-ok : goal.returns-in-Some-item_at-clause-ok
-returns-in-Some-item_at-clause-ok g c =
-    let cs = c.self.inside.chunks.items in
-    let at = c.self.inside.count in
-    let d = c.in_ok-self-inside-in-Some-item_at.field-0 in
-    let here = c.in-Some-item_at.ensures ∙ ap (λ l. slice_get l (at / 64)) c.deref.ensures.value in
-    let is = c.in_ok-self-inside-in-Some-item_at.ensures ∙ c.from_vec.ensures ∙ c.in_ok-push-in-Some-item_at.ensures.items ∙ ap (λ l. l ++ c.args.item ∷ []) (c.in_ok-items-in-Some-item_at.ensures ∙ c.as_slice.ensures ∙ c.get.ensures) in
-    pushed_within 64 (omega arith) cs at c.args.item c.in-Some-item_at.chunk.now d c.self.invariant.1 c.self.invariant.0 here is
+pub returns-clause-ok : goal.returns-clause-ok
+returns-clause-ok g c =
+    let chunk = c.in_ok-to_list.field-0 in
+    let one = c.in_ok-self-inside-2.field-0 in
+    let is = c.in_ok-full-2.ensures ∙ c.in_ok-full.ensures ∙ ap (λ l. l ++ chunk ∷ []) c.as_slice.ensures in
+    joined_next c.self.inside.full c.in_ok-full-2.full c.self.inside.last chunk is c.in_ok-to_list.ensures one c.args.item (c.in_ok-self-inside-2.ensures ∙ c.in_ok-with_one-2.ensures)
     ∙ ap (λ l. l ++ c.args.item ∷ []) c.self.view_is
-
-pub invariant_of-self-in-None : goal.invariant_of-self-in-None
-invariant_of-self-in-None g c =
-    let cs = c.self.inside.chunks.items in
-    let all = c.push-in-None-2.new.self.items in
-    let one = c.args.item ∷ [] in
-    let at = c.self.inside.count in
-    let none = c.in-None.ensures ∙ ap (λ l. slice_get l (at / 64)) c.deref.ensures.value in
-    let own = c.in_ok-chunk-in-None.ensures ∙ c.from_vec-in-None.ensures ∙ c.in_ok-push-in-None.ensures.items ∙ ap (λ l. l ++ one) c.new-items.ensures.items in
-    let e = ap (λ l. length l) (joined_added cs all one c.in_ok-chunk-in-None.chunk c.in_ok-push-in-None-2.ensures.items own) ∙ length-append (joined cs) one in
-    let count = c.self.invariant.0 in
-    let more = c.in-Some.ensures in
-    (omega arith, even_added cs all one c.in_ok-chunk-in-None.chunk c.in_ok-push-in-None-2.ensures.items own 64 (even_behind 64 (omega arith) cs at one c.self.invariant.1 c.self.invariant.0 (sym none) (omega arith)))
-
-pub returns-in-None-clause-ok : goal.returns-in-None-clause-ok
-returns-in-None-clause-ok g c =
-    let one = c.args.item ∷ [] in
-    let own = c.in_ok-chunk-in-None.ensures ∙ c.from_vec-in-None.ensures ∙ c.in_ok-push-in-None.ensures.items ∙ ap (λ l. l ++ one) c.new-items.ensures.items in
-    joined_added c.self.inside.chunks.items c.push-in-None-2.new.self.items one c.in_ok-chunk-in-None.chunk c.in_ok-push-in-None-2.ensures.items own
-    ∙ ap (λ l. l ++ one) c.self.view_is
