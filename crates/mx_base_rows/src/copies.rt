@@ -73,7 +73,7 @@ pub fn reads(alloc: Global, rest: &str, out: &mut Vec<u8>) -> Result<(), Trouble
 }
 
 fn push_reads(alloc: Global, read: &Read, other: &Read, out: &mut Vec<u8>) -> Result<(), Trouble> {
-    push_flag(out, read.copy(alloc)? == *read)?;
+    push_flag(out, read.copy()? == *read)?;
     push_flag(out, *other == *read)
 }
 

@@ -4,7 +4,7 @@ use crate::values::label;
 use mx_list::items::Items;
 use mx_list::list::List;
 use mx_value::namespace::{Namespace, Overlay};
-use mx_value::node::Node;
+use mx_value::node::{Node, SharedNode};
 use mx_value::read::Read;
 use mx_value::value::{Addr, CellsAt, Segment, Value};
 use std::alloc::Global;
@@ -75,7 +75,7 @@ pub fn read(alloc: Global, word: &str) -> Result<Read, Trouble> {
         "ref" => reference(alloc),
         "global" => Ok(Read::Global(label(alloc, "rate")?)),
         "table" => Ok(Read::Table(label(alloc, "mort")?)),
-        _ => Ok(Read::Node(node(alloc, word)?)),
+        _ => Ok(Read::Node(SharedNode::new(alloc, node(alloc, word)?)?)),
     }
 }
 

@@ -8,9 +8,8 @@ ghost use Rattle.mx_bound.specs.Asking.{with_ask};
 use crate::asks::Asks;
 use mx_edit::key::Key;
 use mx_graph::NodeId;
-use mx_list::shared::Shared;
 use mx_reading::seen::Seen;
-use mx_value::node::Node;
+use mx_value::node::SharedNode;
 use mx_value::read::Read;
 use std::alloc::{AllocError, Global};
 
@@ -35,20 +34,20 @@ impl Records {
     }
 
     /// A held node was asked.
-    pub fn ask(&mut self, alloc: Global, node: &Node, id: NodeId) -> Result<(), AllocError>
+    pub fn ask(&mut self, node: &SharedNode, id: NodeId) -> Result<(), AllocError>
         ensures seen { OnOk result (self.new.seen ≡ with_read (read.Node node.now) self.old.seen) }
         ensures asks { OnOk result (self.new.asks ≡ with_ask id self.old.asks) }
     {
-        self.seen.note(Read::Node(node.copy(alloc)?))?;
+        self.seen.note(Read::Node(node.copy()?))?;
         self.asks.enter(id)
     }
 
     /// An input was asked.
-    pub fn ask_input(&mut self, alloc: Global, node: &Shared<Node>) -> Result<(), AllocError>
+    pub fn ask_input(&mut self, node: &SharedNode) -> Result<(), AllocError>
         ensures seen { OnOk result (self.new.seen ≡ with_read (read.Node node.now) (with_key (key.Input node.now) self.old.seen)) }
         ensures asks { self.new.asks ≡ self.old.asks }
     {
         self.seen.look(Key::Input(node.copy()?))?;
-        self.seen.note(Read::Node(node.get().copy(alloc)?))
+        self.seen.note(Read::Node(node.copy()?))
     }
 }

@@ -8,11 +8,10 @@ ghost use Rattle.mx_walks.specs.Ways.{AsksAt, told};
 ghost use Rattle.mx_bound.specs.Walking.{IsLed, LeadsFurther, LeadsOn, PassesOn};
 
 use crate::records::Records;
-use mx_list::shared::Shared;
 use mx_memo::Memo;
 use mx_stack::rest::Onward;
 use mx_value::namespace::Namespace;
-use mx_value::node::Node;
+use mx_value::node::SharedNode;
 use mx_value::value::Addr;
 use mx_walks::walks::{Walked, walk_from_top, walk_on};
 use mx_world::world::World;
@@ -24,7 +23,7 @@ pub enum Led {
     /// The namespace of the address.
     Came(Namespace),
     /// The first item that is not held, with the segments behind it.
-    Waits(Shared<Node>, Onward),
+    Waits(SharedNode, Onward),
     /// There is no such space.
     NoSuch,
     /// The arguments of an item do not bind.
@@ -111,7 +110,7 @@ fn pass_item(
     match walked {
         Walked::Came(space) => return Ok(Passed::Stops(Led::Came(space))),
         Walked::Asks(item, rest) => {
-            let item = Shared::new(alloc, item)?;
+            let item = SharedNode::new(alloc, item)?;
             return ask_item(alloc, world, memo, item, rest, records);
         }
         Walked::NoSuch => return Ok(Passed::Stops(Led::NoSuch)),
@@ -124,7 +123,7 @@ fn ask_item(
     alloc: Global,
     world: &World,
     memo: &Memo,
-    item: Shared<Node>,
+    item: SharedNode,
     rest: Onward,
     records: &mut Records,
 ) -> Result<Passed, AllocError>
@@ -138,7 +137,7 @@ fn ask_item(
     let Some(body) = memo.body(id) else {
         unreachable!()
     };
-    records.ask(alloc, item.get(), id)?;
+    records.ask(&item, id)?;
     let came = copy_namespace(&body.reply.get().namespace)?;
     let walked = walk_on(alloc, world, rest, came)?;
     Ok(Passed::On(walked))

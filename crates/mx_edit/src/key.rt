@@ -7,7 +7,7 @@ use crate::table::Table;
 use mx_list::shared::Shared;
 use mx_syntax::stmt::{Formula, Params};
 use mx_value::label::Label;
-use mx_value::node::{Node, Path};
+use mx_value::node::{Path, SharedNode};
 use mx_value::value::Value;
 use std::alloc::AllocError;
 
@@ -25,7 +25,7 @@ pub enum Key {
     /// Whether a path is a static one.
     Exists(Path),
     /// The value that was put in for a node.
-    Input(Shared<Node>),
+    Input(SharedNode),
     /// A table.
     Table(Label),
 }

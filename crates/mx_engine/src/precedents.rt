@@ -5,10 +5,9 @@ ghost use Rattle.mx_state.specs.Model.{model_of};
 ghost use Rattle.mx_engine.specs.Precedents.{AreReadBy, AreHeldReads};
 
 use mx_list::list::List;
-use mx_list::shared::Shared;
 use mx_machine::bound::bound;
 use mx_memo::Memo;
-use mx_value::node::Node;
+use mx_value::node::{Node, SharedNode};
 use mx_value::read::Reads;
 use mx_world::world::World;
 use std::alloc::{AllocError, Global};
@@ -37,7 +36,7 @@ fn reads_held(alloc: Global, memo: &Memo, node: Node) -> Result<Reads, AllocErro
     ensures { IfOk result (AreHeldReads (entries_of memo.now.held) node) }
 {
     mx_entries::laws::laws();
-    let shared = Shared::new(alloc, node)?;
+    let shared = SharedNode::new(alloc, node)?;
     let Some(id) = memo.find(&shared) else {
         return List::empty(alloc);
     };

@@ -9,9 +9,8 @@ use crate::engine::Engine;
 use crate::gathering::{by_text, nodes_of, rows_of};
 use mx_edit::key::Key;
 use mx_graph::NodeId;
-use mx_list::shared::Shared;
 use mx_memo::Memo;
-use mx_value::node::Node;
+use mx_value::node::{Node, SharedNode};
 use mx_world::world::World;
 use std::alloc::{AllocError, Global};
 
@@ -38,7 +37,7 @@ fn askers_of(
     ensures { IfOk result (λ ids. AreAskers world.now memo.now node.now ids.items) }
 {
     mx_entries::laws::laws();
-    let shared = Shared::new(alloc, node.copy(alloc)?)?;
+    let shared = SharedNode::new(alloc, node.copy(alloc)?)?;
     if is_input(world, node) {
         match memo.readers_of(alloc, &Key::Input(shared)) {
             Ok(ids) => return Ok(ids),

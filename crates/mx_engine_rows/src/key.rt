@@ -2,9 +2,8 @@
 use crate::reading::{NoRow, node};
 use mx_edit::key::Key;
 use mx_list::list::List;
-use mx_list::shared::Shared;
 use mx_value::label::Label;
-use mx_value::node::Path;
+use mx_value::node::{Path, SharedNode};
 use mx_words::text::word_length;
 use std::alloc::Global;
 
@@ -18,7 +17,7 @@ pub fn key(alloc: Global, text: &[u8]) -> Result<Key, NoRow> {
         return Ok(Key::Table(label_of(alloc, rest)?));
     }
     if kind == b"input".as_slice() {
-        return Ok(Key::Input(Shared::new(alloc, node(alloc, rest)?)?));
+        return Ok(Key::Input(SharedNode::new(alloc, node(alloc, rest)?)?));
     }
     key_at(alloc, kind, rest)
 }

@@ -8,9 +8,8 @@ ghost use Rattle.mx_items.specs.Way.{space_at, DoesTell};
 use crate::held::ItemNamespaces;
 use crate::refusal::ItemsRefusal;
 use crate::way::space_of;
-use mx_list::shared::Shared;
 use mx_value::namespace::Namespace;
-use mx_value::node::Node;
+use mx_value::node::{Node, SharedNode};
 use mx_value::value::Addr;
 use std::alloc::{AllocError, Global};
 use std::collections::HashMap;
@@ -27,7 +26,7 @@ impl ItemNamespaces for ItemStore {
 
     ghost held = { held_in };
 
-    fn namespace_of(&self, node: &Shared<Node>) -> Option<&Namespace> {
+    fn namespace_of(&self, node: &SharedNode) -> Option<&Namespace> {
         self.table.get(node.get())
     }
 }

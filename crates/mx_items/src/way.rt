@@ -10,11 +10,10 @@ use crate::held::ItemNamespaces;
 use crate::refusal::ItemsRefusal;
 use mx_list::items::Items;
 use mx_list::list::List;
-use mx_list::shared::Shared;
 use mx_value::copies::copy_items;
 use mx_value::label::Label;
 use mx_value::namespace::Namespace;
-use mx_value::node::Node;
+use mx_value::node::{Node, SharedNode};
 use mx_value::value::{Addr, Segment, Value};
 use std::alloc::{AllocError, Global};
 
@@ -30,13 +29,13 @@ fn item_node(
     alloc: Global,
     before: &[Segment],
     arguments: &Items<Value>,
-) -> Result<Shared<Node>, AllocError>
+) -> Result<SharedNode, AllocError>
     ensures { IfOk result (λ n. n ≡ Item before.now arguments.now) }
 {
     let mut at = Vec::with_capacity(alloc, before.len())?;
     put_segments(alloc, &mut at, before)?;
     let node = Node::Item(List::from_vec(alloc, at)?, copy_items(alloc, arguments)?);
-    Shared::new(alloc, node)
+    SharedNode::new(alloc, node)
 }
 
 impl Stretch {

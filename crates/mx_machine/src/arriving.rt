@@ -13,7 +13,6 @@ ghost use Rattle.mx_machine.specs.Behind.{EntersAs, IsOverFor, IsSomeWalking, Is
 use crate::machine::Request;
 use crate::seeking::asked_in;
 use mx_bound::records::Records;
-use mx_list::shared::Shared;
 use mx_memo::Memo;
 use mx_node_runs::runs::arrive;
 use mx_passing::current::{Current, Running};
@@ -22,7 +21,7 @@ use mx_turns::runs::Runs;
 use mx_turns::step::go_on;
 use mx_turns::steps::Steps;
 use mx_value::namespace::Namespace;
-use mx_value::node::Node;
+use mx_value::node::SharedNode;
 use mx_value::refusal::EvalRefusal;
 use mx_value::value::Value;
 use mx_walks::walks::Walked;
@@ -52,7 +51,7 @@ pub fn go_on_there<L: Ledger>(
     ensures ticks { steps.old ≤ steps.new }
 {
     mx_items_first::laws::laws();
-    let node = Shared::new(
+    let node = SharedNode::new(
         alloc,
         asked_in(alloc, request.world, request.node, &arrived.space)?,
     )?;
@@ -70,7 +69,7 @@ pub fn go_on_there<L: Ledger>(
 /// The run of the node goes on in its space, with nothing below it.
 fn enter(
     world: &World,
-    node: Shared<Node>,
+    node: SharedNode,
     arrived: Arrived,
     memo: &mut Memo,
     runs: &mut Runs,

@@ -17,14 +17,13 @@ use crate::closing::close;
 use crate::machine::Request;
 use mx_bound::records::Records;
 use mx_bound::walking::{Led, copy_namespace, walk_further};
-use mx_list::shared::Shared;
 use mx_memo::Memo;
 use mx_stack::rest::Onward;
 use mx_turns::progress::Setting;
 use mx_turns::runs::Runs;
 use mx_turns::step::drive;
 use mx_turns::steps::Steps;
-use mx_value::node::Node;
+use mx_value::node::SharedNode;
 use mx_value::refusal::EvalRefusal;
 use mx_value::value::Value;
 use std::alloc::Global;
@@ -33,7 +32,7 @@ use std::sync::ledger::Ledger;
 /// Where the walk of an address came to wait for an item that is not held.
 #[derive(Drop)]
 pub struct Behind {
-    pub item: Shared<Node>,
+    pub item: SharedNode,
     /// The segments behind the item.
     pub rest: Onward,
     /// What is recorded of the walk so far.
@@ -151,7 +150,7 @@ fn pass_item<L: Ledger>(
     let Some(body) = memo.body(given.id) else {
         unreachable!()
     };
-    records.ask(alloc, given.node.get(), given.id)?;
+    records.ask(&given.node, given.id)?;
     let came = copy_namespace(&body.reply.get().namespace)?;
     let led = walk_further(alloc, request.world, memo, rest, came, &mut records)?;
     Ok(Walk { led, records })

@@ -7,14 +7,13 @@ ghost use Rattle.mx_machine.specs.Closing.{HasClosed, IsOver};
 ghost use Rattle.mx_machine.specs.Settings.{IsAlone, evaluation_of};
 
 use crate::closing::close;
-use mx_list::shared::Shared;
 use mx_memo::Memo;
 use mx_passing::known::{Known, find_known};
 use mx_turns::progress::Setting;
 use mx_turns::runs::Runs;
 use mx_turns::step::drive;
 use mx_turns::steps::Steps;
-use mx_value::node::Node;
+use mx_value::node::{Node, SharedNode};
 use mx_value::refusal::EvalRefusal;
 use mx_value::value::Value;
 use std::alloc::Global;
@@ -33,7 +32,7 @@ pub fn evaluate<L: Ledger>(
     ensures closed { HasClosed (model_of setting.now.world.now) (evaluation_of node memo.old setting.now.limit) memo.new (steps.new - steps.old) result }
     ensures ticks { steps.old ≤ steps.new }
 {
-    let node = Shared::new(alloc, node)?;
+    let node = SharedNode::new(alloc, node)?;
     match find_known(alloc, setting.world, memo, &node)? {
         Known::Input(reply) => return Ok(reply.get().value.copy(alloc)?),
         Known::Held(_, reply) => return Ok(reply.get().value.copy(alloc)?),
@@ -46,7 +45,7 @@ pub fn evaluate<L: Ledger>(
 fn evaluate_new<L: Ledger>(
     alloc: Global,
     setting: &Setting<'_>,
-    node: Shared<Node>,
+    node: SharedNode,
     memo: &mut Memo,
     steps: &mut Steps<L>,
 ) -> Result<Value, EvalRefusal>
@@ -66,7 +65,7 @@ fn evaluate_new<L: Ledger>(
 fn run_new<L: Ledger>(
     alloc: Global,
     setting: &Setting<'_>,
-    node: Shared<Node>,
+    node: SharedNode,
     memo: &mut Memo,
     steps: &mut Steps<L>,
 ) -> Result<Value, EvalRefusal>

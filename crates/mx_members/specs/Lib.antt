@@ -1,4 +1,3 @@
 pub mod Chunks
-pub mod Hashed
 pub mod Places
 pub mod Words

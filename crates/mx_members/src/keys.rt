@@ -5,9 +5,10 @@ ghost use Rattle.indexmap.specs.IndexSet.{insert_key};
 ghost use Rattle.mx_members.specs.Places.{place};
 
 use crate::chunks::{Chunks, item_at};
-use crate::hashed::Hashed;
 use crate::share::Share;
+use crate::sought::Sought;
 use indexmap::IndexSet;
+use mx_hashed::hashed::Hashed;
 use mx_list::shared::Shared;
 use std::alloc::{AllocError, Global};
 use std::hash::Hash;
@@ -151,7 +152,7 @@ impl<K: Eq + Hash + Share> Keys<K> {
             Some(at) => return Some(base.len() + at),
             None => {}
         }
-        match self.last.place_of(key) {
+        match self.last.place_of(&Sought { key }) {
             Some(at) => return Some(before_last + at),
             None => return None,
         }
@@ -261,7 +262,10 @@ fn place_in<K: Eq + Hash>(keys: &IndexSet<Hashed<K>>, key: &Hashed<&K>) -> Optio
     ensures place { result ≡ place (K.eq key.now.now) keys.now.keys }
     ensures within { IfSome result (λ at. at < length keys.now.keys) }
 {
-    keys.get_index_of(key)
+    if keys.is_empty() {
+        return None;
+    }
+    keys.get_index_of(&Sought { key })
 }
 
 /// The keys of a set and a few behind them, shared, in a set of their own.

@@ -2,7 +2,7 @@
 #![tactic(auto)]
 
 pub mod chunks;
-pub mod hashed;
 pub mod keys;
 pub mod members;
 pub mod share;
+mod sought;

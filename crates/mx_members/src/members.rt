@@ -6,9 +6,9 @@ ghost use Rattle.std.specs.Map.Iter.{deref_pair};
 ghost use Rattle.mx_members.specs.Words.{define, without};
 
 use crate::chunks::Chunks;
-use crate::hashed::Hashed;
 use crate::keys::Keys;
 use crate::share::Share;
+use mx_hashed::hashed::Hashed;
 use std::alloc::{AllocError, Global};
 use std::hash::Hash;
 use std::marker::Model;

@@ -3,11 +3,13 @@ ghost use Rattle.std.specs.Prelude.{◌≡◌, IfOk};
 
 use mx_edit::reference::RefValue;
 use mx_edit::table::Table;
+use mx_hashed::hashed::Hashed;
 use mx_list::list::List;
 use mx_list::shared::Shared;
 use mx_value::label::Label;
 use mx_value::node::Node;
 use std::alloc::{AllocError, Global};
+use std::hash::Hash;
 
 /// What is copied at once: a copy shares what it is made of.
 pub trait Share: Drop {
@@ -49,5 +51,11 @@ impl<T: Drop> Share for List<T> {
 impl<T: Drop> Share for Shared<T> {
     fn share(&self, _alloc: Global) -> Result<Shared<T>, AllocError> {
         self.copy()
+    }
+}
+
+impl<K: Eq + Hash + Share> Share for Hashed<K> {
+    fn share(&self, alloc: Global) -> Result<Hashed<K>, AllocError> {
+        Ok(self.again(self.key().share(alloc)?))
     }
 }

@@ -15,9 +15,8 @@ ghost use Rattle.mx_memo.specs.Order.{IsInOrder};
 use crate::refusal::HoldRefusal;
 use mx_edit::key::Key;
 use mx_graph::{NoMemory, NodeId, ReadGraph};
-use mx_list::shared::Shared;
 use mx_value::namespace::Namespace;
-use mx_value::node::Node;
+use mx_value::node::SharedNode;
 use mx_vertices::along::Readers;
 use mx_vertices::drops::{drop_after, drop_changed, drop_one, drop_where};
 use mx_vertices::finding::{Table, begin_in, end_as, end_in, holds_node, node_laws};
@@ -53,7 +52,7 @@ pub struct Memo {
     // How far nodes have come, and where keys are.
     table: Table,
     // The nodes whose runs have begun.
-    begun: Vec<Shared<Node>>,
+    begun: Vec<SharedNode>,
 }
 
 impl Model for Memo {
@@ -114,7 +113,7 @@ impl Memo {
     }
 
     /// How far a node has come, in one look: its run has begun, or it is held. None for a new one.
-    pub fn standing(&self, node: &Shared<Node>) -> Option<Standing>
+    pub fn standing(&self, node: &SharedNode) -> Option<Standing>
         ensures some { IfSome result (λ standing. HasCome self.now.held self.now.begun node.now standing) }
         ensures none { IfNone result (IsNew self.now.held node.now × (Has self.now.begun node.now → ⊥)) }
     {
@@ -131,7 +130,7 @@ impl Memo {
     }
 
     /// The held node that is this one.
-    pub fn find(&self, node: &Shared<Node>) -> Option<NodeId>
+    pub fn find(&self, node: &SharedNode) -> Option<NodeId>
         ensures some { IfSome result (λ id. IsHeldAs self.now.held id.at node.now) }
         ensures none { IfNone result (IsNew self.now.held node.now) }
     {
@@ -148,7 +147,7 @@ impl Memo {
     }
 
     /// Notes that the run of a node has begun, behind all others that have. After an error the memo is as before.
-    pub fn begin(&mut self, node: &Shared<Node>) -> Result<(), NoMemory>
+    pub fn begin(&mut self, node: &SharedNode) -> Result<(), NoMemory>
         requires new { IsNew self.old.held node.now }
         requires once { Has self.old.begun node.now → ⊥ }
         ensures begun { OnOk result (self.new ≡ record self.old { begun = self.old.begun ++ node.now ∷ [] }) }
@@ -159,7 +158,7 @@ impl Memo {
     }
 
     /// Notes that the run that began last has ended, and gives its node. None exactly where none has begun. Takes no memory.
-    pub fn end_last(&mut self) -> Option<Shared<Node>>
+    pub fn end_last(&mut self) -> Option<SharedNode>
         ensures held { self.new.held ≡ self.old.held }
         ensures last { self.new.last ≡ self.old.last }
         ensures begun { self.old.begun ≡ self.new.begun ++ option_to_list result }
@@ -177,7 +176,7 @@ impl Memo {
     }
 
     /// The namespace of the space of an item node, where it is held. Takes no memory.
-    pub fn namespace_of(&self, node: &Shared<Node>) -> Option<&Namespace>
+    pub fn namespace_of(&self, node: &SharedNode) -> Option<&Namespace>
         ensures { MatchOption result (namespace_held self.now.held node.now ≡ None) (λ n. namespace_held self.now.held node.now ≡ Some n.now) }
     {
         node_laws();

@@ -7,10 +7,9 @@ ghost use Rattle.mx_memo.specs.Memos.{AreHeld};
 use crate::nodes::Parts;
 use mx_edit::key::Key;
 use mx_graph::NodeId;
-use mx_list::shared::Shared;
 use mx_memo::{KeyTest, Memo};
 use mx_value::label::Label;
-use mx_value::node::Node;
+use mx_value::node::SharedNode;
 use std::alloc::Global;
 
 /// Puts an id behind others, of which there are up to four.
@@ -95,7 +94,7 @@ impl<'k> KeyTest for Edited<'k> {
         }
     }
 
-    fn changed_inputs(&self) -> &[Shared<Node>] {
+    fn changed_inputs(&self) -> &[SharedNode] {
         &[]
     }
 }

@@ -8,7 +8,7 @@ use mx_list::list::List;
 use mx_list::shared::Shared;
 use mx_memo::Body;
 use mx_value::label::Label;
-use mx_value::node::{Node, Path};
+use mx_value::node::{Node, Path, SharedNode};
 use mx_value::read::Reads;
 use mx_value::value::{Addr, Segment, Value};
 use std::alloc::Global;
@@ -69,7 +69,7 @@ impl Parts {
     }
 
     /// The node of a number: `Main.f(n)` for even ones and `S[1].f(n)` for others.
-    pub fn node(&self, alloc: Global, n: u32) -> Option<Shared<Node>> {
+    pub fn node(&self, alloc: Global, n: u32) -> Option<SharedNode> {
         let at = if n % 2 == 0 {
             self.static_space.copy().ok()?
         } else {
@@ -77,11 +77,11 @@ impl Parts {
         };
         let mut arguments = Items::with_capacity(alloc, 1).ok()?;
         arguments.push(Value::Int(i64::from(n))).ok()?;
-        Shared::new(alloc, Node::Cell(at, self.cells.copy().ok()?, arguments)).ok()
+        SharedNode::new(alloc, Node::Cell(at, self.cells.copy().ok()?, arguments)).ok()
     }
 
     /// What is held of a node.
-    pub fn body(&self, alloc: Global, node: Shared<Node>) -> Option<Body>
+    pub fn body(&self, alloc: Global, node: SharedNode) -> Option<Body>
         ensures { IfSome result (λ body. body.node ≡ node) }
     {
         let reply = Reply {

@@ -6,15 +6,14 @@ use crate::reading::{push_counted, two_parts};
 use crate::samples::{name, node};
 use crate::trouble::Trouble;
 use mx_edit::key::Key;
-use mx_list::shared::Shared;
 use mx_memo::{Body, Every, KeyTest, Memo, NodeTest};
 use mx_value::label::Label;
-use mx_value::node::Node;
+use mx_value::node::SharedNode;
 use mx_vertices::finding::node_laws;
 use std::alloc::Global;
 
 /// Whether a node is one of these.
-fn has_node(nodes: &[Shared<Node>], node: &Shared<Node>) -> bool
+fn has_node(nodes: &[SharedNode], node: &SharedNode) -> bool
     ensures { result ≡ has_node nodes.now node.now }
 {
     for other in nodes {
@@ -29,7 +28,7 @@ fn has_node(nodes: &[Shared<Node>], node: &Shared<Node>) -> bool
 #[derive(Drop)]
 pub struct Edited {
     pub name: Label,
-    pub inputs: Vec<Shared<Node>>,
+    pub inputs: Vec<SharedNode>,
 }
 
 impl KeyTest for Edited {
@@ -49,7 +48,7 @@ impl KeyTest for Edited {
         }
     }
 
-    fn changed_inputs(&self) -> &[Shared<Node>] {
+    fn changed_inputs(&self) -> &[SharedNode] {
         node_laws();
         self.inputs.as_slice()
     }
@@ -58,7 +57,7 @@ impl KeyTest for Edited {
 /// One node is to go.
 #[derive(Drop)]
 pub struct OneNode {
-    pub node: Shared<Node>,
+    pub node: SharedNode,
 }
 
 impl NodeTest for OneNode {
@@ -87,7 +86,7 @@ pub fn edit(alloc: Global, memo: &mut Memo, rest: &str, out: &mut Vec<u8>) -> Re
 }
 
 /// The change of a reference and of an input.
-fn edit_of(alloc: Global, name: Label, input: Shared<Node>) -> Result<Edited, Trouble> {
+fn edit_of(alloc: Global, name: Label, input: SharedNode) -> Result<Edited, Trouble> {
     let mut inputs = Vec::new(alloc);
     inputs.push(input)?;
     Ok(Edited { name, inputs })

@@ -7,9 +7,8 @@ use crate::samples::{body, keys, node, reply};
 use crate::trouble::Trouble;
 use mx_edit::key::Key;
 use mx_graph::NodeId;
-use mx_list::shared::Shared;
 use mx_memo::{Body, HoldRefusal, Memo, Standing};
-use mx_value::node::Node;
+use mx_value::node::SharedNode;
 use mx_value::value::Value;
 use std::alloc::Global;
 
@@ -94,7 +93,7 @@ pub fn begin(alloc: Global, memo: &mut Memo, rest: &str, out: &mut Vec<u8>) -> R
 }
 
 /// The same, with the node.
-fn begin_node(memo: &mut Memo, node: &Shared<Node>, out: &mut Vec<u8>) -> Result<(), Trouble> {
+fn begin_node(memo: &mut Memo, node: &SharedNode, out: &mut Vec<u8>) -> Result<(), Trouble> {
     let None = memo.standing(node) else {
         return push_bytes(out, b" standing");
     };
@@ -106,7 +105,7 @@ fn begin_node(memo: &mut Memo, node: &Shared<Node>, out: &mut Vec<u8>) -> Result
 }
 
 /// Adds whether a node stands as begun or held, and whether it is found.
-fn push_standing(memo: &Memo, node: &Shared<Node>, out: &mut Vec<u8>) -> Result<(), Trouble> {
+fn push_standing(memo: &Memo, node: &SharedNode, out: &mut Vec<u8>) -> Result<(), Trouble> {
     if memo.find(node).is_some() {
         push_bytes(out, b" found")?;
     }
@@ -118,7 +117,7 @@ fn push_standing(memo: &Memo, node: &Shared<Node>, out: &mut Vec<u8>) -> Result<
 }
 
 /// Ends the last node that has begun, and adds whether it is this one.
-fn push_ended(memo: &mut Memo, node: &Shared<Node>, out: &mut Vec<u8>) -> Result<(), Trouble> {
+fn push_ended(memo: &mut Memo, node: &SharedNode, out: &mut Vec<u8>) -> Result<(), Trouble> {
     match memo.end_last() {
         Some(ended) => push_bytes(out, if ended == *node { b" ended" } else { b" other" }),
         None => push_bytes(out, b" none"),

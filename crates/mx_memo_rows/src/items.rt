@@ -5,11 +5,10 @@ use crate::samples::{address, argument, body, label, reply};
 use crate::trouble::Trouble;
 use mx_items::{ItemStore, ItemsRefusal, space_of};
 use mx_list::list::List;
-use mx_list::shared::Shared;
 use mx_memo::{Body, Memo};
 use mx_value::label::Label;
 use mx_value::namespace::{Namespace, Overlay};
-use mx_value::node::Node;
+use mx_value::node::{Node, SharedNode};
 use mx_value::value::{Addr, Value};
 use std::alloc::Global;
 
@@ -78,7 +77,7 @@ pub fn hold_item(
 fn body_of(alloc: Global, n: u8) -> Result<Body, Trouble> {
     let value = Value::Space(address(alloc, Some(n), None)?);
     let reply = reply(value, Some(namespace(alloc, n, None)?));
-    body(alloc, Shared::new(alloc, item(alloc, n)?)?, reply)
+    body(alloc, SharedNode::new(alloc, item(alloc, n)?)?, reply)
 }
 
 /// `space NUMBER .` or `space NUMBER NAME`: whether `S[n]` or what has the name below it leads to its namespace by the store, by the

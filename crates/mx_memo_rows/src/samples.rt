@@ -9,7 +9,7 @@ use mx_list::shared::Shared;
 use mx_memo::Body;
 use mx_value::label::Label;
 use mx_value::namespace::Namespace;
-use mx_value::node::Node;
+use mx_value::node::{Node, SharedNode};
 use mx_value::value::{Addr, Segment, Value};
 use std::alloc::Global;
 
@@ -47,8 +47,8 @@ fn cells(alloc: Global, n: u8) -> Result<Node, Trouble> {
 }
 
 /// The same, to be shared.
-pub fn node(alloc: Global, n: u8) -> Result<Shared<Node>, Trouble> {
-    Ok(Shared::new(alloc, cells(alloc, n)?)?)
+pub fn node(alloc: Global, n: u8) -> Result<SharedNode, Trouble> {
+    Ok(SharedNode::new(alloc, cells(alloc, n)?)?)
 }
 
 /// The name of a reference of the model.
@@ -83,7 +83,7 @@ pub fn reply(value: Value, namespace: Option<Namespace>) -> Reply {
 }
 
 /// What is held of a node.
-pub fn body(alloc: Global, node: Shared<Node>, reply: Reply) -> Result<Body, Trouble> {
+pub fn body(alloc: Global, node: SharedNode, reply: Reply) -> Result<Body, Trouble> {
     let reply = Shared::new(alloc, reply)?;
     let reads = List::empty(alloc)?;
     Ok(Body { node, reply, reads })

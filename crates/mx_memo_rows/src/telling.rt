@@ -10,10 +10,9 @@ use crate::samples::{key, node};
 use crate::trouble::Trouble;
 use mx_edit::key::Key;
 use mx_graph::NodeId;
-use mx_list::shared::Shared;
 use mx_memo::{AllKeys, Asks, Body, HeldKeys, Memo, Readers};
 use mx_print::value::{push_node, push_value};
-use mx_value::node::Node;
+use mx_value::node::{Node, SharedNode};
 use mx_value::value::Value;
 use std::alloc::Global;
 
@@ -67,7 +66,7 @@ fn push_held(
     alloc: Global,
     memo: &Memo,
     id: NodeId,
-    node: &Shared<Node>,
+    node: &SharedNode,
     out: &mut Vec<u8>,
 ) -> Result<(), Trouble>
     requires { IsHeld memo.now.held id.at }
@@ -80,12 +79,7 @@ fn push_held(
 }
 
 /// Adds the value and the stamp of a node, and ` other` where it is another node's.
-fn push_body(
-    memo: &Memo,
-    id: NodeId,
-    node: &Shared<Node>,
-    out: &mut Vec<u8>,
-) -> Result<(), Trouble> {
+fn push_body(memo: &Memo, id: NodeId, node: &SharedNode, out: &mut Vec<u8>) -> Result<(), Trouble> {
     let body = memo.body(id).ok_or(Trouble::NoRow)?;
     push_bytes(out, b"=")?;
     push_argument(&body.reply.get().value, out)?;

@@ -7,9 +7,9 @@ ghost use Rattle.mx_model.specs.Readers.{cells_of, name_at, or_false};
 
 use mx_code::compiled::{Compiled, CompiledParams};
 use mx_edit::reference::RefValue;
+use mx_hashed::hashed::Hashed;
 use mx_list::list::List;
 use mx_list::shared::Shared;
-use mx_members::hashed::Hashed;
 use mx_members::members::Members;
 use mx_value::label::Label;
 use mx_value::node::Path;

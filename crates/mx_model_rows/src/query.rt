@@ -1,10 +1,9 @@
 //! The keys of rows.
 use mx_edit::key::Key;
 use mx_list::list::List;
-use mx_list::shared::Shared;
 use mx_parse::parse_node;
 use mx_value::label::{Label, LabelRefusal};
-use mx_value::node::Path;
+use mx_value::node::{Path, SharedNode};
 use std::alloc::{AllocError, Global};
 
 /// The key that the words behind `key` say.
@@ -21,7 +20,7 @@ pub fn read_key(alloc: Global, text: &[u8]) -> Result<Option<Key>, AllocError> {
         [b"exists", path] => Ok(Some(Key::Exists(path_of(alloc, path)?))),
         [b"table", name] => Ok(Some(Key::Table(label_of(alloc, name)?))),
         [b"input", node] => match parse_node(alloc, node) {
-            Ok(node) => Ok(Some(Key::Input(Shared::new(alloc, node)?))),
+            Ok(node) => Ok(Some(Key::Input(SharedNode::new(alloc, node)?))),
             Err(_) => Ok(None),
         },
         _ => Ok(None),

@@ -1,15 +1,14 @@
 //! Where a formula runs.
 use mx_list::items::Items;
-use mx_list::shared::Shared;
 use mx_value::label::Label;
 use mx_value::namespace::Namespace;
-use mx_value::node::Node;
+use mx_value::node::SharedNode;
 use mx_value::value::Value;
 
 /// Where a formula runs: for its node, with names that are looked up in this namespace.
 #[derive(Drop)]
 pub struct Home {
-    pub node: Shared<Node>,
+    pub node: SharedNode,
     pub space: Namespace,
     pub work: Work,
 }

@@ -8,9 +8,8 @@ ghost use Rattle.mx_node_runs.specs.Behind.{after_input};
 ghost use Rattle.mx_node_runs.specs.Halts.{GoesOn};
 
 use mx_edit::key::Key;
-use mx_list::shared::Shared;
 use mx_reading::seen::Seen;
-use mx_value::node::Node;
+use mx_value::node::{Node, SharedNode};
 use mx_value::value::{Segment, Value};
 use mx_world::world::World;
 use std::alloc::{AllocError, Global};
@@ -19,7 +18,7 @@ use std::alloc::{AllocError, Global};
 pub fn find_input(
     alloc: Global,
     world: &World,
-    node: &Shared<Node>,
+    node: &SharedNode,
     seen: &mut Seen,
 ) -> Result<Option<Value>, AllocError>
     ensures { IfOk result (λ found.

@@ -15,13 +15,12 @@ use crate::halt::{Halt, Waiting};
 use crate::input::find_input;
 use crate::items::enter_item;
 use mx_edit::reply::Reply;
-use mx_list::shared::Shared;
 use mx_names::ending::Ending;
 use mx_reading::seen::Seen;
 use mx_stack::stack::Stack;
 use mx_steps::run;
 use mx_value::namespace::Namespace;
-use mx_value::node::Node;
+use mx_value::node::{Node, SharedNode};
 use mx_value::value::Addr;
 use mx_walks::walks::{Walked, walk_from_top, walk_on};
 use mx_world::world::World;
@@ -31,7 +30,7 @@ use std::alloc::{AllocError, Global};
 pub fn start(
     alloc: Global,
     world: &World,
-    node: &Shared<Node>,
+    node: &SharedNode,
     seen: &mut Seen,
     stack: &mut Stack,
 ) -> Result<Halt, AllocError>
@@ -63,7 +62,7 @@ fn address_of(node: &Node) -> &Addr
 /// A reply to a node, whose run waits for it.
 #[derive(Drop)]
 pub struct Answered<'a> {
-    pub node: &'a Shared<Node>,
+    pub node: &'a SharedNode,
     pub waiting: Waiting,
     pub reply: &'a Reply,
 }
@@ -112,7 +111,7 @@ fn copy_namespace(reply: &Reply) -> Result<Option<Namespace>, AllocError>
 pub fn arrive(
     alloc: Global,
     world: &World,
-    node: &Shared<Node>,
+    node: &SharedNode,
     walked: Walked,
     seen: &mut Seen,
     stack: &mut Stack,
@@ -133,7 +132,7 @@ pub fn arrive(
 fn enter(
     alloc: Global,
     world: &World,
-    node: &Shared<Node>,
+    node: &SharedNode,
     space: Namespace,
     seen: &mut Seen,
     stack: &mut Stack,

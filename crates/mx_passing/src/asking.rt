@@ -11,7 +11,7 @@ use crate::known::{Known, find_known};
 use mx_edit::reply::Reply;
 use mx_list::shared::Shared;
 use mx_memo::Memo;
-use mx_value::node::Node;
+use mx_value::node::SharedNode;
 use mx_world::world::World;
 use std::alloc::{AllocError, Global};
 
@@ -32,7 +32,7 @@ pub fn ask(
     world: &World,
     memo: &Memo,
     current: &mut Current,
-    node: &Shared<Node>,
+    node: &SharedNode,
 ) -> Result<Met, AllocError>
     requires ordered { IsOrdered memo.now }
     requires once { HeldOnce memo.now.held }
@@ -43,11 +43,11 @@ pub fn ask(
 {
     match find_known(alloc, world, memo, node)? {
         Known::Input(reply) => {
-            current.records.ask_input(alloc, node)?;
+            current.records.ask_input(node)?;
             Ok(Met::Reply(reply))
         }
         Known::Held(id, reply) => {
-            current.records.ask(alloc, node.get(), id)?;
+            current.records.ask(node, id)?;
             Ok(Met::Reply(reply))
         }
         Known::Begun => Ok(Met::Begun),

@@ -1,13 +1,12 @@
 //! The run on top.
 use mx_bound::records::Records;
-use mx_list::shared::Shared;
 use mx_node_runs::halt::Halt;
-use mx_value::node::Node;
+use mx_value::node::SharedNode;
 
 /// A run in flight: its node, and what is recorded of it so far.
 #[derive(Drop)]
 pub struct Current {
-    pub node: Shared<Node>,
+    pub node: SharedNode,
     pub records: Records,
 }
 

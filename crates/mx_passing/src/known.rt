@@ -10,7 +10,7 @@ use mx_edit::reply::Reply;
 use mx_graph::NodeId;
 use mx_list::shared::Shared;
 use mx_memo::{Memo, Standing};
-use mx_value::node::Node;
+use mx_value::node::{Node, SharedNode};
 use mx_value::value::Value;
 use mx_vertices::inputs::is_static;
 use mx_world::world::World;
@@ -44,7 +44,7 @@ pub fn find_known(
     alloc: Global,
     world: &World,
     memo: &Memo,
-    node: &Shared<Node>,
+    node: &SharedNode,
 ) -> Result<Known, AllocError>
     requires { IsOrdered memo.now }
     ensures { IfOk result (IsKnownAs (model_of world.now) memo.now node.now) }
@@ -64,7 +64,7 @@ pub fn find_known(
 }
 
 /// What a held node gives.
-fn held(memo: &Memo, node: &Shared<Node>, id: NodeId) -> Result<Known, AllocError>
+fn held(memo: &Memo, node: &SharedNode, id: NodeId) -> Result<Known, AllocError>
     requires ordered { IsOrdered memo.now }
     requires held { IsHeldAs memo.now.held id.at node.now }
     ensures { IfOk result (IsHeldReply memo.now.held node.now) }

@@ -13,19 +13,18 @@ ghost use Rattle.mx_passing.specs.declared.passing.Paused.TheVariants as paused;
 use crate::asking::{Met, ask};
 use crate::current::{Current, Running};
 use crate::resuming::{Resumed, resume};
-use mx_list::shared::Shared;
 use mx_memo::Memo;
 use mx_names::ending::Ending;
 use mx_node_runs::halt::{Halt, Waiting};
 use mx_stack::stack::Stack;
-use mx_value::node::Node;
+use mx_value::node::SharedNode;
 use mx_world::world::World;
 use std::alloc::{AllocError, Global};
 
 /// A node that is asked and not known.
 #[derive(Drop)]
 pub struct Asked {
-    pub node: Shared<Node>,
+    pub node: SharedNode,
     /// What the run that asks does with the answer.
     pub waiting: Waiting,
     /// The node's own run has begun.
@@ -103,7 +102,7 @@ fn pass_one(
             let paused = Paused::Ends(ending);
             return Ok(Passed::Pauses(Stretch { current, paused }));
         }
-        Halt::Asks(node, waiting) => (Shared::new(alloc, node)?, waiting),
+        Halt::Asks(node, waiting) => (SharedNode::new(alloc, node)?, waiting),
     };
     match ask(alloc, world, memo, &mut current, &node)? {
         Met::Reply(reply) => {
@@ -120,7 +119,7 @@ fn pass_one(
 }
 
 /// The run waits for a node.
-fn asks(current: Current, node: Shared<Node>, waiting: Waiting, is_begun: bool) -> Stretch
+fn asks(current: Current, node: SharedNode, waiting: Waiting, is_begun: bool) -> Stretch
     ensures current { result.current ≡ current }
     ensures paused { result.paused ≡ paused.Asks (record { node = node; waiting = waiting; is_begun = is_begun }) }
 {

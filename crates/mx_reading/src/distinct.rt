@@ -1,5 +1,5 @@
 //! Items that are held once each.
-ghost use Rattle.std.specs.Prelude.{◌≡◌, [], IfOk, OnOk};
+ghost use Rattle.std.specs.Prelude.{◌≡◌, ◌++◌, ◌∷◌, [], IfOk, OnOk, OnErr};
 ghost use Rattle.std.specs.List.{list_any};
 ghost use Rattle.indexmap.specs.IndexSet.{insert_all, insert_key};
 ghost use Rattle.mx_reading.specs.Seen.{added};
@@ -13,6 +13,9 @@ use std::mem;
 
 /// So many are looked through. More are held by hash.
 const FEW: usize = 16;
+
+/// So many have room once the first is there.
+const FIRST: usize = 8;
 
 /// How items are held.
 #[derive(Drop)]
@@ -92,6 +95,18 @@ fn has_item<T: PartialEq>(items: &[T], item: &T) -> bool
     items.iter().any(|i| *i == *item)
 }
 
+/// One item more among a few. The first one makes room for some.
+fn push_few<T: Drop>(items: &mut Vec<T>, item: T) -> Result<(), AllocError>
+    ensures ok { OnOk result (items.new.items ≡ items.old.items ++ item ∷ []) }
+    ensures err { OnErr result (items.new.items ≡ items.old.items) }
+{
+    if items.is_empty() {
+        items.reserve(FIRST)?;
+    }
+    items.push(item)?;
+    Ok(())
+}
+
 /// Items by hash.
 fn by_hash<T: Eq + Hash + Drop>(alloc: Global, items: Vec<T>) -> Result<IndexSet<T>, AllocError>
     ensures { IfOk result (λ set. set.keys ≡ insert_all T.eq [] items.items) }
@@ -140,7 +155,7 @@ fn enter_in<T: Eq + Hash + Drop>(
                 return Ok(());
             }
             if items.len() < FEW {
-                items.push(item)?;
+                push_few(items, item)?;
                 return Ok(());
             }
             let set = enter_past(alloc, items, item)?;

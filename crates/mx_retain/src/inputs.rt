@@ -18,7 +18,7 @@ use mx_list::shared::Shared;
 use mx_members::members::Members;
 use mx_model::laws::key_laws;
 use mx_value::label::Label;
-use mx_value::node::Node;
+use mx_value::node::{Node, SharedNode};
 use mx_value::value::{Addr, Value};
 use mx_world::world::World;
 use std::alloc::{AllocError, Global};
@@ -30,7 +30,7 @@ pub fn changed_by(
     before: &World,
     after: &World,
     edit: &Edit,
-) -> Result<Vec<Shared<Node>>, AllocError>
+) -> Result<Vec<SharedNode>, AllocError>
     requires { Apply before.now edit.now (Ok after.now) }
     ensures { IfOk result (λ nodes. AreChanged (is_changed before.now after.now) nodes.items) }
 {
@@ -77,7 +77,7 @@ fn changed_input(
     before: &World,
     after: &World,
     node: &Node,
-) -> Result<Vec<Shared<Node>>, AllocError>
+) -> Result<Vec<SharedNode>, AllocError>
     ensures { IfOk result (λ nodes. nodes.items ≡ one_changed before.now after.now node.now) }
 {
     let mut nodes = Vec::new(alloc);
@@ -90,7 +90,7 @@ fn changed_inputs(
     alloc: Global,
     before: &World,
     after: &World,
-) -> Result<Vec<Shared<Node>>, AllocError>
+) -> Result<Vec<SharedNode>, AllocError>
     ensures { IfOk result (λ nodes. AreChanged (is_changed before.now after.now) nodes.items) }
 {
     key_laws();
@@ -106,7 +106,7 @@ fn add_changed(
     before: &World,
     after: &World,
     inputs: &Members<Node, Shared<Value>>,
-    nodes: &mut Vec<Shared<Node>>,
+    nodes: &mut Vec<SharedNode>,
 ) -> Result<(), AllocError>
     ensures { OnOk result (nodes.new.items ≡ nodes.old.items ++ changed_in before.now after.now inputs.now) }
 {
@@ -125,7 +125,7 @@ fn add_one(
     before: &World,
     after: &World,
     node: &Node,
-    nodes: &mut Vec<Shared<Node>>,
+    nodes: &mut Vec<SharedNode>,
 ) -> Result<(), AllocError>
     ensures { OnOk result (nodes.new.items ≡ nodes.old.items ++ one_changed before.now after.now node.now) }
 {
@@ -133,7 +133,7 @@ fn add_one(
     if is_same(before, after, node) {
         return Ok(());
     }
-    nodes.push(Shared::new(alloc, node.copy(alloc)?)?)?;
+    nodes.push(SharedNode::new(alloc, node.copy(alloc)?)?)?;
     return Ok(());
 }
 

@@ -5,10 +5,9 @@ ghost use Rattle.mx_vertices.specs.Inputs.{AreChanged};
 ghost use Rattle.mx_vertices.specs.Kept.{HasChanged, IsTouched, Sifts};
 
 use mx_edit::key::Key;
-use mx_list::shared::Shared;
 use mx_memo::{KeyTest, Memo};
 use mx_model::laws::key_laws;
-use mx_value::node::Node;
+use mx_value::node::SharedNode;
 use mx_world::changed::key_changed;
 use mx_world::world::World;
 use std::marker::Model;
@@ -18,7 +17,7 @@ use std::marker::Model;
 struct Worlds<'w> {
     before: &'w World,
     after: &'w World,
-    inputs: &'w [Shared<Node>],
+    inputs: &'w [SharedNode],
 }
 
 impl<'w> Model for Worlds<'w> {
@@ -51,19 +50,14 @@ impl<'w> KeyTest for Worlds<'w> {
         key_changed(self.before, self.after, key)
     }
 
-    fn changed_inputs(&self) -> &[Shared<Node>] {
+    fn changed_inputs(&self) -> &[SharedNode] {
         self.inputs
     }
 }
 
 /// Drops the held nodes that looked up what differs between two worlds, or reach one that did, and tells how many are dropped.
 /// The nodes whose inputs differ are given. Takes no memory.
-pub fn keep_unchanged(
-    before: &World,
-    after: &World,
-    inputs: &[Shared<Node>],
-    memo: &mut Memo,
-) -> u32
+pub fn keep_unchanged(before: &World, after: &World, inputs: &[SharedNode], memo: &mut Memo) -> u32
     requires { AreChanged (is_changed before.now after.now) inputs.now }
     ensures drops { Sifts (IsTouched (HasChanged (is_changed before.now after.now)) memo.old.held) memo.old.held memo.new.held }
     ensures count { result + length memo.new.held ≡ length memo.old.held }

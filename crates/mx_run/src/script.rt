@@ -8,6 +8,7 @@ use crate::stop::{Stop, stop_of};
 use mx_outside::{Sink, Source};
 use mx_turns::steps::Steps;
 use std::alloc::Global;
+use std::mem;
 use std::sync::ledger::{Blank, Ledger};
 
 /// The number of bytes that one read may give.
@@ -35,7 +36,10 @@ pub fn run<S: Source, K: Sink, L: Ledger>(
     let Ok(mut session) = Session::new(alloc) else {
         return Err(Stop::NoMemory);
     };
-    return read_script(&mut session, script, &mut steps, out);
+    let ended = read_script(&mut session, script, &mut steps, out);
+    // What is left of the session goes with the program: nothing of it is given back piece by piece.
+    mem::forget(session);
+    return ended;
 }
 
 /// The same, by a session that has read nothing.

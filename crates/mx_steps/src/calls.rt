@@ -14,6 +14,7 @@ use mx_stack::callee::{Callee, pop_callee, push_callee};
 use mx_stack::slot::Slot;
 use mx_stack::stack::Stack;
 use mx_stack::walks::{Call, Subscript, pop_way};
+use mx_value::namespace::Namespace;
 use mx_value::value::{Addr, Value};
 use mx_walks::called::Called;
 use mx_walks::calls::{call, subscript};
@@ -46,6 +47,7 @@ fn callee_address(callee: &Callee) -> Option<&Addr>
 pub fn run_call(
     alloc: Global,
     world: &World,
+    near: &Namespace,
     stack: &mut Stack,
     count: usize,
     seen: &mut Seen,
@@ -56,7 +58,7 @@ pub fn run_call(
     let way = pop_way(stack)?;
     let arguments = pop_values(alloc, stack, count)?;
     let callee = pop_callee(stack)?;
-    match walk_first(alloc, world, way, callee_address(&callee))? {
+    match walk_first(alloc, world, near, way, callee_address(&callee))? {
         Come::Here(here) => {
             let taken = Call {
                 way: here,
@@ -80,6 +82,7 @@ pub fn run_call(
 pub fn run_index(
     alloc: Global,
     world: &World,
+    near: &Namespace,
     stack: &mut Stack,
     count: usize,
     seen: &mut Seen,
@@ -90,7 +93,7 @@ pub fn run_index(
     let way = pop_way(stack)?;
     let arguments = pop_values(alloc, stack, count)?;
     let of = pop_value(stack)?;
-    match walk_first(alloc, world, way, called_address(&of))? {
+    match walk_first(alloc, world, near, way, called_address(&of))? {
         Come::Here(here) => {
             let taken = Subscript {
                 way: here,

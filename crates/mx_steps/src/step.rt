@@ -54,11 +54,11 @@ pub fn step(
             return Ok(stop_at(stack, called, line)?);
         }
         Action::Index(count) => {
-            let called = run_index(alloc, world, stack, count, seen)?;
+            let called = run_index(alloc, world, &home.space, stack, count, seen)?;
             return Ok(stop_at(stack, called, line)?);
         }
         Action::Call(count) => {
-            let called = run_call(alloc, world, stack, count, seen)?;
+            let called = run_call(alloc, world, &home.space, stack, count, seen)?;
             return Ok(stop_at(stack, called, line)?);
         }
         Action::Return => return Ok(Some(Stop::Ends(end_value(alloc, home, stack)?))),

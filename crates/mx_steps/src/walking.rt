@@ -16,7 +16,8 @@ use mx_value::namespace::Namespace;
 use mx_value::node::Node;
 use mx_value::value::Addr;
 use mx_walks::called::Called;
-use mx_walks::walks::{Walked, walk};
+use mx_walks::near::walk_near;
+use mx_walks::walks::Walked;
 use mx_world::world::World;
 use std::alloc::{AllocError, Global};
 
@@ -31,10 +32,11 @@ pub enum Come {
     WrongCount,
 }
 
-/// Walks on to an address, where the instruction walks to one.
+/// Walks on to an address, where the instruction walks to one. Near is the space where the formula runs.
 pub fn walk_first(
     alloc: Global,
     world: &World,
+    near: &Namespace,
     way: Option<Way>,
     at: Option<&Addr>,
 ) -> Result<Come, AllocError>
@@ -44,7 +46,7 @@ pub fn walk_first(
     let Some(at) = at else {
         return Ok(Come::Here(way));
     };
-    match walk(alloc, world, way, at)? {
+    match walk_near(alloc, world, near, way, at)? {
         Walked::Came(space) => return Ok(Come::Here(Some(end_of(at, space)?))),
         Walked::Asks(node, rest) => return Ok(Come::Asks(node, rest)),
         Walked::NoSuch => return Ok(Come::NoSuch),

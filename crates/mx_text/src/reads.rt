@@ -13,7 +13,7 @@ pub fn push_read(alloc: Global, out: &mut Vec<u8>, read: &Read) -> Result<(), Al
     ensures { OnOk result (out.new.items ≡ out.old.items ++ read_text read.now) }
 {
     match read {
-        Read::Node(node) => push_node(out, node),
+        Read::Node(node) => push_node(out, node.get()),
         Read::Ref(at, name) => {
             push(out, b"ref ")?;
             push_address(alloc, out, at)?;

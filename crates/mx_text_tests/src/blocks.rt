@@ -8,6 +8,7 @@ use mx_text::blocks::{
     push_value_block,
 };
 use mx_text::form::push_form_block;
+use mx_value::node::SharedNode;
 use mx_value::read::Read;
 use mx_value::refusal::EvalRefusal;
 use mx_value::value::Value;
@@ -27,7 +28,7 @@ fn an_evaluation_says_its_value_and_its_runs(rt: HostRuntime) -> Result<(), Fail
 
 fn reads(alloc: Global) -> Result<Vec<Read>, Fail> {
     let mut reads = Vec::new(alloc);
-    reads.push(Read::Node(node(alloc, "f")?))?;
+    reads.push(Read::Node(SharedNode::new(alloc, node(alloc, "f")?)?))?;
     reads.push(reference(alloc)?)?;
     reads.push(Read::Global(label(alloc, "g")?))?;
     reads.push(Read::Table(label(alloc, "mort")?))?;

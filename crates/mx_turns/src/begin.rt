@@ -8,11 +8,10 @@ ghost use Rattle.mx_turns.specs.Flights.{Begins, IsAwaited, IsBegun, IsSound, Wo
 use crate::runs::Runs;
 use crate::steps::Steps;
 use mx_bound::records::Records;
-use mx_list::shared::Shared;
 use mx_memo::Memo;
 use mx_node_runs::runs::start;
 use mx_passing::current::{Current, Running};
-use mx_value::node::Node;
+use mx_value::node::SharedNode;
 use mx_value::refusal::EvalRefusal;
 use mx_world::world::World;
 use std::sync::ledger::Ledger;
@@ -20,7 +19,7 @@ use std::sync::ledger::Ledger;
 /// The run of a node begins on top of the others, is counted, and goes on to its end or to a node that it asks.
 pub fn begin<L: Ledger>(
     world: &World,
-    node: Shared<Node>,
+    node: SharedNode,
     memo: &mut Memo,
     runs: &mut Runs,
     steps: &mut Steps<L>,

@@ -32,7 +32,7 @@ pub fn hand_down(
         waiting,
         place,
     } = frame;
-    current.records.ask(alloc, given.node.get(), given.id)?;
+    current.records.ask(&given.node, given.id)?;
     runs.stack.go_back(place);
     let resumed = Resumed {
         waiting,

@@ -13,7 +13,7 @@ use mx_list::shared::Shared;
 use mx_memo::{Body, HoldRefusal, Memo};
 use mx_passing::current::Current;
 use mx_reading::distinct::Distinct;
-use mx_value::node::Node;
+use mx_value::node::{Node, SharedNode};
 use mx_value::read::Read;
 use mx_vertices::inputs::is_static;
 use std::alloc::{AllocError, Global};
@@ -52,7 +52,7 @@ pub fn hold(
 /// What is held of a node: its reply, and what its run read.
 fn body_of(
     alloc: Global,
-    node: &Shared<Node>,
+    node: &SharedNode,
     reply: Reply,
     reads: Distinct<Read>,
 ) -> Result<Body, AllocError>

@@ -3,14 +3,14 @@ use mx_edit::reply::Reply;
 use mx_graph::NodeId;
 use mx_list::shared::Shared;
 use mx_passing::current::Running;
-use mx_value::node::Node;
+use mx_value::node::SharedNode;
 use mx_world::world::World;
 
 /// A node that has given its reply and is held under this id.
 #[derive(Drop)]
 pub struct Given {
     pub id: NodeId,
-    pub node: Shared<Node>,
+    pub node: SharedNode,
     pub reply: Shared<Reply>,
 }
 

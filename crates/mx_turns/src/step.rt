@@ -14,15 +14,16 @@ use crate::progress::{Given, Progress, Setting};
 use crate::runs::Runs;
 use crate::steps::Steps;
 use crate::wait::wait;
-use mx_list::shared::Shared;
 use mx_memo::Memo;
 use mx_passing::current::Running;
 use mx_passing::passing::{Paused, Stretch, pass};
-use mx_value::node::Node;
+use mx_value::node::SharedNode;
 use mx_value::refusal::EvalRefusal;
 use std::sync::ledger::Ledger;
 
-/// The run on top goes on to its reply, to its end without one, or to a node that it asks, whose run begins.
+/// The run on top goes on to its reply, to its end without one, or to a node that it asks, whose run begins. It stands in the
+/// loop below, so that no run is moved in and out at each step.
+#[inline(always)]
 fn step<L: Ledger>(
     setting: &Setting<'_>,
     running: Running,
@@ -56,7 +57,7 @@ fn step<L: Ledger>(
 /// The run of a node begins, and goes on with those that it asks until the node has given its reply.
 pub fn drive<L: Ledger>(
     setting: &Setting<'_>,
-    node: Shared<Node>,
+    node: SharedNode,
     memo: &mut Memo,
     runs: &mut Runs,
     steps: &mut Steps<L>,

@@ -4,6 +4,7 @@ ghost use Rattle.std.specs.Prelude.{◌≡◌, IfOk};
 use crate::copies::copy_items;
 use crate::label::Label;
 use crate::value::{Addr, Value};
+use mx_hashed::shared_key::SharedKey;
 use mx_list::items::Items;
 use mx_list::list::List;
 use std::alloc::{AllocError, Global};
@@ -19,6 +20,9 @@ pub enum Node {
     /// The item space that the space at an address gives for these arguments.
     Item(Addr, Items<Value>),
 }
+
+/// A node that its copies share, beside its hash.
+pub type SharedNode = SharedKey<Node>;
 
 impl Node {
     /// An equal node. The address and the name are shared, the arguments are copied.

@@ -2,16 +2,16 @@
 ghost use Rattle.std.specs.Prelude.{◌≡◌, IfOk};
 
 use crate::label::Label;
-use crate::node::Node;
+use crate::node::SharedNode;
 use crate::value::Addr;
 use mx_list::list::List;
-use std::alloc::{AllocError, Global};
+use std::alloc::AllocError;
 
 /// One thing that a run read.
 #[derive(PartialEq, Eq, Hash, Drop)]
 pub enum Read {
     /// A node that it asked.
-    Node(Node),
+    Node(SharedNode),
     /// A reference, with the address of the namespace that it was found in.
     Ref(Addr, Label),
     /// A reference of the model.
@@ -24,12 +24,12 @@ pub enum Read {
 pub type Reads = List<Read>;
 
 impl Read {
-    /// An equal read.
-    pub fn copy(&self, alloc: Global) -> Result<Read, AllocError>
+    /// An equal read, which shares what it holds.
+    pub fn copy(&self) -> Result<Read, AllocError>
         ensures { IfOk result (λ c. c ≡ self.now) }
     {
         match self {
-            Read::Node(node) => Ok(Read::Node(node.copy(alloc)?)),
+            Read::Node(node) => Ok(Read::Node(node.copy()?)),
             Read::Ref(at, name) => Ok(Read::Ref(at.copy()?, name.copy()?)),
             Read::Global(name) => Ok(Read::Global(name.copy()?)),
             Read::Table(name) => Ok(Read::Table(name.copy()?)),

@@ -14,13 +14,12 @@ use crate::standing::Standing;
 use mx_edit::equality::equality_laws as laws_of_keys;
 use mx_edit::key::Key;
 use mx_graph::{NoMemory, NodeId};
-use mx_list::shared::Shared;
 use mx_value::equality::equality_laws;
-use mx_value::node::Node;
+use mx_value::node::{Node, SharedNode};
 use std::collections::HashMap;
 
 /// How far nodes have come.
-pub type Nodes = HashMap<Shared<Node>, Standing>;
+pub type Nodes = HashMap<SharedNode, Standing>;
 
 /// The vertices of keys.
 pub type Keys = HashMap<Key, NodeId>;
@@ -35,7 +34,7 @@ pub struct Table {
 }
 
 /// Whether two nodes are the same.
-fn is_same_node(a: &Shared<Node>, b: &Node) -> bool
+fn is_same_node(a: &SharedNode, b: &Node) -> bool
     ensures yes { result ≡ true → a.now ≡ b.now }
     ensures no { a.now ≡ b.now → result ≡ true }
 {
@@ -94,8 +93,8 @@ pub fn key_laws()
 /// Marks a node whose run begins. After an error nothing is seen to change.
 pub fn begin_in(
     table: &mut Nodes,
-    begun: &mut Vec<Shared<Node>>,
-    node: &Shared<Node>,
+    begun: &mut Vec<SharedNode>,
+    node: &SharedNode,
 ) -> Result<(), NoMemory>
     ensures begun { OnOk result (begun.new.items ≡ begun.old.items ++ node.now ∷ []) }
     ensures marked { OnOk result ((n : Asked) → look_up node_eq table.new n ≡ (if node_eq node.now n then Some Begun else look_up node_eq table.old n)) }
@@ -111,7 +110,7 @@ pub fn begin_in(
 }
 
 /// Takes the mark off the node whose run began last, and gives it.
-pub fn end_in(table: &mut Nodes, begun: &mut Vec<Shared<Node>>) -> Option<Shared<Node>>
+pub fn end_in(table: &mut Nodes, begun: &mut Vec<SharedNode>) -> Option<SharedNode>
     ensures begun { begun.old.items ≡ begun.new.items ++ option_to_list result }
     ensures none { IfNone result (begun.old.items ≡ []) }
     ensures table { MatchOption result ((n : Asked) → look_up node_eq table.new n ≡ look_up node_eq table.old n) (λ node. (n : Asked) → look_up node_eq table.new n ≡ (if node_eq node n then None else look_up node_eq table.old n)) }
@@ -124,7 +123,7 @@ pub fn end_in(table: &mut Nodes, begun: &mut Vec<Shared<Node>>) -> Option<Shared
 }
 
 /// The node whose run began last is held from now on, under this id. Its entry stays where it is.
-pub fn end_as(table: &mut Nodes, begun: &mut Vec<Shared<Node>>, id: NodeId) -> Option<Shared<Node>>
+pub fn end_as(table: &mut Nodes, begun: &mut Vec<SharedNode>, id: NodeId) -> Option<SharedNode>
     requires { AreBegun (look_up node_eq table.old) begun.old.items }
     ensures begun { begun.old.items ≡ begun.new.items ++ option_to_list result }
     ensures none { IfNone result (begun.old.items ≡ []) }

@@ -94,7 +94,8 @@ pub fn vertices_of(
     ensures sources { IfOk result (λ s. sources_of slots.new.items s.items ≡ map_list looked wanted.now ++ map_list asked_id asks.now) }
     ensures there { IfOk result (λ s. AreThere slots.new.items s.items) }
 {
-    let mut sources = Vec::new(alloc);
+    let room = wanted.len().saturating_add(asks.len());
+    let mut sources = Vec::with_capacity(alloc, room)?;
     key_vertices(graph, slots, order, keys, table, wanted, &mut sources)?;
     put_ids(&mut sources, asks)?;
     Ok(sources)

@@ -16,8 +16,7 @@ use crate::slot::Slot;
 use crate::standing::Standing;
 use mx_edit::key::Key;
 use mx_graph::{NoMemory, NodeId, ReadGraph};
-use mx_list::shared::Shared;
-use mx_value::node::Node;
+use mx_value::node::{Node, SharedNode};
 use mx_value::value::Segment;
 use std::alloc::Global;
 
@@ -54,7 +53,7 @@ pub fn is_static(node: &Node) -> bool
 }
 
 /// The held node that is this one.
-pub fn find_held(slots: &[Slot], table: &Nodes, node: &Shared<Node>) -> Option<NodeId>
+pub fn find_held(slots: &[Slot], table: &Nodes, node: &SharedNode) -> Option<NodeId>
     requires { LeadsTo (look_up node_eq table.now) slots.now }
     ensures { (q : ℕ) → IsNodeAt slots.now q node.now ↔ Has (map_list id_at (option_to_list result)) q }
 {
@@ -85,7 +84,7 @@ pub fn node_of_input(slots: &[Slot], table: &Nodes, key: &Key) -> Option<NodeId>
 }
 
 /// Marks a node with all that reach it, where it is held and static.
-fn mark_input(graph: &mut ReadGraph, slots: &[Slot], table: &Nodes, node: &Shared<Node>)
+fn mark_input(graph: &mut ReadGraph, slots: &[Slot], table: &Nodes, node: &SharedNode)
     requires nodes { AreNodesLive graph.old.nodes slots.now }
     requires found { LeadsTo (look_up node_eq table.now) slots.now }
     ensures live { (q : ℕ) → IsSome (map.get graph.new.nodes q) ↔ IsSome (map.get graph.old.nodes q) }
@@ -101,7 +100,7 @@ fn mark_input(graph: &mut ReadGraph, slots: &[Slot], table: &Nodes, node: &Share
 }
 
 /// Marks each of these nodes that is held and static, with all that reach it.
-pub fn mark_inputs(graph: &mut ReadGraph, slots: &[Slot], table: &Nodes, nodes: &[Shared<Node>])
+pub fn mark_inputs(graph: &mut ReadGraph, slots: &[Slot], table: &Nodes, nodes: &[SharedNode])
     requires nodes { AreNodesLive graph.old.nodes slots.now }
     requires found { LeadsTo (look_up node_eq table.now) slots.now }
     ensures live { (q : ℕ) → IsSome (map.get graph.new.nodes q) ↔ IsSome (map.get graph.old.nodes q) }

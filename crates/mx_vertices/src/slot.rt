@@ -2,13 +2,13 @@
 use mx_edit::key::Key;
 use mx_edit::reply::Reply;
 use mx_list::shared::Shared;
-use mx_value::node::Node;
+use mx_value::node::{Node, SharedNode};
 use mx_value::read::Reads;
 
 /// A held node: what it gives, and what its run read of nodes, references and tables, in order.
 #[derive(Drop)]
 pub struct Body {
-    pub node: Shared<Node>,
+    pub node: SharedNode,
     pub reply: Shared<Reply>,
     pub reads: Reads,
 }

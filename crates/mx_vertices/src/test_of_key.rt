@@ -4,8 +4,7 @@ ghost use Rattle.mx_edit.specs.declared.key.Key.{Key as Looked};
 ghost use Rattle.mx_vertices.specs.Inputs.{AreChanged};
 
 use mx_edit::key::Key;
-use mx_list::shared::Shared;
-use mx_value::node::Node;
+use mx_value::node::SharedNode;
 
 /// Tells which keys are changed, as two model texts do where the results of a key differ.
 pub trait KeyTest {
@@ -17,6 +16,6 @@ pub trait KeyTest {
         ensures { result ≡ changed self.now key.now };
 
     /// The nodes whose inputs are changed. Takes no memory.
-    fn changed_inputs(&self) -> &[Shared<Node>]
+    fn changed_inputs(&self) -> &[SharedNode]
         ensures { AreChanged (changed self.now) result.now };
 }

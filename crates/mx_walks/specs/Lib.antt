@@ -1,3 +1,4 @@
 pub mod Ways
 pub mod Laws
 pub mod Calls
+pub mod Near

@@ -8,6 +8,7 @@ mod copies;
 mod going;
 pub mod items;
 pub mod laws;
+pub mod near;
 pub mod spaces;
 mod tables;
 pub mod walks;

@@ -1,6 +1,5 @@
 use Rattle.std.proofs.Common.{◌≡◌, Option, sym, ◌∙◌, ap, subst}
 use Rattle.mx_value.specs.declared.namespace.Namespace.{Namespace}
-use Rattle.mx_value.specs.declared.node.Node.{Node}
 use Rattle.mx_value.specs.declared.read.Read.TheVariants as read
 use Rattle.mx_edit.specs.declared.reply.Reply.{Reply}
 use Rattle.mx_model.specs.Keys.{key_result}
@@ -15,9 +14,9 @@ use Rattle.mx_bound.proofs.walking.ask_item.Goals as goal
 pub returns : goal.returns
 returns c = λ at s.
     let seen : c.ask.new.self.seen ≡ with_read (read.Node c.args.item) c.args.records.now.seen =
-    c.in_ok-ask.ensures.seen ∙ ap (λ (n : Node). with_read (read.Node n) c.args.records.now.seen) c.get.ensures in
+    c.in_ok-ask.ensures.seen in
     let came : c.in_ok-came.came ≡ c.in-Some-body.body.now.reply.namespace =
-    c.in_ok-came.ensures ∙ ap (λ (r : Reply). r.namespace) c.get-2.ensures in
+    c.in_ok-came.ensures ∙ ap (λ (r : Reply). r.namespace) c.get.ensures in
     let led : resumed_way (key_result c.args.world.now) c.args.rest c.in-Some-body.body.now.reply.namespace ≡ told c.in_ok-walked.walked =
     ap (λ (x : Option Namespace). resumed_way (key_result c.args.world.now) c.args.rest x) (sym came) ∙ sym c.in_ok-walked.ensures in
     subst (λ (to : Leading). StandsOn (model_of c.args.world.now) c.args.memo.now.held at s.walk.events to c.ask.new.self) led

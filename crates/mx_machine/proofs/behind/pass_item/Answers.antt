@@ -71,12 +71,12 @@ returns-clause-goes g c = λ start before w.
     is_item c.args.request.now.world.now c.args.request.now.node.now (asks_in_order c.laws.ensures.items_first c.args.request.now.world.now) c.laws.ensures.waits_on_the_way start c.args.memo.now c.args.request.now.limit before c.args.steps.now c.args.behind.records c.args.behind.item c.args.behind.rest w
     c.if-request-le1.false c.new-runs.result.stack c.drive.new.memo c.drive.new.steps c.in_ok-given.given
     (drives_alone c.args.request.now.world.now c.args.memo.now c.new-runs.result.stack c.new-runs.result.frames.items c.args.behind.item c.args.request.now.limit c.args.steps.now c.drive.new.memo c.drive.new.steps (Ok c.in_ok-given.given) c.new-runs.ensures.frames (asks_in_order c.laws.ensures.items_first c.args.request.now.world.now) c.in_ok-given.ensures.drove) in
-    let came : c.in_ok-came.came ≡ c.in-Some.body.now.reply.namespace = c.in_ok-came.ensures ∙ ap (λ (r : Reply). r.namespace) c.get-3.ensures in
+    let came : c.in_ok-came.came ≡ c.in-Some.body.now.reply.namespace = c.in_ok-came.ensures ∙ ap (λ (r : Reply). r.namespace) c.get-2.ensures in
     walks_on c.args.request.now.world.now c.args.request.now.node.now (asks_in_order c.laws.ensures.items_first c.args.request.now.world.now) c.laws.ensures.waits_on_the_way start c.args.memo.now c.args.request.now.limit before c.args.steps.now c.args.behind.records c.args.behind.item c.args.behind.rest w
     c.if-request-le1.false c.new-runs.result.stack c.drive.new.memo c.drive.new.steps c.in_ok-given.given
     (drives_alone c.args.request.now.world.now c.args.memo.now c.new-runs.result.stack c.new-runs.result.frames.items c.args.behind.item c.args.request.now.limit c.args.steps.now c.drive.new.memo c.drive.new.steps (Ok c.in_ok-given.given) c.new-runs.ensures.frames (asks_in_order c.laws.ensures.items_first c.args.request.now.world.now) c.in_ok-given.ensures.drove)
     c.requires.sound.ordered c.in_ok-given.ensures.sound.0.ordered (c.in_ok-given.ensures.grown c.args.memo.now (grown_from_itself c.args.memo.now)) c.in-Some.body.now
     (subst (λ (n : Node). IsHeldAs c.drive.new.memo.held c.in_ok-given.given.id.at n) item c.in_ok-given.ensures.sound.2) c.in-Some.ensures
     c.ask.new.self c.walk_further.new.records
-    (c.in_ok-ask.ensures.seen ∙ ap (λ (n : Node). with_read (read.Node n) c.args.behind.records.seen) (c.get-2.ensures ∙ item)) c.in_ok-ask.ensures.asks c.in_ok-led.led
+    (c.in_ok-ask.ensures.seen ∙ ap (λ (n : Node). with_read (read.Node n) c.args.behind.records.seen) item) c.in_ok-ask.ensures.asks c.in_ok-led.led
     (subst (λ (x : Option Namespace). LeadsFurther (model_of c.args.request.now.world.now) c.drive.new.memo.held c.args.behind.rest x c.ask.new.self c.in_ok-led.led c.walk_further.new.records) came c.in_ok-led.ensures)

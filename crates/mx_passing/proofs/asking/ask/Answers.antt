@@ -1,6 +1,5 @@
-use Rattle.std.proofs.Common.{◌≡◌, List, sym, ◌∙◌, ap, subst}
+use Rattle.std.proofs.Common.{◌≡◌, List, sym, ap, subst}
 use Rattle.mx_graph.specs.declared.ids.NodeId.{NodeId}
-use Rattle.mx_value.specs.declared.node.Node.{Node}
 use Rattle.mx_value.specs.declared.read.Read.TheVariants as read
 use Rattle.mx_memo.specs.Memos.{AreHeld}
 use Rattle.mx_state.specs.Model.{model_of}
@@ -23,7 +22,7 @@ pub returns-in_ok-ask-in-Held-clause-met : goal.returns-in_ok-ask-in-Held-clause
 returns-in_ok-ask-in-Held-clause-met c =
     let g : GivesHeld c.args.memo.now.held c.in-Held.id.at c.args.node.now c.in-Held.reply = rw c.in-Held.is at c.in_ok-reply.ensures in
     let seen : c.ask.new.self.seen ≡ with_read (read.Node c.args.node.now) c.args.current.now.records.seen =
-    c.in_ok-ask-in-Held.ensures.seen ∙ ap (λ (n : Node). with_read (read.Node n) c.args.current.now.records.seen) c.get.ensures in
+    c.in_ok-ask-in-Held.ensures.seen in
     held_answers (model_of c.args.world.now) c.args.memo.now c.args.node.now c.args.current.now.records c.ask.new.self c.requires.once c.requires.asks c.in-Held.id c.in-Held.reply g
     (one_under_id c.args.memo.now c.in-Held.id.at c.args.node.now c.requires.ordered (record { entry = g.entry; among = g.among; id_is = g.id_is; node_is = g.node_is }))
     seen c.in_ok-ask-in-Held.ensures.asks

@@ -12,7 +12,7 @@ returns-then-len-lt-FEW-clause-once g c =
     let once = subst (IsEachOnce eq) c.in-Few.is c.requires in
     let new : list_any (λ y. eq y c.args.item) c.in-Few.items.items ≡ false =
     sym (c.has_item.ensures ∙ ap (list_any (λ y. eq y c.args.item)) c.deref.ensures.value) ∙ c.if-has_item.false in
-    let pushed = c.in_ok-push-in-Few.ensures.items in
+    let pushed = c.in_ok-push_few-in-Few.ensures.ok in
     ap (insert_all eq []) pushed ∙ once_more eq g.met.T.Eq.laws c.in-Few.items.items c.args.item once new ∙ sym pushed
 
 pub returns-in-Few-clause-items : goal.returns-in-Few-clause-items

@@ -1,8 +1,8 @@
-use Rattle.std.proofs.Common.{rules, ◌≡◌, ap, ◌∙◌}
+use Rattle.std.proofs.Common.{ap, ◌∙◌}
 use Rattle.std.specs.List.{fold}
 use Rattle.std.specs.Hash.FoldHasher.{write}
-use Rattle.mx_members.specs.Hashed.{hash_of}
-use Rattle.mx_members.proofs.hashed.hash_of.Goals as goal
+use Rattle.mx_hashed.specs.Hashed.{hash_of}
+use Rattle.mx_hashed.proofs.hashed.hash_of.Goals as goal
 
 -- src/hashed.rt:51:1
 pub returns : goal.returns

@@ -1,16 +1,13 @@
 //! `Hashed`: a key beside its hash.
-ghost use Rattle.std.specs.Prelude.{◌≡◌, IfOk};
+ghost use Rattle.std.specs.Prelude.{◌≡◌};
 ghost use Rattle.std.specs.Hash as fed;
-ghost use Rattle.mx_members.specs.Hashed.{hash_of};
+ghost use Rattle.mx_hashed.specs.Hashed.{hash_of};
 
-use crate::share::Share;
-use indexmap::Equivalent;
-use std::alloc::{AllocError, Global};
 use std::hash::{FoldHasher, Hash, Hasher};
 use std::marker::Model;
 
-/// A key beside its hash. So a key is hashed once, when it is looked for or comes, and no set that it is put into or looked for
-/// in does so again. Contracts see the key.
+/// A key beside its hash. So a key is hashed once, when it is looked for or comes, and no set or map that it is put into or
+/// looked for in does so again. Contracts see the key.
 #[derive(Drop)]
 pub struct Hashed<K: Eq + Hash> {
     key: K,
@@ -19,7 +16,7 @@ pub struct Hashed<K: Eq + Hash> {
 
 impl<K: Eq + Hash> Model for Hashed<K> {
     ghost use Rattle.std.specs.Prelude.{◌≡◌};
-    ghost use Rattle.mx_members.specs.Hashed.{hash_of};
+    ghost use Rattle.mx_hashed.specs.Hashed.{hash_of};
 
     ghost Value = { K };
 
@@ -44,6 +41,26 @@ impl<K: Eq + Hash> Hashed<K> {
         ensures { result.now ≡ self.now }
     {
         &self.key
+    }
+
+    /// The same key in other memory, with its hash.
+    pub fn again(&self, key: K) -> Hashed<K>
+        requires { key ≡ self.now }
+        ensures { result ≡ key }
+    {
+        Hashed {
+            key,
+            hash: self.hash,
+        }
+    }
+}
+
+impl<'a, K: Eq + Hash> Hashed<&'a K> {
+    /// Whether a key that is lent is this one. Keys with other hashes are not compared.
+    pub fn is_key(&self, key: &Hashed<K>) -> bool
+        ensures { result ≡ K.eq self.now.now key.now }
+    {
+        self.hash == key.hash && *self.key == key.key
     }
 }
 
@@ -78,27 +95,5 @@ impl<K: Eq + Hash> Hash for Hashed<K> {
 
     fn hash<H: Hasher>(&self, state: &mut H) {
         state.write_u64(self.hash);
-    }
-}
-
-/// A key that is lent is looked for among keys that are kept.
-impl<'b, 'a, K: Eq + Hash> Equivalent<Hashed<K>> for &'b Hashed<&'a K> {
-    ghost equivalent = { λ q. K.eq q.now.now };
-
-    ghost respects_hash = { λ q k same i. fed.u64 (hash_of (K.respects_eq q.now.now k same i)) };
-
-    ghost respects_eq = { λ q. K.Eq.laws.congr q.now.now };
-
-    fn equivalent(&self, key: &Hashed<K>) -> bool {
-        self.hash == key.hash && *self.key == key.key
-    }
-}
-
-impl<K: Eq + Hash + Share> Share for Hashed<K> {
-    fn share(&self, alloc: Global) -> Result<Hashed<K>, AllocError> {
-        Ok(Hashed {
-            key: self.key.share(alloc)?,
-            hash: self.hash,
-        })
     }
 }

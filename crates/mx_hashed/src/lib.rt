@@ -1,0 +1,5 @@
+//! Keys beside their hashes.
+#![tactic(auto)]
+
+pub mod hashed;
+pub mod shared_key;
