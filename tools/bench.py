@@ -7,8 +7,8 @@ Each workload is a script. It is run by `PATH run` (the built program, as tools/
 where Python can run it, by tools/baseline.py with and without --traced. A line gives the best time of each, the formula
 runs a second, the greatest memory of the engine's own process, and the ratios: above 1.0 the engine is the faster. A
 ratio comes only where the values are the same. `parse`, `crowded` and `written` only read formulas: in many spaces, in one,
-and 16 MB of them. `policies`, `beside` and `derived` have spaces, item spaces and decimal numbers, for which there is no
-baseline. Machines are noisy: read the ratios, not the times. The last lines, `--only operators`, give the nanoseconds of
+and 16 MB of them. `policies`, `beside` and `derived` have spaces, item spaces and decimal numbers, and `million` sums over
+generators, for which there is no baseline. Machines are noisy: read the ratios, not the times. The last lines, `--only operators`, give the nanoseconds of
 an operator on its own, as mx_ops_bench measures them, and `--only memo` the times and the bytes of a million kept nodes,
 as mx_memo_bench makes them.
 """
@@ -101,6 +101,12 @@ def derived(spaces, depth, rounds):
     return "\n".join(lines) + "\n"
 
 
+def million():
+    """One evaluation that computes a million nodes of one short formula, and a thousand that sum them."""
+    lines = ["limit 100000", "cells h(i) = i", "cells g(k) = sum(h(k * 1000 + i) for i in range(1000))"]
+    return "\n".join(lines + ["cells t() = sum(g(k) for k in range(1000))", "eval t()"]) + "\n"
+
+
 # name, script, whether the baseline can run it
 WORKLOADS = [
     ("grid", lambda: grid(48, 150, 20), True),
@@ -111,6 +117,7 @@ WORKLOADS = [
     ("policies", lambda: policies(1_000, 30), False),
     ("beside", lambda: beside(90_000, 10_000), False),
     ("derived", lambda: derived(200, 100, 20), False),
+    ("million", million, False),
 ]
 
 
