@@ -109,10 +109,7 @@ fn pass_item(
 {
     match walked {
         Walked::Came(space) => return Ok(Passed::Stops(Led::Came(space))),
-        Walked::Asks(item, rest) => {
-            let item = SharedNode::new(alloc, item)?;
-            return ask_item(alloc, world, memo, item, rest, records);
-        }
+        Walked::Asks(item, rest) => return ask_item(alloc, world, memo, item, rest, records),
         Walked::NoSuch => return Ok(Passed::Stops(Led::NoSuch)),
         Walked::WrongCount => return Ok(Passed::Stops(Led::WrongCount)),
     }

@@ -16,6 +16,7 @@ use crate::home::{Home, Work};
 use crate::overlays::overlay_with;
 use mx_edit::reply::Reply;
 use mx_list::items::Items;
+use mx_list::shared::Shared;
 use mx_stack::returns::Returned;
 use mx_value::fault::FaultKind;
 use mx_value::label::Label;
@@ -27,7 +28,7 @@ use std::alloc::{AllocError, Global};
 /// How a run ends.
 #[derive(Drop)]
 pub enum Ending {
-    Gives(Reply),
+    Gives(Shared<Reply>),
     /// The fault, with the line of the formula.
     Faults(FaultKind, u32),
     /// There is no such node.
@@ -41,7 +42,7 @@ pub fn end_with(alloc: Global, home: &Home, returned: Returned) -> Result<Ending
     ensures { IfOk result (λ e. ending_of home.now.node e ≡ outcome_of (home_of home.now) (returned_of returned)) }
 {
     match &home.work {
-        Work::Cells { allow_none } => return Ok(end_cells(*allow_none, returned)),
+        Work::Cells { allow_none } => return Ok(end_cells(alloc, *allow_none, returned)?),
         Work::Item { arguments, given } => {
             let item = Item {
                 space: &home.space,
@@ -54,38 +55,39 @@ pub fn end_with(alloc: Global, home: &Home, returned: Returned) -> Result<Ending
 }
 
 /// How a run of cells ends.
-fn end_cells(allow_none: bool, returned: Returned) -> Ending
-    ensures { (n : Node) → ending_of n result ≡ cells_outcome allow_none n (returned_of returned) }
+fn end_cells(alloc: Global, allow_none: bool, returned: Returned) -> Result<Ending, AllocError>
+    ensures { IfOk result (λ e. (n : Node) → ending_of n e ≡ cells_outcome allow_none n (returned_of returned)) }
 {
     match returned {
-        Returned::Plain(value) => return end_value(allow_none, value),
-        Returned::Display(_, _) => return Ending::Faults(FaultKind::BadItem, 1),
+        Returned::Plain(value) => return Ok(end_value(alloc, allow_none, value)?),
+        Returned::Display(_, _) => return Ok(Ending::Faults(FaultKind::BadItem, 1)),
     }
 }
 
 /// How a run of cells ends with a value.
-fn end_value(allow_none: bool, value: Value) -> Ending
-    ensures { (n : Node) → ending_of n result ≡ cells_outcome allow_none n (formula.Plain value) }
+fn end_value(alloc: Global, allow_none: bool, value: Value) -> Result<Ending, AllocError>
+    ensures { IfOk result (λ e. (n : Node) → ending_of n e ≡ cells_outcome allow_none n (formula.Plain value)) }
 {
     match value {
         Value::Nothing => {
             if allow_none {
-                return give_value(Value::Nothing);
+                return Ok(give_value(alloc, Value::Nothing)?);
             }
-            return Ending::Faults(FaultKind::NoneReturned, 1);
+            return Ok(Ending::Faults(FaultKind::NoneReturned, 1));
         }
-        other => return give_value(other),
+        other => return Ok(give_value(alloc, other)?),
     }
 }
 
 /// The end of a run with its value.
-fn give_value(value: Value) -> Ending
-    ensures { (n : Node) → ending_of n result ≡ value_outcome value }
+fn give_value(alloc: Global, value: Value) -> Result<Ending, AllocError>
+    ensures { IfOk result (λ e. (n : Node) → ending_of n e ≡ value_outcome value) }
 {
-    Ending::Gives(Reply {
+    let reply = Reply {
         value,
         namespace: None,
-    })
+    };
+    Ok(Ending::Gives(Shared::new(alloc, reply)?))
 }
 
 /// The item of a space: with these arguments, which are given for these parameters.
@@ -177,8 +179,9 @@ fn give_item(
         source,
         overlay,
     };
-    return Ok(Ending::Gives(Reply {
+    let reply = Reply {
         value,
         namespace: Some(namespace),
-    }));
+    };
+    return Ok(Ending::Gives(Shared::new(alloc, reply)?));
 }

@@ -83,15 +83,16 @@ module _ (look : Key → KeyResult) (n : Node) (ns : Namespace) (name : Label) (
         (from_look (model_of look) n cells_key (cells_found n ns args) olds (with_key cells_key olds) (halt.Ends ending.WrongCount) f f
         (ends_unbegun (model_of look) n (cells_found n ns args (look cells_key)) (with_key cells_key olds) ending.WrongCount f (found_as true c)))
 
-    pub cells_run : (before mid after : Flight) (own : Node) (mids : Seen) (code : Code) (news : Seen) (at : Halt) → own ≡ n → mids ≡ with_key cells_key olds → is_wrong_count formula.params (length args) ≡ false
+    pub cells_run : (before mid after : Flight) (own : Node) (home : Home) (mids : Seen) (code : Code) (news : Seen) (at : Halt) → home ≡ record { node = own; space = ns; work = work.Cells allow } → own ≡ n → mids ≡ with_key cells_key olds → is_wrong_count formula.params (length args) ≡ false
         → mid ≡ standing formula.params formula.body (bound formula.params args) before → told code ≡ code_of formula.params formula.body
-        → Proceeds (model_of look) code (record { node = own; space = ns; work = work.Cells allow }) mids news at mid after → after.below ≡ mid.below → HaltsFrom (model_of look) n cells_look olds news at before after
-    cells_run before mid after own mids code news at o m c s t on b =
+        → Proceeds (model_of look) code home mids news at mid after → after.below ≡ mid.below → HaltsFrom (model_of look) n cells_look olds news at before after
+    cells_run before mid after own home mids code news at w o m c s t on b =
         let h : Home = record { node = n; space = ns; work = work.Cells allow } in
         let run : Run = formula_run (bound formula.params args) in
         let here : Proceeds (model_of look) code h (with_key cells_key olds) news at mid after =
         subst (λ (x : Seen). Proceeds (model_of look) code h x news at mid after) m
-        (subst (λ (x : Node). Proceeds (model_of look) code (record { node = x; space = ns; work = work.Cells allow }) mids news at mid after) o on) in
+        (subst (λ (x : Node). Proceeds (model_of look) code (record { node = x; space = ns; work = work.Cells allow }) mids news at mid after) o
+        (subst (λ (x : Home). Proceeds (model_of look) code x mids news at mid after) w on)) in
         from_look (model_of look) n cells_key (cells_found n ns args) olds news at before after
         (of_same (model_of look) n (cells_found n ns args (look cells_key)) run (with_key cells_key olds) news at before after (found_as false c)
         (begun_halts (model_of look) formula.params formula.body (bound formula.params args) before mid after code h run (with_key cells_key olds) news at s
@@ -139,11 +140,12 @@ module _ (model : Model) (n : Node) (ns : Namespace) (args : List Value) (params
   pub item_too_large : (f : Flight) (full : List Value) → is_wrong_count params (length args) ≡ false → full ≡ bound params args → is_allowed (item_at ns full) ≡ false → HaltsFrom model n made_run olds olds (halt.Ends ending.NoSuch) f f
   item_too_large f full c e h = ends_unbegun model n made_run olds ending.NoSuch f (made_as full c e false h)
 
-  pub item_runs : (before mid after : Flight) (own : Node) (full : List Value) (given : Overlay) (code : Code) (news : Seen) (at : Halt) → own ≡ n → is_wrong_count params (length args) ≡ false → full ≡ bound params args → is_allowed (item_at ns full) ≡ true → given ≡ arguments_of params full
-      → mid ≡ standing params (body_of body) full before → told code ≡ code_of params (body_of body) → Proceeds model code (record { node = own; space = ns; work = work.Item full given }) olds news at mid after → after.below ≡ mid.below → HaltsFrom model n made_run olds news at before after
-  item_runs before mid after own full given code news at o c e l g s t on b =
+  pub item_runs : (before mid after : Flight) (own : Node) (home : Home) (full : List Value) (given : Overlay) (code : Code) (news : Seen) (at : Halt) → home ≡ record { node = own; space = ns; work = work.Item full given } → own ≡ n → is_wrong_count params (length args) ≡ false → full ≡ bound params args → is_allowed (item_at ns full) ≡ true → given ≡ arguments_of params full
+      → mid ≡ standing params (body_of body) full before → told code ≡ code_of params (body_of body) → Proceeds model code home olds news at mid after → after.below ≡ mid.below → HaltsFrom model n made_run olds news at before after
+  item_runs before mid after own home full given code news at w o c e l g s t on b =
       let h : Home = record { node = n; space = ns; work = work.Item full given } in
-      let here : Proceeds model code h olds news at mid after = subst (λ (x : Node). Proceeds model code (record { node = x; space = ns; work = work.Item full given }) olds news at mid after) o on in
+      let here : Proceeds model code h olds news at mid after = subst (λ (x : Node). Proceeds model code (record { node = x; space = ns; work = work.Item full given }) olds news at mid after) o
+      (subst (λ (x : Home). Proceeds model code x olds news at mid after) w on) in
       let run : Run = item_done body n ns full (arguments_of params full) in
       let at_home : (vs : List Value) (over : Overlay) → law.Home = λ vs over. record { node = n; space = ns; work = law.OfItem vs over } in
       let d : Does (told code) (home_of h) (standing params (body_of body) full before).top run =

@@ -18,14 +18,15 @@ use Rattle.mx_node_runs.specs.declared.halt.Halt.TheVariants as halt
 use Rattle.mx_node_runs.specs.declared.halt.Waiting.TheVariants as waiting
 use Rattle.mx_node_runs.specs.Halts.{HaltsAt}
 
-module _ (model : Model) (code given : Code) (home : Home) (same : given ≡ code) (run : Run) (olds news : Seen) (before after : State) where
+module _ (model : Model) (code given : Code) (home here : Home) (same : given ≡ code) (there : here ≡ home) (run : Run) (olds news : Seen) (before after : State) where
   -- the code stops there, whatever run it does
   abbrev pub StopsThere : Stop → Type 0
-  StopsThere at = (r : Run) → Does (told given) (home_of home) before r → RunsTo model (told given) (home_of home) r olds news at after
+  StopsThere at = (r : Run) → Does (told given) (home_of here) before r → RunsTo model (told given) (home_of here) r olds news at after
 
   runs_to : (at : Stop) → StopsThere at → Does (told code) (home_of home) before run → RunsTo model (told code) (home_of home) run olds news at after
   runs_to at on d =
-      subst (λ (k : Code). Does (told k) (home_of home) before run → RunsTo model (told k) (home_of home) run olds news at after) same (on run) d
+      subst (λ (h : Home). Does (told code) (home_of h) before run → RunsTo model (told code) (home_of h) run olds news at after) there
+      (subst (λ (k : Code). Does (told k) (home_of here) before run → RunsTo model (told k) (home_of here) run olds news at after) same (on run)) d
 
   pub ends : (at : Stop) (e : Ending) → at ≡ stop.Ends e → StopsThere at → Does (told code) (home_of home) before run → HaltsAt model home.node run olds news (halt.Ends e) after
   ends at e is on d =

@@ -11,6 +11,7 @@ use crate::arrived::Arrived;
 use crate::code::proceed;
 use crate::halt::Halt;
 use mx_edit::key::Key;
+use mx_list::shared::Shared;
 use mx_names::ending::Ending;
 use mx_names::home::{Home, Work};
 use mx_reading::seen::Seen;
@@ -55,5 +56,6 @@ pub fn enter_cells(
         space,
         work,
     };
+    let home = Shared::new(alloc, home)?;
     proceed(alloc, world, home, code, seen, stack)
 }

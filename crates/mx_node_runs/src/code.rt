@@ -22,7 +22,7 @@ use std::alloc::{AllocError, Global};
 pub fn proceed(
     alloc: Global,
     world: &World,
-    home: Home,
+    home: Shared<Home>,
     code: Shared<Code>,
     seen: &mut Seen,
     stack: &mut Stack,
@@ -31,7 +31,8 @@ pub fn proceed(
         → HaltsAt (model_of world.now) home.node run seen.old seen.new halt stack.new.top) }
     ensures below { OnOk result (stack.new.below ≡ stack.old.below) }
 {
-    match run_code(alloc, world, &home, code.get(), stack, seen)? {
+    let here = home.get();
+    match run_code(alloc, world, here, code.get(), stack, seen)? {
         Stop::Ends(ending) => return Ok(Halt::Ends(ending)),
         Stop::Asks(asked, resume) => {
             let waiting = Waiting::InCode(InCode { home, code, resume });

@@ -5,7 +5,7 @@ use mx_names::ending::Ending;
 use mx_names::home::Home;
 use mx_stack::rest::Onward;
 use mx_steps::stepped::Resume;
-use mx_value::node::Node;
+use mx_value::node::SharedNode;
 
 /// How a run goes on with the reply of the node that it asks.
 #[derive(Drop)]
@@ -19,7 +19,7 @@ pub enum Waiting {
 /// The code of a formula that goes on with a reply.
 #[derive(Drop)]
 pub struct InCode {
-    pub home: Home,
+    pub home: Shared<Home>,
     pub code: Shared<Code>,
     pub resume: Resume,
 }
@@ -29,5 +29,5 @@ pub struct InCode {
 pub enum Halt {
     Ends(Ending),
     /// It asks a node.
-    Asks(Node, Waiting),
+    Asks(SharedNode, Waiting),
 }

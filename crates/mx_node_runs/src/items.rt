@@ -11,6 +11,7 @@ use crate::code::proceed;
 use crate::halt::Halt;
 use mx_code::compiled::CompiledParams;
 use mx_edit::key::Key;
+use mx_list::shared::Shared;
 use mx_names::ending::Ending;
 use mx_names::home::{Home, Work};
 use mx_reading::seen::Seen;
@@ -82,6 +83,7 @@ fn make_item(
                 space,
                 work,
             };
+            let home = Shared::new(alloc, home)?;
             return proceed(alloc, world, home, compiled.share_code()?, seen, stack);
         }
         Err(BindRefusal::WrongCount) => return Ok(Halt::Ends(Ending::WrongCount)),

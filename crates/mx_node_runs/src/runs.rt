@@ -15,6 +15,7 @@ use crate::halt::{Halt, Waiting};
 use crate::input::find_input;
 use crate::items::enter_item;
 use mx_edit::reply::Reply;
+use mx_list::shared::Shared;
 use mx_names::ending::Ending;
 use mx_reading::seen::Seen;
 use mx_stack::stack::Stack;
@@ -22,15 +23,18 @@ use mx_steps::run;
 use mx_value::namespace::Namespace;
 use mx_value::node::{Node, SharedNode};
 use mx_value::value::Addr;
-use mx_walks::walks::{Walked, walk_from_top, walk_on};
+use mx_walks::near::walk_from;
+use mx_walks::walks::{Walked, walk_on};
 use mx_world::world::World;
 use std::alloc::{AllocError, Global};
 
-/// Begins the run of a node, of which nothing is on the stack yet. It is above all that waits there.
+/// Begins the run of a node, of which nothing is on the stack yet. It is above all that waits there. Near may be any namespace:
+/// mostly a node is asked in the space of its own.
 pub fn start(
     alloc: Global,
     world: &World,
     node: &SharedNode,
+    near: Option<&Namespace>,
     seen: &mut Seen,
     stack: &mut Stack,
 ) -> Result<Halt, AllocError>
@@ -40,12 +44,13 @@ pub fn start(
     ensures below { OnOk result (stack.new.below ≡ stack.old.below) }
 {
     if let Some(value) = find_input(alloc, world, node, seen)? {
-        return Ok(Halt::Ends(Ending::Gives(Reply {
+        let reply = Reply {
             value,
             namespace: None,
-        })));
+        };
+        return Ok(Halt::Ends(Ending::Gives(Shared::new(alloc, reply)?)));
     }
-    let walked = walk_from_top(alloc, world, address_of(node.get()))?;
+    let walked = walk_from(alloc, world, near, address_of(node.get()))?;
     arrive(alloc, world, node, walked, seen, stack)
 }
 

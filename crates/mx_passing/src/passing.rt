@@ -102,7 +102,7 @@ fn pass_one(
             let paused = Paused::Ends(ending);
             return Ok(Passed::Pauses(Stretch { current, paused }));
         }
-        Halt::Asks(node, waiting) => (SharedNode::new(alloc, node)?, waiting),
+        Halt::Asks(node, waiting) => (node, waiting),
     };
     match ask(alloc, world, memo, &mut current, &node)? {
         Met::Reply(reply) => {

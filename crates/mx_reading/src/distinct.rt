@@ -76,13 +76,16 @@ impl<T: Eq + Hash + Drop> Distinct<T> {
         }
     }
 
-    /// The items, without a copy of any.
+    /// The items, without a copy of any, in as much memory as they need.
     pub fn into_vec(self) -> Result<Vec<T>, AllocError>
         ensures { IfOk result (λ items. items.items ≡ self) }
     {
         let Distinct { alloc, held } = self;
         match held {
-            Held::Few(items) => return Ok(items),
+            Held::Few(mut items) => {
+                items.shrink_to_fit();
+                return Ok(items);
+            }
             Held::Many(set) => return all_of(alloc, Box::into_inner(set)),
         }
     }

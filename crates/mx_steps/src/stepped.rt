@@ -1,7 +1,7 @@
 //! Where a run stops.
 use mx_names::ending::Ending;
 use mx_stack::rest::Onward;
-use mx_value::node::Node;
+use mx_value::node::SharedNode;
 
 /// How a run goes on with the answer of a node.
 #[derive(Drop)]
@@ -16,5 +16,5 @@ pub enum Resume {
 #[derive(Drop)]
 pub enum Stop {
     Ends(Ending),
-    Asks(Node, Resume),
+    Asks(SharedNode, Resume),
 }

@@ -13,7 +13,7 @@ ghost use Rattle.mx_steps.specs.Walking.{IsWalk, come_as};
 use mx_stack::rest::Onward;
 use mx_stack::walks::Way;
 use mx_value::namespace::Namespace;
-use mx_value::node::Node;
+use mx_value::node::SharedNode;
 use mx_value::value::Addr;
 use mx_walks::called::Called;
 use mx_walks::near::walk_near;
@@ -27,7 +27,7 @@ pub enum Come {
     /// To its end, where there is one: the instruction goes on from here.
     Here(Option<Way>),
     /// To an item node that it asks, with the segments behind it.
-    Asks(Node, Onward),
+    Asks(SharedNode, Onward),
     NoSuch,
     WrongCount,
 }

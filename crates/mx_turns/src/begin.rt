@@ -5,12 +5,14 @@ ghost use Rattle.mx_vertices.specs.Places.{Has};
 ghost use Rattle.mx_state.specs.Model.{model_of};
 ghost use Rattle.mx_turns.specs.Flights.{Begins, IsAwaited, IsBegun, IsSound, Work, first_of, frame_nodes};
 
-use crate::runs::Runs;
+use crate::runs::{Frame, Runs};
 use crate::steps::Steps;
 use mx_bound::records::Records;
 use mx_memo::Memo;
+use mx_node_runs::halt::Waiting;
 use mx_node_runs::runs::start;
 use mx_passing::current::{Current, Running};
+use mx_value::namespace::Namespace;
 use mx_value::node::SharedNode;
 use mx_value::refusal::EvalRefusal;
 use mx_world::world::World;
@@ -43,9 +45,28 @@ pub fn begin<L: Ledger>(
     };
     steps.tick();
     let mut records = Records::new(alloc);
-    let Ok(halt) = start(alloc, world, &node, &mut records.seen, &mut runs.stack) else {
+    let near = near_in(runs.frames.as_slice());
+    let Ok(halt) = start(
+        alloc,
+        world,
+        &node,
+        near,
+        &mut records.seen,
+        &mut runs.stack,
+    ) else {
         return Err(EvalRefusal::NoMemory);
     };
     let current = Current { node, records };
     return Ok(Running { current, halt });
+}
+
+/// The namespace in which the run that waits last runs its code.
+fn near_in(frames: &[Frame]) -> Option<&Namespace> {
+    let Some(frame) = frames.last() else {
+        return None;
+    };
+    match &frame.waiting {
+        Waiting::InCode(place) => Some(&place.home.get().space),
+        Waiting::OnWay(_) => None,
+    }
 }

@@ -10,6 +10,7 @@ use crate::hold::hold;
 use crate::progress::Progress;
 use crate::runs::Runs;
 use mx_edit::reply::Reply;
+use mx_list::shared::Shared;
 use mx_memo::{HoldRefusal, Memo};
 use mx_passing::current::Current;
 use mx_value::refusal::EvalRefusal;
@@ -19,7 +20,7 @@ use mx_world::world::World;
 pub fn give(
     world: &World,
     current: Current,
-    reply: Reply,
+    reply: Shared<Reply>,
     memo: &mut Memo,
     runs: &mut Runs,
 ) -> Result<Progress, EvalRefusal>

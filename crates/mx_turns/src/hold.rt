@@ -22,7 +22,7 @@ use std::alloc::{AllocError, Global};
 pub fn hold(
     alloc: Global,
     current: Current,
-    reply: Reply,
+    reply: Shared<Reply>,
     memo: &mut Memo,
 ) -> Result<Given, HoldRefusal>
     requires ready { IsReadyToHold memo.old current }
@@ -53,14 +53,14 @@ pub fn hold(
 fn body_of(
     alloc: Global,
     node: &SharedNode,
-    reply: Reply,
+    reply: Shared<Reply>,
     reads: Distinct<Read>,
 ) -> Result<Body, AllocError>
     ensures { IfOk result (λ b. (b.node ≡ node.now) × (b.reply ≡ reply) × (b.reads ≡ reads)) }
 {
     Ok(Body {
         node: node.copy()?,
-        reply: Shared::new(alloc, reply)?,
+        reply,
         reads: List::from_vec(alloc, reads.into_vec()?)?,
     })
 }

@@ -8,7 +8,7 @@ ghost use Rattle.mx_code_law.specs.Calling.{arguments_next, cells_asked_next, ce
 ghost use Rattle.mx_stack.specs.Walks.{place_of};
 ghost use Rattle.mx_walks.specs.Calls.{Comes, IsCalled};
 
-use crate::called::Called;
+use crate::called::{Called, ask_node};
 use crate::walks::{Walked, walk};
 use mx_edit::key::Key;
 use mx_list::items::Items;
@@ -85,7 +85,7 @@ fn bind_cells(
         (λ vs. Ask (Cell at.now name.now vs) (λ r. to r.value)))) }
 {
     match bind_arguments(alloc, params, arguments) {
-        Ok(full) => return Ok(Called::Asks(Node::Cell(at.copy()?, name.copy()?, full))),
+        Ok(full) => return ask_node(alloc, Node::Cell(at.copy()?, name.copy()?, full)),
         Err(OpRefusal::Fault(kind)) => return Ok(Called::Faults(kind)),
         Err(OpRefusal::NoMemory) => return Err(AllocError),
     }

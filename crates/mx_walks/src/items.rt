@@ -15,7 +15,7 @@ use mx_syntax::bind::{BindRefusal, bind};
 use mx_syntax::stmt::Param;
 use mx_value::copies::copy_items;
 use mx_value::namespace::Namespace;
-use mx_value::node::Node;
+use mx_value::node::{Node, SharedNode};
 use mx_value::value::{Addr, Segment, Value};
 use mx_world::world::World;
 use std::alloc::{AllocError, Global};
@@ -26,7 +26,7 @@ pub enum Stop {
     /// It came to a namespace.
     Came(Namespace),
     /// An item node is asked, behind so many segments of the walk.
-    Asks(Node, usize),
+    Asks(SharedNode, usize),
     /// There is no such space.
     NoSuch,
     /// The arguments of an item do not bind.
@@ -68,7 +68,10 @@ fn bind_item(
         else AsksAt (Item at.now (bound params.now arguments.now)) (drop passed segments))) }
 {
     match bind(alloc, params, copy_items(alloc, arguments)?) {
-        Ok(full) => return Ok(Stop::Asks(Node::Item(at.copy()?, full), passed)),
+        Ok(full) => {
+            let node = Node::Item(at.copy()?, full);
+            return Ok(Stop::Asks(SharedNode::new(alloc, node)?, passed));
+        }
         Err(BindRefusal::WrongCount) => return Ok(Stop::WrongCount),
         Err(BindRefusal::NoMemory) => return Err(AllocError),
     }

@@ -31,21 +31,23 @@ pub fn walk_near(
 {
     match way {
         Some(way) => return walk_on(alloc, world, way.rest, way.came),
-        None => return walk_from(alloc, world, near, at),
+        None => return walk_from(alloc, world, Some(near), at),
     }
 }
 
-/// The walk of an address from the top.
-fn walk_from(
+/// The walk of an address from the top. Where it is that of a space at hand, its namespace is shared.
+pub fn walk_from(
     alloc: Global,
     world: &World,
-    near: &Namespace,
+    near: Option<&Namespace>,
     at: &Addr,
 ) -> Result<Walked, AllocError>
     ensures { IfOk result (λ walked. told walked ≡ begun_way (key_result world.now) at.now) }
 {
-    if is_at(near, at) {
-        return Ok(Walked::Came(near.copy()?));
+    if let Some(near) = near {
+        if is_at(near, at) {
+            return Ok(Walked::Came(near.copy()?));
+        }
     }
     walk_from_top(alloc, world, at)
 }

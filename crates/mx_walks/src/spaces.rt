@@ -8,7 +8,7 @@ ghost use Rattle.mx_code_law.specs.Calling.{arguments_next, item_asked_next, spa
 ghost use Rattle.mx_stack.specs.Walks.{place_of};
 ghost use Rattle.mx_walks.specs.Calls.{Comes, IsCalled};
 
-use crate::called::Called;
+use crate::called::{Called, ask_node};
 use crate::going::SEGMENTS;
 use crate::items::ends_with_name;
 use crate::walks::{Walked, walk};
@@ -92,7 +92,7 @@ fn bind_item(
             if !is_allowed(&namespace.at, &full) {
                 return Ok(Called::Faults(FaultKind::TooLarge));
             }
-            return Ok(Called::Asks(Node::Item(namespace.at.copy()?, full)));
+            return ask_node(alloc, Node::Item(namespace.at.copy()?, full));
         }
         Err(OpRefusal::Fault(kind)) => return Ok(Called::Faults(kind)),
         Err(OpRefusal::NoMemory) => return Err(AllocError),

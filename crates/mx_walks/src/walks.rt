@@ -13,7 +13,7 @@ use mx_model::address::path_of;
 use mx_stack::rest::Onward;
 use mx_stack::walks::Way;
 use mx_value::namespace::Namespace;
-use mx_value::node::Node;
+use mx_value::node::SharedNode;
 use mx_value::value::{Addr, Segment};
 use mx_world::world::World;
 use std::alloc::{AllocError, Global};
@@ -24,7 +24,7 @@ pub enum Walked {
     /// The namespace of the address.
     Came(Namespace),
     /// An item node that is asked, with the segments behind it.
-    Asks(Node, Onward),
+    Asks(SharedNode, Onward),
     /// There is no such space.
     NoSuch,
     /// The arguments of an item do not bind.

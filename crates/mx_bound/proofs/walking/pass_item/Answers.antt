@@ -1,6 +1,5 @@
-use Rattle.std.proofs.Common.{◌≡◌, sym, ◌∙◌, ap, subst}
+use Rattle.std.proofs.Common.{◌≡◌, sym, ap, subst}
 use Rattle.std.proofs.lemmas.Result.{IfOk-weaker}
-use Rattle.mx_value.specs.declared.node.Node.{Node}
 use Rattle.mx_state.specs.Model.{model_of}
 use Rattle.mx_walks.specs.Ways.{Leading, AsksAt, told}
 use Rattle.mx_bound.specs.declared.walking.Led.TheVariants as led
@@ -10,8 +9,7 @@ use Rattle.mx_bound.proofs.walking.pass_item.Goals as goal
 
 pub returns-in-Asks : goal.returns-in-Asks
 returns-in-Asks c =
-    let from : AsksAt c.in_ok-item-in-Asks.item c.in-Asks.rest ≡ told c.args.walked =
-    ap (λ (n : Node). AsksAt n c.in-Asks.rest) c.in_ok-item-in-Asks.ensures ∙ sym (ap told c.in-Asks.is) in
+    let from : AsksAt c.in-Asks.item c.in-Asks.rest ≡ told c.args.walked = sym (ap told c.in-Asks.is) in
     IfOk-weaker c.ask_item.result _ _
     (λ past p. subst (λ (to : Leading). PassesOn (model_of c.args.world.now) c.args.memo.now.held to c.args.records.now past c.ask_item.new.records) from p)
     c.ask_item.ensures

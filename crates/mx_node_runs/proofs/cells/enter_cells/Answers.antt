@@ -43,4 +43,4 @@ returns c =
     let b = subst (λ (x : Bool). Begins f.params f.body a.arguments.now x c.args.stack.now c.begin_formula.new.stack) c.if-not-branch.false c.in_ok-begin_formula.ensures in
     of_both c.proceed.result c.proceed.ensures.halts c.proceed.ensures.below (λ at on below.
     cells_run (key_result c.args.world.now) a.node.now a.space c.args.name.now a.arguments.now c.args.seen.now f c.in-Some.cells.allow_none c.in-Some.ensures
-    c.args.stack.now c.begin_formula.new.stack c.proceed.new.stack c.in_ok-copy-3.field-0 c.look.new.self c.in_ok-code.code c.proceed.new.seen at c.in_ok-copy-3.ensures s b.0 b.1 c.in_ok-code.ensures.0 on below)
+    c.args.stack.now c.begin_formula.new.stack c.proceed.new.stack c.in_ok-copy-3.field-0 c.in_ok-home.home c.look.new.self c.in_ok-code.code c.proceed.new.seen at c.in_ok-home.ensures c.in_ok-copy-3.ensures s b.0 b.1 c.in_ok-code.ensures.0 on below)

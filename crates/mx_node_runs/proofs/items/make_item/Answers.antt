@@ -31,8 +31,8 @@ returns-in-Ok c =
     c.in_ok-given-in-Ok.ensures ∙ ap (λ (x : List Param). arguments_of x c.as_slice-in-Ok.result.now) ps ∙ ap (λ (x : List Value). arguments_of p.params x) c.as_slice-in-Ok.ensures in
     let at_code = stands p.params (body_of p.body) c.code.result.now.size c.as_slice.result.now c.in-Ok.full c.args.stack.now c.begin.new.self c.in_ok-begin-in-Ok.ensures c.code.ensures.size c.as_slice.ensures in
     of_both c.proceed.result c.proceed.ensures.halts c.proceed.ensures.below (λ at on below.
-    item_runs (model_of c.args.world.now) a.node.now a.space a.arguments.now p.params p.body c.args.seen.now c.args.stack.now c.begin.new.self c.proceed.new.stack c.in_ok-copy-in-Ok.field-0 c.in-Ok.full c.in_ok-given-in-Ok.given
-    c.in_ok-share_code-in-Ok.field-0 c.proceed.new.seen at c.in_ok-copy-in-Ok.ensures count full (sym c.is_allowed.ensures ∙ c.if-not-is_allowed.false) given at_code c.in_ok-share_code-in-Ok.ensures.0 on below)
+    item_runs (model_of c.args.world.now) a.node.now a.space a.arguments.now p.params p.body c.args.seen.now c.args.stack.now c.begin.new.self c.proceed.new.stack c.in_ok-copy-in-Ok.field-0 c.in_ok-home-in-Ok.home c.in-Ok.full c.in_ok-given-in-Ok.given
+    c.in_ok-share_code-in-Ok.field-0 c.proceed.new.seen at c.in_ok-home-in-Ok.ensures c.in_ok-copy-in-Ok.ensures count full (sym c.is_allowed.ensures ∙ c.if-not-is_allowed.false) given at_code c.in_ok-share_code-in-Ok.ensures.0 on below)
 
 pub returns-in-Err-WrongCount : goal.returns-in-Err-WrongCount
 returns-in-Err-WrongCount c =

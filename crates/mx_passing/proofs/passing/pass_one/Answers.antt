@@ -36,16 +36,14 @@ returns-in-Reply-clause-passes c = λ run h.
     let node : c.ask.new.current.node ≡ c.args.running.current.node = c.in_ok-reply.ensures.node in
     let asks : HaltsAs c.args.running.current.node run (halt.Asks c.in-Asks.node c.in-Asks.waiting) c.args.stack.now.top =
     subst (λ (x : Halt). HaltsAs c.args.running.current.node run x c.args.stack.now.top) c.in-Asks.is h in
-    let met : IsAnswered (model_of c.args.world.now) c.args.memo.now c.in_ok-new-in-Asks.field-0 c.in-Reply.reply c.args.running.current.records c.ask.new.current.records =
-    subst (λ (x : Met). Meets (model_of c.args.world.now) c.args.memo.now c.in_ok-new-in-Asks.field-0 c.args.running.current.records c.ask.new.current.records x) c.in-Reply.is c.in_ok-reply.ensures.met in
-    let answered : IsAnswered (model_of c.args.world.now) c.args.memo.now c.in-Asks.node c.in-Reply.reply c.args.running.current.records c.ask.new.current.records =
-    subst (λ (x : Node). IsAnswered (model_of c.args.world.now) c.args.memo.now x c.in-Reply.reply c.args.running.current.records c.ask.new.current.records) c.in_ok-new-in-Asks.ensures met in
+    let met : IsAnswered (model_of c.args.world.now) c.args.memo.now c.in-Asks.node c.in-Reply.reply c.args.running.current.records c.ask.new.current.records =
+    subst (λ (x : Met). Meets (model_of c.args.world.now) c.args.memo.now c.in-Asks.node c.args.running.current.records c.ask.new.current.records x) c.in-Reply.is c.in_ok-reply.ensures.met in
     let goes : (go : Reply → Run) → Resumes c.args.running.current.node c.in-Asks.waiting c.args.stack.now.top go → HaltsAt (model_of c.args.world.now) c.args.running.current.node (go c.in-Reply.reply) c.ask.new.current.records.seen c.resume.new.current.records.seen c.in_ok-halt-in-Reply.halt c.resume.new.stack.top × (c.resume.new.stack.below ≡ c.args.stack.now.below) = λ go r.
     subst (λ (x : Node). HaltsAt (model_of c.args.world.now) x (go c.in-Reply.reply) c.ask.new.current.records.seen c.resume.new.current.records.seen c.in_ok-halt-in-Reply.halt c.resume.new.stack.top × (c.resume.new.stack.below ≡ c.args.stack.now.below)) node
     (subst (λ (x : Reply). HaltsAt (model_of c.args.world.now) c.ask.new.current.node (go x) c.ask.new.current.records.seen c.resume.new.current.records.seen c.in_ok-halt-in-Reply.halt c.resume.new.stack.top × (c.resume.new.stack.below ≡ c.args.stack.now.below)) c.get.ensures
     (c.in_ok-halt-in-Reply.ensures.goes go (subst (λ (x : Node). Resumes x c.in-Asks.waiting c.args.stack.now.top go) (sym node) r))) in
     let at : Running = record { current = c.resume.new.current; halt = c.in_ok-halt-in-Reply.halt } in (
-      answered_on (model_of c.args.world.now) c.args.memo.now run c.args.running.current.records c.args.running.current.node c.in-Asks.node c.in-Asks.waiting c.in-Reply.reply c.ask.new.current.records at c.args.stack.now.top c.resume.new.stack.top asks answered
+      answered_on (model_of c.args.world.now) c.args.memo.now run c.args.running.current.records c.args.running.current.node c.in-Asks.node c.in-Asks.waiting c.in-Reply.reply c.ask.new.current.records at c.args.stack.now.top c.resume.new.stack.top asks met
           (λ go r. (goes go r).0) c.in_ok-halt-in-Reply.ensures.asks (c.in_ok-halt-in-Reply.ensures.node ∙ node),
       (goes asks.0 asks.2).1,
     )
@@ -55,18 +53,17 @@ returns-in-Begun-clause-asks c = subst (λ (x : Current). AreHeld c.args.memo.no
 
 pub returns-in-Begun-clause-told : goal.returns-in-Begun-clause-told
 returns-in-Begun-clause-told c =
-    let met : HasBegun (model_of c.args.world.now) c.args.memo.now c.in_ok-new-in-Asks.field-0 × (c.ask.new.current.records ≡ c.args.running.current.records) =
-    subst (λ (x : Met). Meets (model_of c.args.world.now) c.args.memo.now c.in_ok-new-in-Asks.field-0 c.args.running.current.records c.ask.new.current.records x) c.in-Begun.is c.in_ok-reply.ensures.met in
+    let met : HasBegun (model_of c.args.world.now) c.args.memo.now c.in-Asks.node × (c.ask.new.current.records ≡ c.args.running.current.records) =
+    subst (λ (x : Met). Meets (model_of c.args.world.now) c.args.memo.now c.in-Asks.node c.args.running.current.records c.ask.new.current.records x) c.in-Begun.is c.in_ok-reply.ensures.met in
     subst (λ (x : Paused). IsTold (model_of c.args.world.now) c.args.memo.now x) (sym c.asks.ensures.paused) met.0
 
 pub returns-in-Begun-clause-passes : goal.returns-in-Begun-clause-passes
 returns-in-Begun-clause-passes c = λ run h.
-    let met : HasBegun (model_of c.args.world.now) c.args.memo.now c.in_ok-new-in-Asks.field-0 × (c.ask.new.current.records ≡ c.args.running.current.records) =
-    subst (λ (x : Met). Meets (model_of c.args.world.now) c.args.memo.now c.in_ok-new-in-Asks.field-0 c.args.running.current.records c.ask.new.current.records x) c.in-Begun.is c.in_ok-reply.ensures.met in
-    let asks : HaltsAs c.args.running.current.node run (halt.Asks c.in_ok-new-in-Asks.field-0 c.in-Asks.waiting) c.args.stack.now.top =
-    subst (λ (x : Node). HaltsAs c.args.running.current.node run (halt.Asks x c.in-Asks.waiting) c.args.stack.now.top) (sym c.in_ok-new-in-Asks.ensures)
-    (subst (λ (x : Halt). HaltsAs c.args.running.current.node run x c.args.stack.now.top) c.in-Asks.is h) in (
-      asks_paused (model_of c.args.world.now) c.args.memo.now run c.args.running.current.records c.args.running.current.node (record { node = c.in_ok-new-in-Asks.field-0; waiting = c.in-Asks.waiting; is_begun = true }) c.asks.result c.args.stack.now.top asks met.0
+    let met : HasBegun (model_of c.args.world.now) c.args.memo.now c.in-Asks.node × (c.ask.new.current.records ≡ c.args.running.current.records) =
+    subst (λ (x : Met). Meets (model_of c.args.world.now) c.args.memo.now c.in-Asks.node c.args.running.current.records c.ask.new.current.records x) c.in-Begun.is c.in_ok-reply.ensures.met in
+    let asks : HaltsAs c.args.running.current.node run (halt.Asks c.in-Asks.node c.in-Asks.waiting) c.args.stack.now.top =
+    subst (λ (x : Halt). HaltsAs c.args.running.current.node run x c.args.stack.now.top) c.in-Asks.is h in (
+      asks_paused (model_of c.args.world.now) c.args.memo.now run c.args.running.current.records c.args.running.current.node (record { node = c.in-Asks.node; waiting = c.in-Asks.waiting; is_begun = true }) c.asks.result c.args.stack.now.top asks met.0
           (ap (λ (x : Current). x.node) c.asks.ensures.current ∙ c.in_ok-reply.ensures.node) c.asks.ensures.paused (ap (λ (x : Current). x.records) c.asks.ensures.current ∙ met.1),
       refl,
     )
@@ -76,18 +73,17 @@ returns-in-New-clause-asks c = subst (λ (x : Current). AreHeld c.args.memo.now.
 
 pub returns-in-New-clause-told : goal.returns-in-New-clause-told
 returns-in-New-clause-told c =
-    let met : IsUnknown (model_of c.args.world.now) c.args.memo.now c.in_ok-new-in-Asks.field-0 × (c.ask.new.current.records ≡ c.args.running.current.records) =
-    subst (λ (x : Met). Meets (model_of c.args.world.now) c.args.memo.now c.in_ok-new-in-Asks.field-0 c.args.running.current.records c.ask.new.current.records x) c.in-New.is c.in_ok-reply.ensures.met in
+    let met : IsUnknown (model_of c.args.world.now) c.args.memo.now c.in-Asks.node × (c.ask.new.current.records ≡ c.args.running.current.records) =
+    subst (λ (x : Met). Meets (model_of c.args.world.now) c.args.memo.now c.in-Asks.node c.args.running.current.records c.ask.new.current.records x) c.in-New.is c.in_ok-reply.ensures.met in
     subst (λ (x : Paused). IsTold (model_of c.args.world.now) c.args.memo.now x) (sym c.asks-in-New.ensures.paused) met.0
 
 pub returns-in-New-clause-passes : goal.returns-in-New-clause-passes
 returns-in-New-clause-passes c = λ run h.
-    let met : IsUnknown (model_of c.args.world.now) c.args.memo.now c.in_ok-new-in-Asks.field-0 × (c.ask.new.current.records ≡ c.args.running.current.records) =
-    subst (λ (x : Met). Meets (model_of c.args.world.now) c.args.memo.now c.in_ok-new-in-Asks.field-0 c.args.running.current.records c.ask.new.current.records x) c.in-New.is c.in_ok-reply.ensures.met in
-    let asks : HaltsAs c.args.running.current.node run (halt.Asks c.in_ok-new-in-Asks.field-0 c.in-Asks.waiting) c.args.stack.now.top =
-    subst (λ (x : Node). HaltsAs c.args.running.current.node run (halt.Asks x c.in-Asks.waiting) c.args.stack.now.top) (sym c.in_ok-new-in-Asks.ensures)
-    (subst (λ (x : Halt). HaltsAs c.args.running.current.node run x c.args.stack.now.top) c.in-Asks.is h) in (
-      asks_paused (model_of c.args.world.now) c.args.memo.now run c.args.running.current.records c.args.running.current.node (record { node = c.in_ok-new-in-Asks.field-0; waiting = c.in-Asks.waiting; is_begun = false }) c.asks-in-New.result c.args.stack.now.top asks met.0
+    let met : IsUnknown (model_of c.args.world.now) c.args.memo.now c.in-Asks.node × (c.ask.new.current.records ≡ c.args.running.current.records) =
+    subst (λ (x : Met). Meets (model_of c.args.world.now) c.args.memo.now c.in-Asks.node c.args.running.current.records c.ask.new.current.records x) c.in-New.is c.in_ok-reply.ensures.met in
+    let asks : HaltsAs c.args.running.current.node run (halt.Asks c.in-Asks.node c.in-Asks.waiting) c.args.stack.now.top =
+    subst (λ (x : Halt). HaltsAs c.args.running.current.node run x c.args.stack.now.top) c.in-Asks.is h in (
+      asks_paused (model_of c.args.world.now) c.args.memo.now run c.args.running.current.records c.args.running.current.node (record { node = c.in-Asks.node; waiting = c.in-Asks.waiting; is_begun = false }) c.asks-in-New.result c.args.stack.now.top asks met.0
           (ap (λ (x : Current). x.node) c.asks-in-New.ensures.current ∙ c.in_ok-reply.ensures.node) c.asks-in-New.ensures.paused (ap (λ (x : Current). x.records) c.asks-in-New.ensures.current ∙ met.1),
       refl,
     )

@@ -11,7 +11,7 @@ pub returns-then-is_at : goal.returns-then-is_at
 returns-then-is_at c =
     let look = key_result c.args.world.now in
     let at = c.args.at.now in
-    let near = c.args.near.now in
+    let near = c.in-Some.near.now in
     let is = c.is_at.ensures c.if-is_at.true in
     ap (λ (ns : Namespace). Came ns) c.in_ok-copy.ensures
     ∙ ap (λ (x : List Segment). Came (record { at = x; source = near.source; overlay = near.overlay })) is.same
