@@ -7,7 +7,7 @@ Each workload is a script. It is run by `PATH run` (the built program, as tools/
 where Python can run it, by tools/baseline.py with and without --traced. A line gives the best time of each, the formula
 runs a second, the greatest memory of the engine's own process, and the ratios: above 1.0 the engine is the faster. A
 ratio comes only where the values are the same. `parse`, `crowded` and `written` only read formulas: in many spaces, in one,
-and 16 MB of them. `policies`, `beside` and `derived` have spaces, item spaces and decimal numbers, and `million` sums over
+and 16 MB of them. `policies`, `beside` and `derived` have spaces, item spaces and decimal numbers, `series` keeps 150,000 values, and `million` sums over
 generators, for which there is no baseline. Machines are noisy: read the ratios, not the times. The last lines, `--only operators`, give the nanoseconds of
 an operator on its own, as mx_ops_bench measures them, and `--only memo` the times and the bytes of a million kept nodes,
 as mx_memo_bench makes them.
@@ -101,6 +101,12 @@ def derived(spaces, depth, rounds):
     return "\n".join(lines) + "\n"
 
 
+def series(values, step):
+    """A chain of values that is computed in short steps: the memory is that of what is kept."""
+    asks = [f"eval f({n})" for n in range(step, values + 1, step)]
+    return "\n".join(["cells f(n) = 0 if n == 0 else f(n - 1) + 1", *asks]) + "\n"
+
+
 def million():
     """One evaluation that computes a million nodes of one short formula, and a thousand that sum them."""
     lines = ["limit 100000", "cells h(i) = i", "cells g(k) = sum(h(k * 1000 + i) for i in range(1000))"]
@@ -117,6 +123,7 @@ WORKLOADS = [
     ("policies", lambda: policies(1_000, 30), False),
     ("beside", lambda: beside(90_000, 10_000), False),
     ("derived", lambda: derived(200, 100, 20), False),
+    ("series", lambda: series(150_000, 150), True),
     ("million", million, False),
 ]
 
