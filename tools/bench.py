@@ -7,10 +7,10 @@ Each workload is a script. It is run by `PATH run` (the built program, as tools/
 where Python can run it, by tools/baseline.py with and without --traced. A line gives the best time of each, the formula
 runs a second, the greatest memory of the engine's own process, and the ratios: above 1.0 the engine is the faster. A
 ratio comes only where the values are the same. `parse`, `crowded` and `written` only read formulas: in many spaces, in one,
-and 16 MB of them. `policies`, `beside` and `derived` have spaces, item spaces and decimal numbers, `series` keeps 150,000 values, and `million` sums over
-generators, for which there is no baseline. Machines are noisy: read the ratios, not the times. The last lines, `--only operators`, give the nanoseconds of
-an operator on its own, as mx_ops_bench measures them, and `--only memo` the times and the bytes of a million kept nodes,
-as mx_memo_bench makes them.
+and 16 MB of them. `policies`, `beside` and `derived` have spaces, item spaces and decimal numbers, `series` keeps 150,000 values, `deep`
+is one chain of calls, `loops` one loop, and `million` sums over generators. Machines are noisy: read the ratios, not the
+times. The last lines, `--only operators`, give the nanoseconds of an operator on its own, as mx_ops_bench measures them, and
+`--only memo` the times and the bytes of a million kept nodes, as mx_memo_bench makes them.
 """
 import argparse
 import os
@@ -107,6 +107,17 @@ def series(values, step):
     return "\n".join(["cells f(n) = 0 if n == 0 else f(n - 1) + 1", *asks]) + "\n"
 
 
+def deep(calls):
+    """One chain of so many calls, each of which waits for the next."""
+    return f"limit {calls}\ncells f(n) = 0 if n == 0 else f(n - 1) + 1\neval f({calls - 1})\n"
+
+
+def loops(turns):
+    """One loop of so many turns, which asks nothing."""
+    body = ["def s(n):", "  x = 0", "  for i in range(n):", "    x += i % 7", "  return x"]
+    return "\n".join([*body, f"eval s({turns})"]) + "\n"
+
+
 def million():
     """One evaluation that computes a million nodes of one short formula, and a thousand that sum them."""
     lines = ["limit 100000", "cells h(i) = i", "cells g(k) = sum(h(k * 1000 + i) for i in range(1000))"]
@@ -124,8 +135,30 @@ WORKLOADS = [
     ("beside", lambda: beside(90_000, 10_000), False),
     ("derived", lambda: derived(200, 100, 20), False),
     ("series", lambda: series(150_000, 150), True),
+    ("deep", lambda: deep(100_000), False),
+    ("loops", lambda: loops(900_000), False),
     ("million", million, False),
 ]
+
+
+# Runs a command and tells its time, its status and its greatest memory. It is a process of its own, and a small one: a process
+# that is begun counts the memory of the one that begins it, and this one holds whole scripts.
+BESIDE = """
+import os, subprocess, sys, time
+script, out, *command = sys.argv[1:]
+with open(script, "rb") as stdin, open(out, "wb") as stdout:
+    start = time.perf_counter()
+    child = subprocess.Popen(command, stdin=stdin, stdout=stdout, stderr=subprocess.DEVNULL)
+    _, status, usage = os.wait4(child.pid, 0)
+    print(time.perf_counter() - start, os.waitstatus_to_exitcode(status), usage.ru_maxrss)
+"""
+
+
+def run_beside(command, script, out):
+    """The seconds that a command takes with a script as input, its status, and its greatest memory in KB, of 8,000 at least."""
+    beside = [sys.executable, "-S", "-c", BESIDE, script, out, *command]
+    told = subprocess.run(beside, cwd=os.path.dirname(out), capture_output=True, text=True, check=True).stdout.split()
+    return float(told[0]), int(told[1]), int(told[2])
 
 
 def timed(command, script, folder, repeat):
@@ -133,17 +166,12 @@ def timed(command, script, folder, repeat):
     best, text, memory = None, None, 0
     out = os.path.join(folder, "out")
     for _ in range(repeat):
-        with open(script, "rb") as stdin, open(out, "wb") as stdout:
-            start = time.perf_counter()
-            child = subprocess.Popen(command, stdin=stdin, stdout=stdout, stderr=subprocess.DEVNULL, cwd=folder)
-            _, status, usage = os.wait4(child.pid, 0)
-            took = time.perf_counter() - start
-        child.returncode = os.waitstatus_to_exitcode(status)
-        memory = max(memory, usage.ru_maxrss)
+        took, status, used = run_beside(command, script, out)
+        memory = max(memory, used)
         best = took if best is None else min(best, took)
         with open(out, encoding="latin-1") as f:
             text = f.read()
-        if child.returncode != 0:
+        if status != 0:
             return None, text, memory
     return best, text, memory
 
@@ -186,16 +214,12 @@ def operators(runs):
 
 
 def memo(count):
-    """What mx_memo_bench prints for so many nodes, and the memory that a node takes."""
-    def run(nodes):
-        child = subprocess.Popen([MEMO, str(nodes)], stdout=subprocess.PIPE, text=True)
-        text = child.stdout.read()
-        _, status, usage = os.wait4(child.pid, 0)
-        child.returncode = os.waitstatus_to_exitcode(status)
-        return text, usage.ru_maxrss
-    text, most = run(count)
-    _, least = run(1)
-    return f"{text}memory: {(most - least) * 1024 // count} bytes a node\n"
+    """What mx_memo_bench prints for so many nodes, and the memory that a node takes, some bytes of it the program's own."""
+    with tempfile.TemporaryDirectory() as folder:
+        out = os.path.join(folder, "out")
+        _, _, memory = run_beside([MEMO, str(count)], os.devnull, out)
+        with open(out, encoding="ascii") as f:
+            return f"{f.read()}memory: {memory * 1024 // count} bytes a node\n"
 
 
 def main():
