@@ -155,7 +155,8 @@ with open(script, "rb") as stdin, open(out, "wb") as stdout:
 
 
 def run_beside(command, script, out):
-    """The seconds that a command takes with a script as input, its status, and its greatest memory in KB, of 8,000 at least."""
+    """The seconds that a command takes with a script as input, its status, and its greatest memory in KB: some 10,000 where it is
+    less, which is that of the small process."""
     beside = [sys.executable, "-S", "-c", BESIDE, script, out, *command]
     told = subprocess.run(beside, cwd=os.path.dirname(out), capture_output=True, text=True, check=True).stdout.split()
     return float(told[0]), int(told[1]), int(told[2])
@@ -217,7 +218,9 @@ def memo(count):
     """What mx_memo_bench prints for so many nodes, and the memory that a node takes, some bytes of it the program's own."""
     with tempfile.TemporaryDirectory() as folder:
         out = os.path.join(folder, "out")
-        _, _, memory = run_beside([MEMO, str(count)], os.devnull, out)
+        _, status, memory = run_beside([MEMO, str(count)], os.devnull, out)
+        if status != 0:
+            return f"memo: it ended with status {status}\n"
         with open(out, encoding="ascii") as f:
             return f"{f.read()}memory: {memory * 1024 // count} bytes a node\n"
 
