@@ -28,7 +28,8 @@ pub fn bound(
 ) -> Result<Option<Node>, AllocError>
     requires memo { IsRightMemo (model_of world.now) (entries_of memo.now.held) }
     requires ordered { IsOrdered memo.now }
-    ensures { IfOk result (IsBoundForm (model_of world.now) (nodes_of (entries_of memo.now.held)) node.now) }
+    ensures { IfOk result
+        (IsBoundForm (model_of world.now) (nodes_of (entries_of memo.now.held)) node.now) }
 {
     let mut records = Records::new(alloc);
     match walk_held(alloc, world, memo, address_of(node), &mut records)? {

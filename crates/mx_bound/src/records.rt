@@ -44,7 +44,9 @@ impl Records {
 
     /// An input was asked.
     pub fn ask_input(&mut self, node: &SharedNode) -> Result<(), AllocError>
-        ensures seen { OnOk result (self.new.seen ≡ with_read (read.Node node.now) (with_key (key.Input node.now) self.old.seen)) }
+        ensures seen { OnOk result
+            (self.new.seen
+            ≡ with_read (read.Node node.now) (with_key (key.Input node.now) self.old.seen)) }
         ensures asks { self.new.asks ≡ self.old.asks }
     {
         self.seen.look(Key::Input(node.copy()?))?;

@@ -67,7 +67,9 @@ pub fn walk_further(
 ) -> Result<Led, AllocError>
     requires memo { IsRightMemo (model_of world.now) (entries_of memo.now.held) }
     requires ordered { IsOrdered memo.now }
-    ensures { IfOk result (λ led. LeadsFurther (model_of world.now) memo.now.held rest came records.old led records.new) }
+    ensures { IfOk result
+        (λ led.
+        LeadsFurther (model_of world.now) memo.now.held rest came records.old led records.new) }
 {
     let walked = walk_on(alloc, world, rest, came)?;
     return pass_held(alloc, world, memo, walked, records);
@@ -83,7 +85,9 @@ fn pass_held(
 ) -> Result<Led, AllocError>
     requires memo { IsRightMemo (model_of world.now) (entries_of memo.now.held) }
     requires ordered { IsOrdered memo.now }
-    ensures { IfOk result (λ led. LeadsOn (model_of world.now) memo.now.held (told from) records.old led records.new) }
+    ensures { IfOk result
+        (λ led.
+        LeadsOn (model_of world.now) memo.now.held (told from) records.old led records.new) }
 {
     let mut walked = from;
     for _ in 0..u64::MAX {
@@ -105,7 +109,9 @@ fn pass_item(
 ) -> Result<Passed, AllocError>
     requires memo { IsRightMemo (model_of world.now) (entries_of memo.now.held) }
     requires ordered { IsOrdered memo.now }
-    ensures { IfOk result (λ past. PassesOn (model_of world.now) memo.now.held (told walked) records.old past records.new) }
+    ensures { IfOk result
+        (λ past.
+        PassesOn (model_of world.now) memo.now.held (told walked) records.old past records.new) }
 {
     match walked {
         Walked::Came(space) => return Ok(Passed::Stops(Led::Came(space))),
@@ -126,7 +132,10 @@ fn ask_item(
 ) -> Result<Passed, AllocError>
     requires memo { IsRightMemo (model_of world.now) (entries_of memo.now.held) }
     requires ordered { IsOrdered memo.now }
-    ensures { IfOk result (λ past. PassesOn (model_of world.now) memo.now.held (AsksAt item rest) records.old past records.new) }
+    ensures { IfOk result
+        (λ past.
+        PassesOn (model_of world.now) memo.now.held
+        (AsksAt item rest) records.old past records.new) }
 {
     let Some(id) = memo.find(&item) else {
         return Ok(Passed::Stops(Led::Waits(item, rest)));

@@ -52,7 +52,8 @@ fn bound_of(spaces: &[SpaceId], least: usize) -> usize
 fn count_tail(spaces: &[SpaceId], counts: &mut [usize])
     requires distinct { Distinct spaces.now }
     requires room { (x : Space) → Has spaces.now x → x.0 < length counts.old }
-    requires below { (x : Space) → x.0 < length counts.old → slice_index counts.old x.0 < 2 ^ 64 - 1 }
+    requires below { (x : Space) → x.0 < length counts.old →
+        slice_index counts.old x.0 < 2 ^ 64 - 1 }
     ensures { CountsMore counts.old (tail spaces.now) counts.new }
 {
     if let [_, tail @ ..] = spaces {
@@ -63,7 +64,8 @@ fn count_tail(spaces: &[SpaceId], counts: &mut [usize])
 fn count_all(spaces: &[SpaceId], counts: &mut [usize])
     requires distinct { Distinct spaces.now }
     requires room { (x : Space) → Has spaces.now x → x.0 < length counts.old }
-    requires below { (x : Space) → x.0 < length counts.old → slice_index counts.old x.0 < 2 ^ 64 - 1 }
+    requires below { (x : Space) → x.0 < length counts.old →
+        slice_index counts.old x.0 < 2 ^ 64 - 1 }
     ensures { CountsMore counts.old spaces.now counts.new }
 {
     for space in spaces {

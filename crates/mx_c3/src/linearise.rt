@@ -53,7 +53,8 @@ fn no_orders(alloc: Global, count: usize) -> Result<Vec<Option<Order>>, AllocErr
 }
 
 fn order_at(orders: &[Option<Order>], space: SpaceId) -> Option<&Order>
-    ensures { MatchOption result (known orders.now space ≡ None) (λ order. known orders.now space ≡ Some order.now) }
+    ensures { MatchOption result (known orders.now space ≡ None)
+        (λ order. known orders.now space ≡ Some order.now) }
 {
     match orders.get(space.0 as usize) {
         Some(Some(order)) => Some(order),
@@ -82,7 +83,8 @@ fn order_from(
     orders: &[Option<Order>],
 ) -> Result<Order, C3Refusal>
     requires { AllDistinct (orders_of orders.now bases.now ++ bases.now ∷ []) }
-    ensures { Answers result (put space (merge (orders_of orders.now bases.now ++ bases.now ∷ []))) }
+    ensures { Answers result
+        (put space (merge (orders_of orders.now bases.now ++ bases.now ∷ []))) }
 {
     let mut begun = Vec::new(alloc);
     begun.push(space)?;
@@ -96,7 +98,8 @@ fn lists_of<'a>(
     bases: &'a Order,
     orders: &'a [Option<Order>],
 ) -> Result<Vec<Remaining<'a>>, AllocError>
-    ensures { IfOk result (λ lists. lists.items ≡ orders_of orders.now bases.now ++ bases.now ∷ []) }
+    ensures { IfOk result
+        (λ lists. lists.items ≡ orders_of orders.now bases.now ++ bases.now ∷ []) }
 {
     let mut lists = Vec::with_capacity(alloc, bases.as_slice().len() + 1)?;
     for base in bases.as_slice() {

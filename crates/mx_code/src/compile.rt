@@ -9,6 +9,7 @@ ghost use Rattle.mx_code.specs.Told.{told, told_action};
 
 use crate::action::{Action, Instr, Local};
 use crate::code::{Code, Instruction};
+use crate::fused::fuse;
 use crate::statements::{put_body, put_nothing};
 use mx_list::items::Items;
 use mx_syntax::height::first_line;
@@ -21,10 +22,12 @@ use std::alloc::{AllocError, Global};
 /// The code of a formula with these parameters and this body, or of a parameter list, whose body is
 /// empty where it has none.
 pub fn compile(alloc: Global, params: &[Param], body: &[Stmt]) -> Result<Code, AllocError>
-    ensures { IfOk result (λ c. (told c ≡ code_of params.now body.now) × (c.size ≡ size_of params.now body.now)) }
+    ensures { IfOk result
+        (λ c. (told c ≡ code_of params.now body.now) × (c.size ≡ size_of params.now body.now)) }
 {
     let scope = scope(alloc, params, body)?;
-    let mut code = Vec::new(alloc);
+    // Room for a formula of common length.
+    let mut code = Vec::with_capacity(alloc, 16)?;
     put_nothing(&mut code, 1)?;
     put_body(alloc, &mut code, scope.as_slice(), first_line(body), body)?;
     let size = places(code.as_slice(), scope.len())?;
@@ -48,7 +51,8 @@ fn scope(alloc: Global, params: &[Param], body: &[Stmt]) -> Result<Vec<Local>, A
 
 /// One more local, at the next place.
 fn push_local(locals: &mut Vec<Local>, name: &Label) -> Result<(), AllocError>
-    ensures { (names : Many Label) → locals.old.items ≡ numbered 0 names → OnOk result (locals.new.items ≡ numbered 0 (names ++ name.now ∷ [])) }
+    ensures { (names : Many Label) → locals.old.items ≡ numbered 0 names →
+        OnOk result (locals.new.items ≡ numbered 0 (names ++ name.now ∷ [])) }
 {
     let place = locals.len();
     locals.push(Local {
@@ -95,7 +99,7 @@ fn packed(alloc: Global, code: &[Instr], size: usize) -> Result<Code, AllocError
     for i in (0..code.len()).rev() {
         let instr = &code[i];
         let instruction = pack(alloc, &mut constants, &mut names, &instr.action)?;
-        instructions.push(instruction)?;
+        instructions.push(fuse(code, i, instruction))?;
         lines.push(instr.line)?;
     }
     Ok(Code {
@@ -115,7 +119,8 @@ fn pack(
     action: &Action,
 ) -> Result<Instruction, AllocError>
     ensures told { IfOk result (λ o. told_action constants.new names.new o ≡ action.now) }
-    ensures in_pools { IfOk result (λ o. IsTrue (is_in (length constants.new) (length names.new) o)) }
+    ensures in_pools { IfOk result
+        (λ o. IsTrue (is_in (length constants.new) (length names.new) o)) }
     ensures constants { take (length constants.old) constants.new ≡ constants.old }
     ensures names { take (length names.old) names.new ≡ names.old }
 {
@@ -169,7 +174,8 @@ fn constant(alloc: Global, pool: &mut Items<Value>, value: &Value) -> Result<usi
 
 /// The place of a name in the pool, where it is added if it is not there.
 fn pooled(pool: &mut Items<Label>, name: &Label) -> Result<usize, AllocError>
-    ensures place { IfOk result (λ place. (place < length pool.new) × (get_or pool.new place [] ≡ name.now)) }
+    ensures place { IfOk result
+        (λ place. (place < length pool.new) × (get_or pool.new place [] ≡ name.now)) }
     ensures pool { take (length pool.old) pool.new ≡ pool.old }
 {
     match position(pool.as_slice(), name) {
@@ -184,7 +190,8 @@ fn pooled(pool: &mut Items<Label>, name: &Label) -> Result<usize, AllocError>
 
 /// The place of a name.
 fn position(pool: &[Label], name: &Label) -> Option<usize>
-    ensures { IfSome result (λ place. (place < length pool.now) × (get_or pool.now place [] ≡ name.now)) }
+    ensures { IfSome result
+        (λ place. (place < length pool.now) × (get_or pool.now place [] ≡ name.now)) }
 {
     for (place, other) in pool.iter().enumerate() {
         if other.same(name) {

@@ -64,7 +64,9 @@ impl Compiled {
 
     /// The code of the formula, shared.
     pub fn share_code(&self) -> Result<Shared<Code>, AllocError>
-        ensures { IfOk result (λ c. (told c ≡ code_of self.now.params self.now.body) × (c.size ≡ size_of self.now.params self.now.body)) }
+        ensures { IfOk result
+            (λ c. (told c ≡ code_of self.now.params self.now.body)
+            × (c.size ≡ size_of self.now.params self.now.body)) }
     {
         self.code.copy()
     }
@@ -148,7 +150,9 @@ impl CompiledParams {
 
     /// The code of the formula of the items, shared.
     pub fn share_code(&self) -> Result<Shared<Code>, AllocError>
-        ensures { IfOk result (λ c. (told c ≡ code_of self.now.params (body_of self.now.body)) × (c.size ≡ size_of self.now.params (body_of self.now.body))) }
+        ensures { IfOk result
+            (λ c. (told c ≡ code_of self.now.params (body_of self.now.body))
+            × (c.size ≡ size_of self.now.params (body_of self.now.body))) }
     {
         self.code.copy()
     }

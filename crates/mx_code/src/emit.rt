@@ -83,7 +83,9 @@ pub fn put_name(
     name: &Label,
     is_called: bool,
 ) -> Result<(), AllocError>
-    ensures { OnOk result (reverse code.new.items ≡ name_code name.now is_called scope.now line ++ reverse code.old.items) }
+    ensures { OnOk result
+        (reverse code.new.items
+        ≡ name_code name.now is_called scope.now line ++ reverse code.old.items) }
 {
     if let Some(place) = place(scope, name) {
         return put(code, line, Action::Local(place));

@@ -30,7 +30,9 @@ pub fn put_part(
     e: &Expr,
     is_called: bool,
 ) -> Result<(), AllocError>
-    ensures { OnOk result (reverse code.new.items ≡ part_code e.now is_called scope.now line ++ reverse code.old.items) }
+    ensures { OnOk result
+        (reverse code.new.items
+        ≡ part_code e.now is_called scope.now line ++ reverse code.old.items) }
 {
     match e {
         Expr::Lit(value) => put(code, line, Action::Const(value.copy(alloc)?)),
@@ -103,7 +105,10 @@ fn put_values(
     line: u32,
     items: &[Expr],
 ) -> Result<(), AllocError>
-    ensures { OnOk result (reverse code.new.items ≡ values_code (map value_of (map part_code items.now)) scope.now line ++ reverse code.old.items) }
+    ensures { OnOk result
+        (reverse code.new.items
+        ≡ values_code (map value_of (map part_code items.now)) scope.now line
+        ++ reverse code.old.items) }
 {
     for i in (0..items.len()).rev() {
         put_part(alloc, code, scope, line, &items[i], false)?;
@@ -120,7 +125,9 @@ fn put_sum(
     line: u32,
     parts: &[SumPart],
 ) -> Result<(), AllocError>
-    ensures { OnOk result (reverse code.new.items ≡ joined_code (map sum_code parts.now) scope.now line ++ reverse code.old.items) }
+    ensures { OnOk result
+        (reverse code.new.items
+        ≡ joined_code (map sum_code parts.now) scope.now line ++ reverse code.old.items) }
 {
     for i in (0..parts.len()).rev() {
         let part = &parts[i];
@@ -139,7 +146,9 @@ fn put_product(
     line: u32,
     parts: &[ProductPart],
 ) -> Result<(), AllocError>
-    ensures { OnOk result (reverse code.new.items ≡ joined_code (map product_code parts.now) scope.now line ++ reverse code.old.items) }
+    ensures { OnOk result
+        (reverse code.new.items
+        ≡ joined_code (map product_code parts.now) scope.now line ++ reverse code.old.items) }
 {
     for i in (0..parts.len()).rev() {
         let part = &parts[i];
@@ -151,7 +160,8 @@ fn put_product(
 
 /// Signs, of which the last one applies first.
 fn put_signs(code: &mut Vec<Instr>, line: u32, signs: &[Sign]) -> Result<(), AllocError>
-    ensures { OnOk result (reverse code.new.items ≡ signs_code signs.now line ++ reverse code.old.items) }
+    ensures { OnOk result
+        (reverse code.new.items ≡ signs_code signs.now line ++ reverse code.old.items) }
 {
     for sign in signs {
         put(code, line, Action::Unary(sign_op(*sign)))?;
@@ -168,7 +178,9 @@ fn put_powered(
     line: u32,
     parts: &[PowerPart],
 ) -> Result<(), AllocError>
-    ensures { OnOk result (reverse code.new.items ≡ powered_code (map power_code parts.now) scope.now line ++ reverse code.old.items) }
+    ensures { OnOk result
+        (reverse code.new.items
+        ≡ powered_code (map power_code parts.now) scope.now line ++ reverse code.old.items) }
 {
     put_raised(code, line, parts)?;
     for i in (0..parts.len()).rev() {
@@ -179,7 +191,9 @@ fn put_powered(
 
 /// What joins the parts of a power, from the right.
 fn put_raised(code: &mut Vec<Instr>, line: u32, parts: &[PowerPart]) -> Result<(), AllocError>
-    ensures { OnOk result (reverse code.new.items ≡ raised_code (map signs_of (map power_code parts.now)) line ++ reverse code.old.items) }
+    ensures { OnOk result
+        (reverse code.new.items
+        ≡ raised_code (map signs_of (map power_code parts.now)) line ++ reverse code.old.items) }
 {
     for i in 0..parts.len() {
         let part = &parts[i];
@@ -198,7 +212,10 @@ fn put_chain(
     line: u32,
     comparisons: &[Comparison],
 ) -> Result<(), AllocError>
-    ensures { OnOk result (reverse code.new.items ≡ chain_code (map comparison_code comparisons.now) scope.now line ++ reverse code.old.items) }
+    ensures { OnOk result
+        (reverse code.new.items
+        ≡ chain_code (map comparison_code comparisons.now) scope.now line
+        ++ reverse code.old.items) }
 {
     if comparisons.is_empty() {
         put(code, line, Action::Const(Value::Flag(true)))?;
@@ -251,7 +268,10 @@ fn put_deciding(
     parts: &[Expr],
     decides: bool,
 ) -> Result<(), AllocError>
-    ensures { OnOk result (reverse code.new.items ≡ deciding_code decides (map value_of (map part_code parts.now)) scope.now line ++ reverse code.old.items) }
+    ensures { OnOk result
+        (reverse code.new.items
+        ≡ deciding_code decides (map value_of (map part_code parts.now)) scope.now line
+        ++ reverse code.old.items) }
 {
     let [first, ..] = parts else {
         return put(code, line, Action::Fail(FaultKind::TypeMismatch));
@@ -300,7 +320,9 @@ fn put_trailers(
     line: u32,
     trailers: &[Trailer],
 ) -> Result<(), AllocError>
-    ensures { OnOk result (reverse code.new.items ≡ trailed_code (map trailer_code trailers.now) scope.now line ++ reverse code.old.items) }
+    ensures { OnOk result
+        (reverse code.new.items
+        ≡ trailed_code (map trailer_code trailers.now) scope.now line ++ reverse code.old.items) }
 {
     for i in (0..trailers.len()).rev() {
         match &trailers[i] {
@@ -324,7 +346,9 @@ fn put_args(
     line: u32,
     args: &Args,
 ) -> Result<(), AllocError>
-    ensures { OnOk result (reverse code.new.items ≡ behind_code (args_code args.now) scope.now line ++ reverse code.old.items) }
+    ensures { OnOk result
+        (reverse code.new.items
+        ≡ behind_code (args_code args.now) scope.now line ++ reverse code.old.items) }
 {
     match args {
         Args::List(items) => {
@@ -367,7 +391,10 @@ fn put_collected(
     place: usize,
     item: Vec<Instr>,
 ) -> Result<(), AllocError>
-    ensures { OnOk result (reverse code.new.items ≡ rounds_code line place (reverse item.items) (act.Collect (length item.items + 1)) ++ reverse code.old.items) }
+    ensures { OnOk result
+        (reverse code.new.items
+        ≡ rounds_code line place (reverse item.items) (act.Collect (length item.items + 1))
+        ++ reverse code.old.items) }
 {
     let end = code.len();
     let back = way_back(&item)?;
@@ -386,7 +413,10 @@ fn put_filter(
     line: u32,
     test: &Option<Shared<Expr>>,
 ) -> Result<(), AllocError>
-    ensures { OnOk result (reverse code.new.items ≡ filter_code (option_map value_of (option_map part_code test.now)) scope.now line ++ reverse code.old.items) }
+    ensures { OnOk result
+        (reverse code.new.items
+        ≡ filter_code (option_map value_of (option_map part_code test.now)) scope.now line
+        ++ reverse code.old.items) }
 {
     let Some(test) = test else {
         return Ok(());

@@ -8,4 +8,5 @@ pub mod compile;
 pub mod compiled;
 mod emit;
 mod expressions;
+mod fused;
 mod statements;

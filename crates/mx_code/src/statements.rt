@@ -23,7 +23,8 @@ use std::alloc::{AllocError, Global};
 
 /// The line so many lines below another. More lines than a number has bits for are refused.
 fn line_below(line: u32, height: u32) -> Result<u32, AllocError>
-    ensures { (exact : ℕ) → height ≡ min exact (2 ^ 32 - 1) → IfOk result (λ below. below ≡ line + exact) }
+    ensures { (exact : ℕ) → height ≡ min exact (2 ^ 32 - 1) →
+        IfOk result (λ below. below ≡ line + exact) }
 {
     if height == u32::MAX {
         return Err(AllocError);
@@ -36,7 +37,8 @@ fn line_below(line: u32, height: u32) -> Result<u32, AllocError>
 
 /// The line at which so many lines begin that end above another.
 fn line_above(below: u32, height: u32) -> u32
-    ensures { (line exact : ℕ) → below ≡ line + exact → height ≡ min exact (2 ^ 32 - 1) → result ≡ line }
+    ensures { (line exact : ℕ) → below ≡ line + exact → height ≡ min exact (2 ^ 32 - 1) →
+        result ≡ line }
 {
     below.saturating_sub(height)
 }
@@ -56,7 +58,9 @@ fn put_store(
     line: u32,
     name: &Label,
 ) -> Result<(), AllocError>
-    ensures { OnOk result (reverse code.new.items ≡ at line (store_action (place_of scope.now name.now)) ∷ reverse code.old.items) }
+    ensures { OnOk result
+        (reverse code.new.items
+        ≡ at line (store_action (place_of scope.now name.now)) ∷ reverse code.old.items) }
 {
     match place(scope, name) {
         Some(place) => put(code, line, Action::Store(place)),
@@ -72,7 +76,8 @@ fn put_return(
     line: u32,
     value: &Option<Expr>,
 ) -> Result<(), AllocError>
-    ensures { OnOk result (reverse code.new.items ≡ return_code value.now scope.now line ++ reverse code.old.items) }
+    ensures { OnOk result
+        (reverse code.new.items ≡ return_code value.now scope.now line ++ reverse code.old.items) }
 {
     match value {
         None => put_nothing(code, line),
@@ -91,7 +96,8 @@ fn put_refs(
     line: u32,
     refs: &[(Label, Expr)],
 ) -> Result<(), AllocError>
-    ensures { OnOk result (reverse code.new.items ≡ refs_code refs.now scope.now line ++ reverse code.old.items) }
+    ensures { OnOk result
+        (reverse code.new.items ≡ refs_code refs.now scope.now line ++ reverse code.old.items) }
 {
     for i in (0..refs.len()).rev() {
         let named = &refs[i];
@@ -109,7 +115,9 @@ fn put_entries(
     line: u32,
     entries: &[ItemEntry],
 ) -> Result<(), AllocError>
-    ensures { OnOk result (reverse code.new.items ≡ entries_code entries.now scope.now line ++ reverse code.old.items) }
+    ensures { OnOk result
+        (reverse code.new.items
+        ≡ entries_code entries.now scope.now line ++ reverse code.old.items) }
 {
     for i in (0..entries.len()).rev() {
         match &entries[i] {
@@ -131,7 +139,9 @@ fn put_display(
     line: u32,
     entries: &[ItemEntry],
 ) -> Result<(), AllocError>
-    ensures { OnOk result (reverse code.new.items ≡ display_code entries.now scope.now line ++ reverse code.old.items) }
+    ensures { OnOk result
+        (reverse code.new.items
+        ≡ display_code entries.now scope.now line ++ reverse code.old.items) }
 {
     put(code, line, Action::ReturnDisplay)?;
     put_entries(alloc, code, scope, line, entries)?;
@@ -147,7 +157,9 @@ fn put_assign(
     name: &Label,
     value: &Expr,
 ) -> Result<(), AllocError>
-    ensures { OnOk result (reverse code.new.items ≡ assign_code name.now value.now scope.now line ++ reverse code.old.items) }
+    ensures { OnOk result
+        (reverse code.new.items
+        ≡ assign_code name.now value.now scope.now line ++ reverse code.old.items) }
 {
     put_store(code, scope, line, name)?;
     put_part(alloc, code, scope, line, value, false)
@@ -172,7 +184,10 @@ fn put_turns(
     name: &Label,
     body: Vec<Instr>,
 ) -> Result<(), AllocError>
-    ensures { OnOk result (reverse code.new.items ≡ turns_code (place_of scope.now name.now) line (reverse body.items) ++ reverse code.old.items) }
+    ensures { OnOk result
+        (reverse code.new.items
+        ≡ turns_code (place_of scope.now name.now) line (reverse body.items)
+        ++ reverse code.old.items) }
 {
     let Some(place) = place(scope, name) else {
         return put(code, line, Action::Fail(FaultKind::TypeMismatch));
@@ -194,7 +209,9 @@ pub fn put_body(
     line: u32,
     body: &[Stmt],
 ) -> Result<(), AllocError>
-    ensures { OnOk result (reverse code.new.items ≡ body_code (map coded body.now) scope.now line ++ reverse code.old.items) }
+    ensures { OnOk result
+        (reverse code.new.items
+        ≡ body_code (map coded body.now) scope.now line ++ reverse code.old.items) }
 {
     let mut below = line_below(line, body_height(body))?;
     for i in (0..body.len()).rev() {
@@ -214,7 +231,8 @@ fn put_stmt(
     line: u32,
     stmt: &Stmt,
 ) -> Result<(), AllocError>
-    ensures { OnOk result (reverse code.new.items ≡ stmt_code stmt.now scope.now line ++ reverse code.old.items) }
+    ensures { OnOk result
+        (reverse code.new.items ≡ stmt_code stmt.now scope.now line ++ reverse code.old.items) }
 {
     match stmt {
         Stmt::Pass => Ok(()),

@@ -102,8 +102,11 @@ impl Table {
         rows: Vec<Items<Value>>,
     ) -> Result<Table, TableRefusal>
         requires { length keys.items ≡ length rows.items }
-        ensures table { IfOk result (λ t. t ≡ record { columns = columns.items; keys = keys.items; rows = rows.items }) }
-        ensures exact { Answers result (table_trouble (record { columns = columns.items; keys = keys.items; rows = rows.items })) }
+        ensures table { IfOk result
+            (λ t. t ≡ record { columns = columns.items; keys = keys.items; rows = rows.items }) }
+        ensures exact { Answers result
+            (table_trouble
+            (record { columns = columns.items; keys = keys.items; rows = rows.items })) }
     {
         if columns.len() > COLUMNS || keys.len() > ROWS {
             return Err(TableRefusal::TooBig);

@@ -3,7 +3,7 @@ use Rattle.std.proofs.Common.{◌≡◌, ℕ, zero, suc, ◌+◌, ◌<◌, ◌�
 use Rattle.mx_vertices.specs.Kept.{Kept, asked}
 use Rattle.mx_vertices.specs.Kept as kept
 use Rattle.mx_vertices.specs.Places.{Has}
-use Rattle.mx_vertices.specs.Stamps.{renumbered}
+use Rattle.mx_drops.specs.Stamps.{renumbered}
 use Rattle.mx_memo.specs.Memos.{Memory}
 use Rattle.mx_memo.specs.Restoring.{AreApart, AskBefore}
 use Rattle.mx_memo.specs.Order.{StampsRise}

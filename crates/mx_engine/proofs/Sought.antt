@@ -8,7 +8,7 @@ use Rattle.mx_vertices.specs.declared.slot.Body.{Body}
 use Rattle.mx_vertices.specs.Kept.{Kept}
 use Rattle.mx_vertices.specs.Places.{Has}
 use Rattle.mx_vertices.specs.Found.{IsHeldAs, IsHeldWith}
-use Rattle.mx_vertices.specs.Stamps.{NoneAfter, IsNextAfter, IsHeldSince}
+use Rattle.mx_drops.specs.Stamps.{NoneAfter, IsNextAfter, IsHeldSince}
 use Rattle.mx_memo.specs.Memos.{Memory}
 use Rattle.mx_memo.specs.Restoring.{AreApart}
 use Rattle.mx_memo.specs.Order.{StampsRise}

@@ -1,7 +1,7 @@
 -- New stamps change no entry.
 use Rattle.std.proofs.Common.{◌≡◌, ◌∙◌, ℕ, ◌+◌, ◌≤◌, cond, eqb, List, [], ◌∷◌, length, map, refl, sym, ap, subst, arith, inl, inr}
 use Rattle.mx_vertices.specs.Kept.{Kept}
-use Rattle.mx_vertices.specs.Stamps.{renumbered}
+use Rattle.mx_drops.specs.Stamps.{renumbered}
 use Rattle.mx_vertices.specs.Places as places
 use Rattle.mx_memo.specs.Order.{StampsRise}
 use Rattle.mx_memo.specs.Restoring.{AreApart, AskBefore}

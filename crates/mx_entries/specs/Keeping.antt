@@ -4,7 +4,7 @@ use Rattle.mx_edit.specs.declared.key.Key.{Key}
 use Rattle.mx_edit.specs.declared.key.KeyResult.{KeyResult}
 use Rattle.mx_edit.specs.declared.scope.Scope.{Scope}
 use Rattle.mx_vertices.specs.Kept.{IsTouched, HasChanged, IsToGo, Sifts}
-use Rattle.mx_vertices.specs.Stamps.{renumbered}
+use Rattle.mx_drops.specs.Stamps.{renumbered}
 use Rattle.mx_memo.specs.Memos.{Memory, nothing_held}
 use Rattle.mx_runs.specs.Runs.{Model}
 use Rattle.mx_runs.specs.Inputs.{InputsEnd}

@@ -12,7 +12,7 @@ use Rattle.mx_vertices.specs.Held.{entry_with}
 use Rattle.mx_vertices.specs.Kept.{Kept, looked, asked, IsToGo}
 use Rattle.mx_vertices.specs.Kept as kept
 use Rattle.mx_vertices.specs.Reading.{LookedUp, Asked, AreTakers, id_at}
-use Rattle.mx_vertices.specs.Stamps.{renumbered}
+use Rattle.mx_drops.specs.Stamps.{renumbered}
 use Rattle.mx_vertices.specs.Places as places
 use Rattle.mx_memo.specs.Memos.{Memory, AreHeld, HoldsLast}
 use Rattle.mx_memo.specs.Namespaces.{namespace_held}

@@ -83,7 +83,8 @@ impl<F: Fn(Global, &mut Cursor<'_>, usize) -> Result<Expr, Trouble>> Operands<F>
 
     fn or_parts(&self, tokens: &mut Cursor<'_>) -> Result<Items<Expr>, Trouble>
         requires { Nests ors self.now.levels (F.pre self.now.or) (F.post self.now.or) }
-        ensures { Reads (spec.or_parts (conjunctions self.now.levels) tokens.old) result tokens.new }
+        ensures { Reads (spec.or_parts
+            (conjunctions self.now.levels) tokens.old) result tokens.new }
     {
         let mut found = Items::new(self.alloc);
         while tokens.sees(Symbol::Or) {

@@ -67,7 +67,8 @@ impl<F: Fn(Global, &mut Cursor<'_>, usize) -> Result<Expr, Trouble>> Operands<F>
         found: Items<Expr>,
     ) -> Result<Items<Expr>, Trouble>
         requires { Nests ors self.now.levels (F.pre self.now.or) (F.post self.now.or) }
-        ensures { Reads (listed close (expression self.now.levels) found tokens.old) result tokens.new }
+        ensures { Reads (listed close
+            (expression self.now.levels) found tokens.old) result tokens.new }
     {
         let mut found = found;
         while !tokens.eat(close) {
@@ -87,7 +88,8 @@ impl<F: Fn(Global, &mut Cursor<'_>, usize) -> Result<Expr, Trouble>> Operands<F>
         close: Symbol,
     ) -> Result<Items<Expr>, Trouble>
         requires { Nests ors self.now.levels (F.pre self.now.or) (F.post self.now.or) }
-        ensures { Reads (some_listed close (expression self.now.levels) tokens.old) result tokens.new }
+        ensures { Reads (some_listed close
+            (expression self.now.levels) tokens.old) result tokens.new }
     {
         let first = self.inside(tokens)?;
         let mut found = Items::new(self.alloc);
@@ -104,7 +106,8 @@ impl<F: Fn(Global, &mut Cursor<'_>, usize) -> Result<Expr, Trouble>> Operands<F>
     #[tactic(auto, unfolding(crate::specs::OperandParsers::group_rest))]
     fn group_rest(&self, tokens: &mut Cursor<'_>, first: Expr) -> Result<Expr, Trouble>
         requires { Nests ors self.now.levels (F.pre self.now.or) (F.post self.now.or) }
-        ensures { Reads (spec.group_rest (expression self.now.levels) first tokens.old) result tokens.new }
+        ensures { Reads (spec.group_rest
+            (expression self.now.levels) first tokens.old) result tokens.new }
     {
         if tokens.sees(Symbol::Comma) {
             tokens.expect(Symbol::Comma)?;
@@ -148,7 +151,8 @@ impl<F: Fn(Global, &mut Cursor<'_>, usize) -> Result<Expr, Trouble>> Operands<F>
     #[tactic(auto, unfolding(crate::specs::OperandParsers::post))]
     fn post(&self, tokens: &mut Cursor<'_>) -> Result<Expr, Trouble>
         requires { Nests ors self.now.levels (F.pre self.now.or) (F.post self.now.or) }
-        ensures { Reads (spec.post self.now.levels (expression self.now.levels) (ors self.now.levels) tokens.old) result tokens.new }
+        ensures { Reads (spec.post self.now.levels (expression self.now.levels)
+            (ors self.now.levels) tokens.old) result tokens.new }
     {
         let of = self.atom(tokens)?;
         let trailers = self.trailers(tokens)?;
@@ -158,7 +162,8 @@ impl<F: Fn(Global, &mut Cursor<'_>, usize) -> Result<Expr, Trouble>> Operands<F>
     #[tactic(auto, unfolding(crate::specs::OperandParsers::power_part))]
     fn power_part(&self, tokens: &mut Cursor<'_>) -> Result<PowerPart, Trouble>
         requires { Nests ors self.now.levels (F.pre self.now.or) (F.post self.now.or) }
-        ensures { Reads (spec.power_part self.now.levels (expression self.now.levels) (ors self.now.levels) tokens.old) result tokens.new }
+        ensures { Reads (spec.power_part self.now.levels (expression self.now.levels)
+            (ors self.now.levels) tokens.old) result tokens.new }
     {
         tokens.expect(Symbol::Power)?;
         let signs = signs(self.alloc, tokens)?;
@@ -168,7 +173,8 @@ impl<F: Fn(Global, &mut Cursor<'_>, usize) -> Result<Expr, Trouble>> Operands<F>
 
     fn power_parts(&self, tokens: &mut Cursor<'_>) -> Result<Items<PowerPart>, Trouble>
         requires { Nests ors self.now.levels (F.pre self.now.or) (F.post self.now.or) }
-        ensures { Reads (spec.power_parts self.now.levels (expression self.now.levels) (ors self.now.levels) tokens.old) result tokens.new }
+        ensures { Reads (spec.power_parts self.now.levels (expression self.now.levels)
+            (ors self.now.levels) tokens.old) result tokens.new }
     {
         let mut found = Items::new(self.alloc);
         while tokens.sees(Symbol::Power) {
@@ -180,7 +186,8 @@ impl<F: Fn(Global, &mut Cursor<'_>, usize) -> Result<Expr, Trouble>> Operands<F>
     #[tactic(auto, unfolding(crate::specs::OperandParsers::power))]
     fn power(&self, tokens: &mut Cursor<'_>) -> Result<Expr, Trouble>
         requires { Nests ors self.now.levels (F.pre self.now.or) (F.post self.now.or) }
-        ensures { Reads (spec.power self.now.levels (expression self.now.levels) (ors self.now.levels) tokens.old) result tokens.new }
+        ensures { Reads (spec.power self.now.levels (expression self.now.levels)
+            (ors self.now.levels) tokens.old) result tokens.new }
     {
         let first = self.post(tokens)?;
         let rest = self.power_parts(tokens)?;
@@ -191,7 +198,8 @@ impl<F: Fn(Global, &mut Cursor<'_>, usize) -> Result<Expr, Trouble>> Operands<F>
     #[tactic(auto, unfolding(crate::specs::OperandParsers::signed_of))]
     pub fn signed(&self, tokens: &mut Cursor<'_>) -> Result<Expr, Trouble>
         requires { Nests ors self.now.levels (F.pre self.now.or) (F.post self.now.or) }
-        ensures { Reads (spec.signed_of self.now.levels (expression self.now.levels) (ors self.now.levels) tokens.old) result tokens.new }
+        ensures { Reads (spec.signed_of self.now.levels (expression self.now.levels)
+            (ors self.now.levels) tokens.old) result tokens.new }
     {
         let signs = signs(self.alloc, tokens)?;
         let of = self.power(tokens)?;

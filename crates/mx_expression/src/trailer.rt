@@ -53,7 +53,8 @@ impl<F: Fn(Global, &mut Cursor<'_>, usize) -> Result<Expr, Trouble>> Operands<F>
     #[tactic(auto, unfolding(crate::specs::OperandParsers::generator))]
     fn generator(&self, tokens: &mut Cursor<'_>, element: Expr) -> Result<Args, Trouble>
         requires { Nests ors self.now.levels (F.pre self.now.or) (F.post self.now.or) }
-        ensures { Reads (spec.generator (ors self.now.levels) element tokens.old) result tokens.new }
+        ensures { Reads (spec.generator
+            (ors self.now.levels) element tokens.old) result tokens.new }
     {
         let source = self.source(tokens)?;
         Ok(tree::generator(self.alloc, element, source)?)
@@ -63,7 +64,8 @@ impl<F: Fn(Global, &mut Cursor<'_>, usize) -> Result<Expr, Trouble>> Operands<F>
     #[tactic(auto, unfolding(crate::specs::OperandParsers::arguments_rest))]
     fn arguments_rest(&self, tokens: &mut Cursor<'_>, first: Expr) -> Result<Args, Trouble>
         requires { Nests ors self.now.levels (F.pre self.now.or) (F.post self.now.or) }
-        ensures { Reads (spec.arguments_rest (expression self.now.levels) (ors self.now.levels) first tokens.old) result tokens.new }
+        ensures { Reads (spec.arguments_rest (expression self.now.levels)
+            (ors self.now.levels) first tokens.old) result tokens.new }
     {
         if tokens.sees(Symbol::For) {
             let generator = self.generator(tokens, first)?;
@@ -84,7 +86,8 @@ impl<F: Fn(Global, &mut Cursor<'_>, usize) -> Result<Expr, Trouble>> Operands<F>
     #[tactic(auto, unfolding(crate::specs::OperandParsers::arguments))]
     fn arguments(&self, tokens: &mut Cursor<'_>) -> Result<Args, Trouble>
         requires { Nests ors self.now.levels (F.pre self.now.or) (F.post self.now.or) }
-        ensures { Reads (spec.arguments (expression self.now.levels) (ors self.now.levels) tokens.old) result tokens.new }
+        ensures { Reads (spec.arguments (expression self.now.levels)
+            (ors self.now.levels) tokens.old) result tokens.new }
     {
         if tokens.sees(Symbol::CloseRound) {
             tokens.expect(Symbol::CloseRound)?;
@@ -97,7 +100,8 @@ impl<F: Fn(Global, &mut Cursor<'_>, usize) -> Result<Expr, Trouble>> Operands<F>
     #[tactic(auto, unfolding(crate::specs::OperandParsers::subscripts))]
     fn subscripts(&self, tokens: &mut Cursor<'_>) -> Result<Trailer, Trouble>
         requires { Nests ors self.now.levels (F.pre self.now.or) (F.post self.now.or) }
-        ensures { Reads (spec.subscripts self.now.levels (expression self.now.levels) tokens.old) result tokens.new }
+        ensures { Reads (spec.subscripts self.now.levels
+            (expression self.now.levels) tokens.old) result tokens.new }
     {
         if self.levels == 0 {
             return Err(Trouble::Unexpected(tokens.left()));
@@ -110,7 +114,8 @@ impl<F: Fn(Global, &mut Cursor<'_>, usize) -> Result<Expr, Trouble>> Operands<F>
     #[tactic(auto, unfolding(crate::specs::OperandParsers::trailer))]
     fn trailer(&self, tokens: &mut Cursor<'_>) -> Result<Trailer, Trouble>
         requires { Nests ors self.now.levels (F.pre self.now.or) (F.post self.now.or) }
-        ensures { Reads (spec.trailer self.now.levels (expression self.now.levels) (ors self.now.levels) tokens.old) result tokens.new }
+        ensures { Reads (spec.trailer self.now.levels (expression self.now.levels)
+            (ors self.now.levels) tokens.old) result tokens.new }
     {
         if tokens.sees(Symbol::OpenRound) {
             tokens.expect(Symbol::OpenRound)?;
@@ -125,7 +130,8 @@ impl<F: Fn(Global, &mut Cursor<'_>, usize) -> Result<Expr, Trouble>> Operands<F>
 
     pub fn trailers(&self, tokens: &mut Cursor<'_>) -> Result<Items<Trailer>, Trouble>
         requires { Nests ors self.now.levels (F.pre self.now.or) (F.post self.now.or) }
-        ensures { Reads (spec.trailers self.now.levels (expression self.now.levels) (ors self.now.levels) tokens.old) result tokens.new }
+        ensures { Reads (spec.trailers self.now.levels (expression self.now.levels)
+            (ors self.now.levels) tokens.old) result tokens.new }
     {
         let mut found = Items::new(self.alloc);
         while sees_trailer(tokens) {

@@ -103,7 +103,8 @@ fn push_space(
     draws: &mut Draws,
 ) -> Result<(), AllocError>
     ensures state { OnOk result (draws.new.state ≡ spec.after_space i draws.old.state) }
-    ensures edits { OnOk result (edits.new.items ≡ edits.old.items ++ spec.space_edits i draws.old.state) }
+    ensures edits { OnOk result
+        (edits.new.items ≡ edits.old.items ++ spec.space_edits i draws.old.state) }
 {
     edits.push(Edit::NewSpace {
         parent: List::empty(alloc)?,
@@ -121,7 +122,8 @@ fn push_bases(
     draws: &mut Draws,
 ) -> Result<(), AllocError>
     ensures state { OnOk result (draws.new.state ≡ spec.after_base i draws.old.state) }
-    ensures edits { OnOk result (edits.new.items ≡ edits.old.items ++ spec.base_edits i draws.old.state) }
+    ensures edits { OnOk result
+        (edits.new.items ≡ edits.old.items ++ spec.base_edits i draws.old.state) }
 {
     if i == 0 {
         return Ok(());
@@ -143,7 +145,8 @@ fn push_cells(
     draws: &mut Draws,
 ) -> Result<(), AllocError>
     ensures state { OnOk result (draws.new.state ≡ spec.after draws.old.state) }
-    ensures edits { OnOk result (edits.new.items ≡ edits.old.items ++ spec.cells_edits i draws.old.state) }
+    ensures edits { OnOk result
+        (edits.new.items ≡ edits.old.items ++ spec.cells_edits i draws.old.state) }
 {
     if i % 2 == 0 {
         let start = draws.below(1_000);
@@ -165,7 +168,8 @@ fn push_cell(
     name: &[u8],
     formula: Formula,
 ) -> Result<(), AllocError>
-    ensures { OnOk result (edits.new.items ≡ edits.old.items ++ spec.set_cells i name.now formula ∷ []) }
+    ensures { OnOk result
+        (edits.new.items ≡ edits.old.items ++ spec.set_cells i name.now formula ∷ []) }
 {
     edits.push(Edit::SetCells {
         path: path_of(alloc, i)?,

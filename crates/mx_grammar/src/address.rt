@@ -50,7 +50,8 @@ fn addr_turn(
     levels: usize,
     found: &mut Items<Segment>,
 ) -> Result<bool, Trouble>
-    ensures { Goes (spec.addr_turn (literal levels) found.old tokens.old) result found.new tokens.new }
+    ensures { Goes (spec.addr_turn
+        (literal levels) found.old tokens.old) result found.new tokens.new }
 {
     let name = tokens.name()?;
     found.push(Segment::Name(name))?;

@@ -22,7 +22,8 @@ struct Literals<F> {
 
 impl<F: Fn(Global, &mut Cursor<'_>, usize) -> Result<Value, Trouble>> Literals<F> {
     fn inner(&self, tokens: &mut Cursor<'_>) -> Result<Value, Trouble>
-        requires { Nests spec.literal self.now.levels (F.pre self.now.literal) (F.post self.now.literal) }
+        requires { Nests spec.literal self.now.levels (F.pre self.now.literal)
+            (F.post self.now.literal) }
         ensures { Reads (spec.literal self.now.levels tokens.old) result tokens.new }
     {
         (self.literal)(self.alloc, tokens, self.levels)
@@ -35,8 +36,10 @@ impl<F: Fn(Global, &mut Cursor<'_>, usize) -> Result<Value, Trouble>> Literals<F
         close: Symbol,
         found: Items<Value>,
     ) -> Result<Items<Value>, Trouble>
-        requires { Nests spec.literal self.now.levels (F.pre self.now.literal) (F.post self.now.literal) }
-        ensures { Reads (listed close (spec.literal self.now.levels) found tokens.old) result tokens.new }
+        requires { Nests spec.literal self.now.levels (F.pre self.now.literal)
+            (F.post self.now.literal) }
+        ensures { Reads (listed close
+            (spec.literal self.now.levels) found tokens.old) result tokens.new }
     {
         let mut found = found;
         while !tokens.eat(close) {
@@ -51,8 +54,10 @@ impl<F: Fn(Global, &mut Cursor<'_>, usize) -> Result<Value, Trouble>> Literals<F
 
     #[tactic(auto, unfolding(crate::specs::LiteralParsers::tuple_rest))]
     fn tuple_rest(&self, tokens: &mut Cursor<'_>, first: Value) -> Result<Value, Trouble>
-        requires { Nests spec.literal self.now.levels (F.pre self.now.literal) (F.post self.now.literal) }
-        ensures { Reads (spec.tuple_rest (spec.literal self.now.levels) first tokens.old) result tokens.new }
+        requires { Nests spec.literal self.now.levels (F.pre self.now.literal)
+            (F.post self.now.literal) }
+        ensures { Reads (spec.tuple_rest
+            (spec.literal self.now.levels) first tokens.old) result tokens.new }
     {
         tokens.expect(Symbol::Comma)?;
         let mut items = Items::new(self.alloc);
@@ -63,7 +68,8 @@ impl<F: Fn(Global, &mut Cursor<'_>, usize) -> Result<Value, Trouble>> Literals<F
 
     #[tactic(auto, unfolding(crate::specs::LiteralParsers::tupled))]
     fn tupled(&self, tokens: &mut Cursor<'_>) -> Result<Value, Trouble>
-        requires { Nests spec.literal self.now.levels (F.pre self.now.literal) (F.post self.now.literal) }
+        requires { Nests spec.literal self.now.levels (F.pre self.now.literal)
+            (F.post self.now.literal) }
         ensures { Reads (spec.tupled (spec.literal self.now.levels) tokens.old) result tokens.new }
     {
         if tokens.sees(Symbol::CloseRound) {
@@ -76,8 +82,10 @@ impl<F: Fn(Global, &mut Cursor<'_>, usize) -> Result<Value, Trouble>> Literals<F
 
     #[tactic(auto, unfolding(crate::specs::LiteralParsers::literal_rule))]
     fn rule(&self, tokens: &mut Cursor<'_>) -> Result<Value, Trouble>
-        requires { Nests spec.literal self.now.levels (F.pre self.now.literal) (F.post self.now.literal) }
-        ensures { Reads (spec.literal_rule (spec.literal self.now.levels) tokens.old) result tokens.new }
+        requires { Nests spec.literal self.now.levels (F.pre self.now.literal)
+            (F.post self.now.literal) }
+        ensures { Reads (spec.literal_rule
+            (spec.literal self.now.levels) tokens.old) result tokens.new }
     {
         if tokens.sees(Symbol::Minus) {
             tokens.expect(Symbol::Minus)?;

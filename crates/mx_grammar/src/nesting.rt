@@ -42,7 +42,8 @@ fn open_behind(word: &Word, before: Open) -> Open
 
 /// How many tokens there are from the first on at which more are open.
 pub fn too_nested(words: &[Word]) -> Option<usize>
-    ensures { MatchOption result (Shallow 64 unopened words.now) (λ left. DeepAt 64 unopened words.now left) }
+    ensures { MatchOption result (Shallow 64 unopened words.now)
+        (λ left. DeepAt 64 unopened words.now left) }
 {
     let mut open_now = Open {
         brackets: 0,

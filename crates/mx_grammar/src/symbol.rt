@@ -27,6 +27,7 @@ pub fn keyword(word: &[u8]) -> Symbol
     }
 }
 
+#[inline(always)]
 pub fn mark(mark: &[u8]) -> Symbol
     ensures { result ≡ spec.mark_of mark.now }
 {

@@ -1,6 +1,6 @@
 //! From a source's tokens to tokens with values.
 
-ghost use Rattle.std.specs.Prelude.{◌≡◌, ◌≤◌, ◌^◌, pos, false, length, All, IfOk};
+ghost use Rattle.std.specs.Prelude.{◌≡◌, ◌≤◌, ◌^◌, pos, false, length, All, IfOk, IfSome};
 ghost use Rattle.std.specs.List.{AllPass, prefix_len};
 ghost use Rattle.std.specs.Char.{is_ascii_digit};
 ghost use Rattle.mx_lex.specs.Bytes.{is_printable};
@@ -21,6 +21,9 @@ use std::alloc::{AllocError, Global};
 const ONE: u64 = 1_000_000_000;
 
 const MOST_DECIMALS: usize = 9;
+
+/// How many words of a source are looked at for a name that was spelled before.
+const FIRST_WORDS: usize = 32;
 
 pub fn label(alloc: Global, bytes: &[u8]) -> Result<Label, AllocError>
     requires { AllPass is_printable bytes.now }
@@ -93,14 +96,41 @@ fn text(alloc: Global, quoted: &[u8]) -> Result<Label, AllocError>
     label(alloc, bytes.as_slice())
 }
 
-fn word(alloc: Global, source: &[u8], token: Token) -> Result<Word, AllocError>
+/// The label of this name, where it is one of the first words before.
+fn spelled(before: &[Word], text: &[u8]) -> Option<Label>
+    ensures { IfSome result (λ label. label ≡ text.now) }
+{
+    for word in before.iter().take(FIRST_WORDS) {
+        if let Word::Name(label) = word
+            && label.as_slice() == text
+        {
+            return label.copy().ok();
+        }
+    }
+    None
+}
+
+/// The label of a name, which shares its bytes with an earlier word where it can.
+#[inline(always)]
+fn name(alloc: Global, before: &[Word], text: &[u8]) -> Result<Label, AllocError>
+    requires { AllPass is_printable text.now }
+    ensures { IfOk result (λ label. label ≡ text.now) }
+{
+    if let Some(label) = spelled(before, text) {
+        return Ok(label);
+    }
+    label(alloc, text)
+}
+
+/// The word of a token. The words before it lend their names.
+fn word(alloc: Global, source: &[u8], before: &[Word], token: Token) -> Result<Word, AllocError>
     requires { spec.IsReadable source.now token }
     ensures { IfOk result (λ word. word ≡ spec.word_of source.now token) }
 {
     let (_, rest) = source.split_at(token.at as usize);
     let (bytes, _) = rest.split_at(token.len as usize);
     match token.kind {
-        TokenKind::Name => Ok(Word::Name(label(alloc, bytes)?)),
+        TokenKind::Name => Ok(Word::Name(name(alloc, before, bytes)?)),
         TokenKind::Keyword => Ok(Word::Symbol(keyword(bytes))),
         TokenKind::Int => Ok(Word::Int(value(bytes))),
         TokenKind::Fix => Ok(Word::Fix(fixed(bytes))),
@@ -119,7 +149,8 @@ pub fn words(alloc: Global, source: &[u8], tokens: &[Token]) -> Result<Items<Wor
 {
     let mut words = Items::with_capacity(alloc, tokens.len())?;
     for token in tokens {
-        words.push(word(alloc, source, *token)?)?;
+        let word = word(alloc, source, words.as_slice(), *token)?;
+        words.push(word)?;
     }
     Ok(words)
 }

@@ -45,7 +45,9 @@ impl ItemStore {
     /// Enters an item node with the namespace of its space, in place of the one that is held for it. After an error the
     /// store is as before.
     pub fn put(&mut self, node: Node, namespace: Namespace) -> Result<(), AllocError>
-        ensures ok { OnOk result ((n : Asked) → held_in self.new n ≡ (if node_eq node n then Some namespace else held_in self.old n)) }
+        ensures ok { OnOk result
+            ((n : Asked) →
+            held_in self.new n ≡ (if node_eq node n then Some namespace else held_in self.old n)) }
         ensures err { OnErr result ((n : Asked) → held_in self.new n ≡ held_in self.old n) }
     {
         self.table.insert(node, namespace)?;
@@ -54,7 +56,8 @@ impl ItemStore {
 
     /// Takes a node out, where it is there. Takes no memory.
     pub fn remove(&mut self, node: &Node)
-        ensures { (n : Asked) → held_in self.new n ≡ (if node_eq node.now n then None else held_in self.old n) }
+        ensures { (n : Asked) →
+            held_in self.new n ≡ (if node_eq node.now n then None else held_in self.old n) }
     {
         let _ = self.table.remove(node);
     }

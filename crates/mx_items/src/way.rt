@@ -57,8 +57,13 @@ impl Stretch {
         before: &[Segment],
         segment: &Segment,
     ) -> Result<(), ItemsRefusal>
-        ensures ok { OnOk result (entered (S.held items.now) before.now (here self.old) (out-Segment segment.now) ≡ Some (here self.new)) }
-        ensures err { IfErr result (DoesStop (entered (S.held items.now) before.now (here self.old) (out-Segment segment.now)) (length before.now)) }
+        ensures ok { OnOk result
+            (entered (S.held items.now) before.now (here self.old) (out-Segment segment.now)
+            ≡ Some (here self.new)) }
+        ensures err { IfErr result
+            (DoesStop
+            (entered (S.held items.now) before.now (here self.old) (out-Segment segment.now))
+            (length before.now)) }
     {
         match segment {
             Segment::Name(name) => {

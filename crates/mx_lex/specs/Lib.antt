@@ -6,3 +6,4 @@ pub mod Lexing
 pub mod Stacks
 pub mod Laws
 pub mod Fronts
+pub mod Gaps

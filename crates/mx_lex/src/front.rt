@@ -40,7 +40,8 @@ fn place_among(source: &[u8], mark: u8, tokens: &[Token]) -> Option<u32>
 #[tactic(auto, unfolding(crate::specs::Fronts::front_of, crate::specs::Lexing::beginning))]
 pub fn front_of(alloc: Global, source: &[u8], mark: u8) -> Result<usize, LexRefusal>
     ensures front { IfOk result (λ front. spec.front_of source.now mark ≡ Ok front) }
-    ensures trouble { IfErr result (λ e. e ≢ LexRefusal.NoMemory → spec.front_of source.now mark ≡ Err e) }
+    ensures trouble { IfErr result
+        (λ e. e ≢ LexRefusal.NoMemory → spec.front_of source.now mark ≡ Err e) }
 {
     if source.len() > MOST_BYTES {
         return Err(LexRefusal::TooLong);

@@ -50,6 +50,7 @@ fn ended(line: Line) -> Line
     }
 }
 
+#[inline(always)]
 fn brackets_behind(b: u8, count: u32) -> u32
     requires { count < 65536 }
     ensures { result ≡ spec.brackets_behind b count }
@@ -98,6 +99,7 @@ fn is_digit_first(rest: &[u8]) -> bool
 }
 
 /// The name, number, text or mark at the front of the rest.
+#[inline(always)]
 #[tactic(auto, unfolding(crate::specs::Spans::span_at))]
 fn span(rest: &[u8], at: u32) -> Result<Span, LexRefusal>
     requires { at + length rest.now ≤ 65536 }
@@ -112,6 +114,7 @@ fn span(rest: &[u8], at: u32) -> Result<Span, LexRefusal>
     }
 }
 
+#[inline(always)]
 #[tactic(auto, unfolding(crate::specs::Heads::head_at))]
 pub fn head(rest: &[u8], at: u32, line: Line) -> Result<Head, LexRefusal>
     requires place { at + length rest.now ≤ 65536 }

@@ -3,6 +3,7 @@
 ghost use Rattle.std.specs.Prelude.{◌≡◌, ◌≢◌, ◌+◌, ◌≤◌, ◌<◌, ◌==◌, ◌++◌, length, reverse, option_to_list, OnOk, IfOk, IfErr, Ok, Err};
 ghost use Rattle.std.specs.List.{prefix_len};
 ghost use Rattle.mx_lex.specs.Lines as lines;
+ghost use Rattle.mx_lex.specs.Gaps.{is_gap};
 ghost use Rattle.mx_lex.specs.Lexing.{dedents_at, closing_at, step_at, tokens_of};
 ghost use Rattle.mx_lex.specs.Stacks.{Stacks, Advances};
 ghost use Rattle.mx_lex.specs.declared.LexRefusal.{LexRefusal};
@@ -16,6 +17,17 @@ use std::alloc::Global;
 
 /// The longest source.
 pub const MOST_BYTES: usize = 65_536;
+
+/// How many tokens get room at once at most.
+const MOST_ROOM: usize = 4096;
+
+/// How many tokens get room at once in a source of so many bytes: most sources give no more.
+fn room(bytes: usize) -> usize
+    ensures some { 0 < result }
+    ensures most { result ≤ 4096 }
+{
+    (bytes / 2 + 8).min(MOST_ROOM)
+}
 
 fn spaces_len(rest: &[u8]) -> usize
     ensures value { result ≡ prefix_len (λ b. b == 32) rest.now }
@@ -45,6 +57,7 @@ fn is_blank(rest: &[u8]) -> bool
 }
 
 /// What the indent of a line gives. The bytes are those behind its leading spaces.
+#[inline(always)]
 fn open_line(
     first: &[u8],
     spaces: u32,
@@ -53,7 +66,8 @@ fn open_line(
     stack: &mut Vec<u32>,
     tokens: &mut Tokens,
 ) -> Result<(), LexRefusal>
-    ensures { Stacks (lines.opened_at at line spaces (reverse stack.old.items) first.now) tokens.old result tokens.new stack.new.items }
+    ensures { Stacks (lines.opened_at at line spaces
+        (reverse stack.old.items) first.now) tokens.old result tokens.new stack.new.items }
 {
     if is_blank(first) {
         return Ok(());
@@ -71,7 +85,20 @@ fn give(token: Option<Token>, tokens: &mut Tokens) -> Result<(), LexRefusal>
     Ok(())
 }
 
+/// Whether a space comes next inside a line, where none counts as an indent.
+#[inline(always)]
+fn is_gap(rest: &[u8], line: Line) -> bool
+    ensures { result ≡ is_gap line rest.now }
+{
+    match rest {
+        [] => false,
+        [b, ..] => matches!(line.phase, Phase::Inside) && *b == b' ',
+    }
+}
+
 /// Reads what stands at a place, and answers the bytes that it takes and how the line goes on.
+/// The spaces inside a line are frequent, so they are answered first.
+#[inline(always)]
 #[tactic(auto, unfolding(crate::specs::Lexing::step_at))]
 pub fn step(
     rest: &[u8],
@@ -84,8 +111,14 @@ pub fn step(
     requires place { at + length rest.now ≤ 65536 }
     requires brackets { line.brackets ≤ at }
     requires number { line.number ≤ at + 1 }
-    ensures { Advances (step_at at (record { line = line; stack = reverse stack.old.items }) rest.now) tokens.old result tokens.new stack.new.items }
+    ensures { Advances
+        (step_at at
+        (record { line = line; stack = reverse stack.old.items }) rest.now) tokens.old result
+        tokens.new stack.new.items }
 {
+    if is_gap(rest, line) {
+        return Ok((1, line));
+    }
     let spaces = lead(rest, line);
     let (_, first) = rest.split_at(spaces);
     let place = at + spaces as u32;
@@ -112,7 +145,9 @@ fn close_levels(stack: &mut Vec<u32>, at: u32, tokens: &mut Tokens) -> Result<()
 /// What the end of the source gives.
 #[tactic(auto, unfolding(crate::specs::Lexing::closing_at))]
 fn close(at: u32, line: Line, stack: &mut Vec<u32>, tokens: &mut Tokens) -> Result<(), LexRefusal>
-    ensures ok { OnOk result (tokens.new ≡ tokens.old ++ closing_at at (record { line = line; stack = reverse stack.old.items })) }
+    ensures ok { OnOk result
+        (tokens.new
+        ≡ tokens.old ++ closing_at at (record { line = line; stack = reverse stack.old.items })) }
     ensures err { IfErr result (λ e. e ≡ LexRefusal.NoMemory) }
 {
     if matches!(line.phase, Phase::Inside) {
@@ -136,7 +171,7 @@ pub fn lex(alloc: Global, source: &[u8]) -> Result<Tokens, LexRefusal>
     if source.len() > MOST_BYTES {
         return Err(LexRefusal::TooLong);
     }
-    let mut tokens = Items::new(alloc);
+    let mut tokens = Items::with_capacity(alloc, room(source.len()))?;
     let mut stack = Vec::new(alloc);
     stack.push(0)?;
     let mut line = Line {

@@ -96,6 +96,7 @@ fn is_fix(digits: &[u8], decimals: &[u8], behind: &[u8]) -> bool
 }
 
 /// The number at the front of the rest, which begins with a digit.
+#[inline(always)]
 #[tactic(auto, unfolding(crate::specs::Spans::number_at))]
 pub fn number(rest: &[u8], at: u32) -> Result<Span, LexRefusal>
     ensures { result ≡ spec.number_at at rest.now }

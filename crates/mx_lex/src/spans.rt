@@ -37,6 +37,7 @@ fn name_len(rest: &[u8]) -> usize
     rest.iter().take_while(|b| continues_name(**b)).count()
 }
 
+#[inline(always)]
 #[tactic(auto, unfolding(crate::specs::Spans::name_at))]
 pub fn name(rest: &[u8]) -> Span
     ensures { spec.name_at rest.now ≡ spec.found result.kind result.len }
@@ -51,6 +52,7 @@ pub fn name(rest: &[u8]) -> Span
     Span { kind, len }
 }
 
+#[inline(always)]
 #[tactic(auto, unfolding(crate::specs::Spans::mark_at))]
 pub fn mark(rest: &[u8], at: u32) -> Result<Span, LexRefusal>
     ensures { result ≡ spec.mark_at at rest.now }

@@ -27,7 +27,8 @@ fn dedent(
     at: u32,
     line: u32,
 ) -> Result<(), LexRefusal>
-    ensures { Stacks (spec.dedented at line indent (reverse stack.old.items)) tokens.old result tokens.new stack.new.items }
+    ensures { Stacks (spec.dedented at line indent
+        (reverse stack.old.items)) tokens.old result tokens.new stack.new.items }
 {
     while let Some(top) = top(stack.as_slice()) {
         if top == indent {
@@ -43,6 +44,7 @@ fn dedent(
 }
 
 /// What the indent of a line gives that is not blank.
+#[inline(always)]
 pub fn indent(
     stack: &mut Vec<u32>,
     tokens: &mut Tokens,
@@ -50,7 +52,8 @@ pub fn indent(
     at: u32,
     line: Line,
 ) -> Result<(), LexRefusal>
-    ensures { Stacks (spec.line_indented line.phase at line.number indent (reverse stack.old.items)) tokens.old result tokens.new stack.new.items }
+    ensures { Stacks (spec.line_indented line.phase at line.number indent
+        (reverse stack.old.items)) tokens.old result tokens.new stack.new.items }
 {
     match line.phase {
         Phase::Inside => Ok(()),

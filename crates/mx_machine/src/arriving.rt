@@ -45,8 +45,17 @@ pub fn go_on_there<L: Ledger>(
     steps: &mut Steps<L>,
 ) -> Result<Value, EvalRefusal>
     requires sound { IsSound memo.old [] [] }
-    requires walking { IsSomeWalking (model_of request.now.world.now) request.now.node.now memo.old request.now.limit steps.old (led.Came arrived.space) arrived.records }
-    ensures over { (start : Memory) (before : ℕ) → IsKept (model_of request.now.world.now) start → HasGrown start memo.old → IsWalking (model_of request.now.world.now) request.now.node.now start memo.old request.now.limit before steps.old (led.Came arrived.space) arrived.records → IsOverFor (model_of request.now.world.now) request.now.node.now start memo.new request.now.limit (steps.new - before) result }
+    requires walking { IsSomeWalking
+        (model_of request.now.world.now) request.now.node.now memo.old request.now.limit steps.old
+        (led.Came arrived.space) arrived.records }
+    ensures over { (start : Memory) (before : ℕ) → IsKept (model_of request.now.world.now) start →
+        HasGrown start memo.old →
+        IsWalking
+        (model_of request.now.world.now) request.now.node.now start memo.old request.now.limit
+        before steps.old (led.Came arrived.space) arrived.records →
+        IsOverFor
+        (model_of request.now.world.now) request.now.node.now start memo.new request.now.limit
+        (steps.new - before) result }
     ensures ordered { IsOrdered memo.new }
     ensures ticks { steps.old ≤ steps.new }
 {
@@ -77,7 +86,8 @@ fn enter(
     requires new { IsNew memo.old.held node }
     requires idle { memo.old.begun ≡ [] }
     requires stack { runs.old.stack ≡ no_run }
-    ensures enters { IfOk result (EntersAs (model_of world.now) memo.old memo.new node arrived runs.new.stack) }
+    ensures enters { IfOk result
+        (EntersAs (model_of world.now) memo.old memo.new node arrived runs.new.stack) }
     ensures held { memo.new.held ≡ memo.old.held }
     ensures last { memo.new.last ≡ memo.old.last }
     ensures frames { runs.new.frames.items ≡ runs.old.frames.items }

@@ -56,9 +56,12 @@ pub fn evaluate_behind<L: Ledger>(
 ) -> Result<Value, EvalRefusal>
     requires kept { IsKept (model_of request.now.world.now) memo.old }
     requires limit { IsLimit request.now.limit }
-    requires behind { IsBehind (model_of request.now.world.now) memo.old.held request.now.node.now behind }
+    requires behind { IsBehind
+        (model_of request.now.world.now) memo.old.held request.now.node.now behind }
     ensures kept { IsKept (model_of request.now.world.now) memo.new }
-    ensures evaluates { Evaluates (state_of request.now.world.now memo.old request.now.limit) request.now.node.now result (steps.new - steps.old) (state_of request.now.world.now memo.new request.now.limit) }
+    ensures evaluates { Evaluates
+        (state_of request.now.world.now memo.old request.now.limit) request.now.node.now result
+        (steps.new - steps.old) (state_of request.now.world.now memo.new request.now.limit) }
     ensures ticks { steps.old ≤ steps.new }
 {
     let since = memo.last_stamp();
@@ -78,8 +81,11 @@ fn run_behind<L: Ledger>(
 ) -> Result<Value, EvalRefusal>
     requires kept { IsKept (model_of request.now.world.now) memo.old }
     requires limit { IsLimit request.now.limit }
-    requires behind { IsBehind (model_of request.now.world.now) memo.old.held request.now.node.now behind }
-    ensures over { IsOverFor (model_of request.now.world.now) request.now.node.now memo.old memo.new request.now.limit (steps.new - steps.old) result }
+    requires behind { IsBehind
+        (model_of request.now.world.now) memo.old.held request.now.node.now behind }
+    ensures over { IsOverFor
+        (model_of request.now.world.now) request.now.node.now memo.old memo.new request.now.limit
+        (steps.new - steps.old) result }
     ensures ordered { IsOrdered memo.new }
     ensures ticks { steps.old ≤ steps.new }
 {
@@ -124,8 +130,16 @@ fn pass_item<L: Ledger>(
     steps: &mut Steps<L>,
 ) -> Result<Walk, EvalRefusal>
     requires sound { IsSound memo.old [] [] }
-    requires walking { IsSomeWalking (model_of request.now.world.now) request.now.node.now memo.old request.now.limit steps.old (led.Waits behind.item behind.rest) behind.records }
-    ensures goes { (start : Memory) (before : ℕ) → IsWalking (model_of request.now.world.now) request.now.node.now start memo.old request.now.limit before steps.old (led.Waits behind.item behind.rest) behind.records → HasPassedItem (model_of request.now.world.now) request.now.node.now start memo.new request.now.limit before steps.new result }
+    requires walking { IsSomeWalking
+        (model_of request.now.world.now) request.now.node.now memo.old request.now.limit steps.old
+        (led.Waits behind.item behind.rest) behind.records }
+    ensures goes { (start : Memory) (before : ℕ) →
+        IsWalking
+        (model_of request.now.world.now) request.now.node.now start memo.old request.now.limit
+        before steps.old (led.Waits behind.item behind.rest) behind.records →
+        HasPassedItem
+        (model_of request.now.world.now) request.now.node.now start memo.new request.now.limit
+        before steps.new result }
     ensures sound { IfOk result (λ w. IsSound memo.new [] []) }
     ensures ordered { IsOrdered memo.new }
     ensures grown { (start : Memory) → HasGrown start memo.old → HasGrown start memo.new }

@@ -15,7 +15,9 @@ use mx_value::value::Value;
 /// no run is in flight any more, and where the answer keeps nothing, what was computed is dropped.
 pub fn close(memo: &mut Memo, since: usize, answer: &Result<Value, EvalRefusal>)
     requires { IsOrdered memo.old }
-    ensures { (model : Models) (start : Memory) (ev : Evaluation) (ticks : ℕ) → since ≡ start.last → IsOver model start memo.old ev ticks answer.now → HasClosed model ev memo.new ticks answer.now }
+    ensures { (model : Models) (start : Memory) (ev : Evaluation) (ticks : ℕ) →
+        since ≡ start.last → IsOver model start memo.old ev ticks answer.now →
+        HasClosed model ev memo.new ticks answer.now }
 {
     end_runs(memo);
     if keeps(answer) {

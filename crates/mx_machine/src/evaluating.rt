@@ -29,7 +29,8 @@ pub fn evaluate<L: Ledger>(
 ) -> Result<Value, EvalRefusal>
     requires kept { IsKept (model_of setting.now.world.now) memo.old }
     requires alone { IsAlone setting.now.limit setting.now.below }
-    ensures closed { HasClosed (model_of setting.now.world.now) (evaluation_of node memo.old setting.now.limit) memo.new (steps.new - steps.old) result }
+    ensures closed { HasClosed (model_of setting.now.world.now)
+        (evaluation_of node memo.old setting.now.limit) memo.new (steps.new - steps.old) result }
     ensures ticks { steps.old ≤ steps.new }
 {
     let node = SharedNode::new(alloc, node)?;
@@ -52,7 +53,8 @@ fn evaluate_new<L: Ledger>(
     requires kept { IsKept (model_of setting.now.world.now) memo.old }
     requires alone { IsAlone setting.now.limit setting.now.below }
     requires unknown { IsUnknown (model_of setting.now.world.now) memo.old node }
-    ensures closed { HasClosed (model_of setting.now.world.now) (evaluation_of node memo.old setting.now.limit) memo.new (steps.new - steps.old) result }
+    ensures closed { HasClosed (model_of setting.now.world.now)
+        (evaluation_of node memo.old setting.now.limit) memo.new (steps.new - steps.old) result }
     ensures ticks { steps.old ≤ steps.new }
 {
     let since = memo.last_stamp();
@@ -72,7 +74,8 @@ fn run_new<L: Ledger>(
     requires kept { IsKept (model_of setting.now.world.now) memo.old }
     requires alone { IsAlone setting.now.limit setting.now.below }
     requires unknown { IsUnknown (model_of setting.now.world.now) memo.old node }
-    ensures over { IsOver (model_of setting.now.world.now) memo.old memo.new (evaluation_of node memo.old setting.now.limit) (steps.new - steps.old) result }
+    ensures over { IsOver (model_of setting.now.world.now) memo.old memo.new
+        (evaluation_of node memo.old setting.now.limit) (steps.new - steps.old) result }
     ensures ordered { IsOrdered memo.new }
     ensures ticks { steps.old ≤ steps.new }
 {

@@ -39,7 +39,9 @@ pub fn run<L: Ledger>(
     requires kept { IsKept (model_of request.now.world.now) memo.old }
     requires limit { IsLimit request.now.limit }
     ensures kept { IsKept (model_of request.now.world.now) memo.new }
-    ensures evaluates { Evaluates (state_of request.now.world.now memo.old request.now.limit) request.now.node.now result (steps.new - steps.old) (state_of request.now.world.now memo.new request.now.limit) }
+    ensures evaluates { Evaluates
+        (state_of request.now.world.now memo.old request.now.limit) request.now.node.now result
+        (steps.new - steps.old) (state_of request.now.world.now memo.new request.now.limit) }
     ensures ticks { steps.old ≤ steps.new }
 {
     match seek(alloc, request.world, memo, request.node)? {

@@ -10,10 +10,10 @@ mod refusal;
 
 pub use laws::laws as memo_laws;
 pub use memo::Memo;
+pub use mx_drops::test_of_key::KeyTest;
+pub use mx_drops::test_of_node::{Every, NodeTest};
 pub use mx_vertices::along::Readers;
 pub use mx_vertices::slot::Body;
 pub use mx_vertices::standing::Standing;
-pub use mx_vertices::test_of_key::KeyTest;
-pub use mx_vertices::test_of_node::{Every, NodeTest};
 pub use mx_vertices::walks::{AllKeys, Asks, HeldKeys};
 pub use refusal::HoldRefusal;

@@ -6,28 +6,28 @@ ghost use Rattle.mx_vertices.specs.Kept.{looked, asked, IsHeld, IsTouched, HasCh
 ghost use Rattle.mx_vertices.specs.Held.{entry_with};
 ghost use Rattle.mx_vertices.specs.Reading.{LookedUp, Asked, AreTakers};
 ghost use Rattle.mx_vertices.specs.Walks.{AreKeysOf, AreHeldKeys};
-ghost use Rattle.mx_vertices.specs.Stamps.{NoneAfter, IsNextAfter, IsHeldSince, renumbered};
+ghost use Rattle.mx_drops.specs.Stamps.{NoneAfter, IsNextAfter, IsHeldSince, renumbered};
 ghost use Rattle.mx_vertices.specs.Found.{HasCome, IsHeldAs, IsHeldWith, IsNew};
 ghost use Rattle.mx_memo.specs.Namespaces.{namespace_held};
 ghost use Rattle.mx_memo.specs.Memos.{AreHeld, HoldsLast, IsLast, nothing_held, most_held};
 ghost use Rattle.mx_memo.specs.Order.{IsInOrder};
 
 use crate::refusal::HoldRefusal;
+use mx_drops::drops::{drop_after, drop_changed, drop_one, drop_where};
+use mx_drops::settle::settle;
+use mx_drops::stamps::{first_from, place_at};
+use mx_drops::test_of_key::KeyTest;
+use mx_drops::test_of_node::NodeTest;
 use mx_edit::key::Key;
 use mx_graph::{NoMemory, NodeId, ReadGraph};
 use mx_value::namespace::Namespace;
 use mx_value::node::SharedNode;
 use mx_vertices::along::Readers;
-use mx_vertices::drops::{drop_after, drop_changed, drop_one, drop_where};
 use mx_vertices::finding::{Table, begin_in, end_as, end_in, holds_node, node_laws};
 use mx_vertices::holding::{hold_with, vertices_of};
 use mx_vertices::inputs::find_held;
-use mx_vertices::settle::settle;
 use mx_vertices::slot::{Body, Slot};
-use mx_vertices::stamps::{first_from, place_at};
 use mx_vertices::standing::Standing;
-use mx_vertices::test_of_key::KeyTest;
-use mx_vertices::test_of_node::NodeTest;
 use mx_vertices::vertices::{body_at, namespace_at};
 use mx_vertices::walks::{AllKeys, Asks, HeldKeys, keys_at};
 use std::alloc::Global;
@@ -114,8 +114,10 @@ impl Memo {
 
     /// How far a node has come, in one look: its run has begun, or it is held. None for a new one.
     pub fn standing(&self, node: &SharedNode) -> Option<Standing>
-        ensures some { IfSome result (λ standing. HasCome self.now.held self.now.begun node.now standing) }
-        ensures none { IfNone result (IsNew self.now.held node.now × (Has self.now.begun node.now → ⊥)) }
+        ensures some { IfSome result
+            (λ standing. HasCome self.now.held self.now.begun node.now standing) }
+        ensures none { IfNone result
+            (IsNew self.now.held node.now × (Has self.now.begun node.now → ⊥)) }
     {
         let Some(standing) = self.table.nodes.get(node) else {
             return None;
@@ -150,7 +152,8 @@ impl Memo {
     pub fn begin(&mut self, node: &SharedNode) -> Result<(), NoMemory>
         requires new { IsNew self.old.held node.now }
         requires once { Has self.old.begun node.now → ⊥ }
-        ensures begun { OnOk result (self.new ≡ record self.old { begun = self.old.begun ++ node.now ∷ [] }) }
+        ensures begun { OnOk result
+            (self.new ≡ record self.old { begun = self.old.begun ++ node.now ∷ [] }) }
         ensures lost { OnErr result (self.new ≡ self.old) }
     {
         node_laws();
@@ -170,14 +173,16 @@ impl Memo {
 
     /// What a held node is and gives, and what its run read. None exactly where no node of this id is held.
     pub fn body(&self, id: NodeId) -> Option<&Body>
-        ensures { MatchOption result (IsHeld self.now.held id.at → ⊥) (λ body. IsHeldWith self.now.held id.at body.now) }
+        ensures { MatchOption result (IsHeld self.now.held id.at → ⊥)
+            (λ body. IsHeldWith self.now.held id.at body.now) }
     {
         body_at(&self.slots, id)
     }
 
     /// The namespace of the space of an item node, where it is held. Takes no memory.
     pub fn namespace_of(&self, node: &SharedNode) -> Option<&Namespace>
-        ensures { MatchOption result (namespace_held self.now.held node.now ≡ None) (λ n. namespace_held self.now.held node.now ≡ Some n.now) }
+        ensures { MatchOption result (namespace_held self.now.held node.now ≡ None)
+            (λ n. namespace_held self.now.held node.now ≡ Some n.now) }
     {
         node_laws();
         let Some(id) = find_held(&self.slots, &self.table.nodes, node) else {
@@ -188,7 +193,8 @@ impl Memo {
 
     /// The stamp of a held node: its place in the order of holding, from 1. None exactly where no node of this id is held.
     pub fn stamp(&self, id: NodeId) -> Option<usize>
-        ensures { MatchOption result (IsHeld self.now.held id.at → ⊥) (λ stamp. IsHeldSince self.now.held id.at stamp) }
+        ensures { MatchOption result (IsHeld self.now.held id.at → ⊥)
+            (λ stamp. IsHeldSince self.now.held id.at stamp) }
     {
         let Some(place) = place_at(&self.slots, id) else {
             return None;
@@ -275,7 +281,8 @@ impl Memo {
 
     /// The held node of the least stamp above this one. None exactly where there is none.
     pub fn after(&self, stamp: usize) -> Option<NodeId>
-        ensures { MatchOption result (NoneAfter self.now.held stamp) (λ id. IsNextAfter self.now.held stamp id.at) }
+        ensures { MatchOption result (NoneAfter self.now.held stamp)
+            (λ id. IsNextAfter self.now.held stamp id.at) }
     {
         first_from(&self.order, stamp)
     }
@@ -297,7 +304,9 @@ impl Memo {
         requires new { IsNew self.old.held body.node }
         requires last { IsLast self.old.begun body.node }
         requires asks { AreHeld self.old.held asks.now }
-        ensures held { IfOk result (λ id. HoldsLast (record self.old { begun = self.new.begun }) self.new (entry_with (self.old.last + 1) id.at body keys.now asks.now)) }
+        ensures held { IfOk result
+            (λ id. HoldsLast (record self.old { begun = self.new.begun }) self.new
+            (entry_with (self.old.last + 1) id.at body keys.now asks.now)) }
         ensures ended { OnOk result (self.old.begun ≡ self.new.begun ++ body.node ∷ []) }
         ensures full { (result ≡ Err Full) ↔ (most_held ≤ length self.old.held) }
         ensures lost { OnErr result (self.new ≡ self.old) }
@@ -339,7 +348,8 @@ impl Memo {
 
     /// Drops the nodes that were held after a stamp, and all that reach them.
     pub fn roll_back_to(&mut self, stamp: usize)
-        ensures drops { Sifts (IsTouched (λ r. stamp < r.stamp) self.old.held) self.old.held self.new.held }
+        ensures drops { Sifts (IsTouched
+            (λ r. stamp < r.stamp) self.old.held) self.old.held self.new.held }
         ensures last { self.new.last ≡ self.old.last }
         ensures begun { self.new.begun ≡ self.old.begun }
     {
@@ -357,7 +367,8 @@ impl Memo {
     /// Keeps exactly the nodes that neither looked a changed key up, the key of their own input among them, nor reach one
     /// that did, and tells how many are dropped.
     pub fn keep_unchanged<T: KeyTest>(&mut self, test: &T) -> u32
-        ensures drops { Sifts (IsTouched (HasChanged (T.changed test.now)) self.old.held) self.old.held self.new.held }
+        ensures drops { Sifts (IsTouched
+            (HasChanged (T.changed test.now)) self.old.held) self.old.held self.new.held }
         ensures count { result + length self.new.held ≡ length self.old.held }
         ensures last { self.new.last ≡ self.old.last }
         ensures begun { self.new.begun ≡ self.old.begun }
@@ -378,7 +389,8 @@ impl Memo {
     /// Drops a held node, with all that reach it, and tells how many are dropped. It costs what is dropped.
     pub fn drop_node(&mut self, from: NodeId) -> u32
         requires { IsHeld self.old.held from.at }
-        ensures drops { Sifts (IsTouched (λ r. r.id ≡ from.at) self.old.held) self.old.held self.new.held }
+        ensures drops { Sifts (IsTouched
+            (λ r. r.id ≡ from.at) self.old.held) self.old.held self.new.held }
         ensures count { result + length self.new.held ≡ length self.old.held }
         ensures last { self.new.last ≡ self.old.last }
         ensures begun { self.new.begun ≡ self.old.begun }
@@ -398,7 +410,8 @@ impl Memo {
 
     /// Drops the held nodes that are to go, with all that reach one of them, and tells how many are dropped.
     pub fn drop_where<T: NodeTest>(&mut self, test: &T) -> u32
-        ensures drops { Sifts (IsTouched (IsToGo (T.goes test.now)) self.old.held) self.old.held self.new.held }
+        ensures drops { Sifts (IsTouched
+            (IsToGo (T.goes test.now)) self.old.held) self.old.held self.new.held }
         ensures count { result + length self.new.held ≡ length self.old.held }
         ensures last { self.new.last ≡ self.old.last }
         ensures begun { self.new.begun ≡ self.old.begun }

@@ -41,7 +41,8 @@ pub fn key_result(alloc: Global, text: &ModelText, key: &Key) -> Result<KeyResul
 
 /// The reference of the model of a name.
 fn global_of(alloc: Global, text: &ModelText, name: &Label) -> Result<KeyResult, AllocError>
-    ensures { IfOk result (λ found. found ≡ global_of (held (same_name name.now) text.now.globals)) }
+    ensures { IfOk result
+        (λ found. found ≡ global_of (held (same_name name.now) text.now.globals)) }
 {
     match text.global(name) {
         Some(value) => Ok(KeyResult::Ref {

@@ -118,7 +118,8 @@ fn children_of(
     name: &Label,
 ) -> Result<Order, AllocError>
     requires { AllBelow (length text.now.spaces) spaces.now }
-    ensures { IfOk result (λ children. children ≡ filter_map (child_of text.now name.now) spaces.now) }
+    ensures { IfOk result
+        (λ children. children ≡ filter_map (child_of text.now name.now) spaces.now) }
 {
     let mut children = Vec::new(alloc);
     for s in spaces.as_slice() {
@@ -172,7 +173,8 @@ fn of_children(alloc: Global, text: &ModelText, children: &Order) -> Result<Laye
 fn merge_orders(alloc: Global, text: &ModelText, spaces: &Order) -> Result<Order, C3Refusal>
     requires sound { IsSound text.now }
     requires spaces { AreSpaces text.now spaces.now }
-    ensures { Answers result (merge_orders spaces.now (each (c3 (base_lists text.now)) spaces.now)) }
+    ensures { Answers result
+        (merge_orders spaces.now (each (c3 (base_lists text.now)) spaces.now)) }
 {
     let mut lists = match orders_of(alloc, text, spaces) {
         Ok(orders) => orders,

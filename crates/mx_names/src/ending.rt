@@ -39,7 +39,8 @@ pub enum Ending {
 
 /// How a run ends with what its formula returns.
 pub fn end_with(alloc: Global, home: &Home, returned: Returned) -> Result<Ending, AllocError>
-    ensures { IfOk result (λ e. ending_of home.now.node e ≡ outcome_of (home_of home.now) (returned_of returned)) }
+    ensures { IfOk result
+        (λ e. ending_of home.now.node e ≡ outcome_of (home_of home.now) (returned_of returned)) }
 {
     match &home.work {
         Work::Cells { allow_none } => return Ok(end_cells(alloc, *allow_none, returned)?),
@@ -56,7 +57,8 @@ pub fn end_with(alloc: Global, home: &Home, returned: Returned) -> Result<Ending
 
 /// How a run of cells ends.
 fn end_cells(alloc: Global, allow_none: bool, returned: Returned) -> Result<Ending, AllocError>
-    ensures { IfOk result (λ e. (n : Node) → ending_of n e ≡ cells_outcome allow_none n (returned_of returned)) }
+    ensures { IfOk result
+        (λ e. (n : Node) → ending_of n e ≡ cells_outcome allow_none n (returned_of returned)) }
 {
     match returned {
         Returned::Plain(value) => return Ok(end_value(alloc, allow_none, value)?),
@@ -66,7 +68,8 @@ fn end_cells(alloc: Global, allow_none: bool, returned: Returned) -> Result<Endi
 
 /// How a run of cells ends with a value.
 fn end_value(alloc: Global, allow_none: bool, value: Value) -> Result<Ending, AllocError>
-    ensures { IfOk result (λ e. (n : Node) → ending_of n e ≡ cells_outcome allow_none n (formula.Plain value)) }
+    ensures { IfOk result
+        (λ e. (n : Node) → ending_of n e ≡ cells_outcome allow_none n (formula.Plain value)) }
 {
     match value {
         Value::Nothing => {
@@ -100,7 +103,11 @@ struct Item<'a> {
 
 /// How a run that makes an item ends.
 fn end_item(alloc: Global, item: Item<'_>, returned: Returned) -> Result<Ending, AllocError>
-    ensures { IfOk result (λ e. (n : Node) → ending_of n e ≡ made_outcome n item.entry.space.now item.entry.arguments.now item.entry.given.now (returned_of returned)) }
+    ensures { IfOk result
+        (λ e. (n : Node) →
+        ending_of n e
+        ≡ made_outcome n item.entry.space.now item.entry.arguments.now item.entry.given.now
+        (returned_of returned)) }
 {
     match returned {
         Returned::Plain(value) => return Ok(end_plain(alloc, item, &value)?),
@@ -112,7 +119,11 @@ fn end_item(alloc: Global, item: Item<'_>, returned: Returned) -> Result<Ending,
 
 /// How a run that makes an item ends with a value. None alone makes one.
 fn end_plain(alloc: Global, item: Item<'_>, value: &Value) -> Result<Ending, AllocError>
-    ensures { IfOk result (λ e. (n : Node) → ending_of n e ≡ made_outcome n item.entry.space.now item.entry.arguments.now item.entry.given.now (formula.Plain value.now)) }
+    ensures { IfOk result
+        (λ e. (n : Node) →
+        ending_of n e
+        ≡ made_outcome n item.entry.space.now item.entry.arguments.now item.entry.given.now
+        (formula.Plain value.now)) }
 {
     let Value::Nothing = value else {
         return Ok(Ending::Faults(FaultKind::BadItem, 1));
@@ -129,7 +140,11 @@ fn end_display(
     references: &Items<(Label, Value)>,
     base: Option<Box<Value>>,
 ) -> Result<Ending, AllocError>
-    ensures { IfOk result (λ e. (n : Node) → ending_of n e ≡ made_outcome n item.entry.space.now item.entry.arguments.now item.entry.given.now (formula.Display references.now (based_on base))) }
+    ensures { IfOk result
+        (λ e. (n : Node) →
+        ending_of n e
+        ≡ made_outcome n item.entry.space.now item.entry.arguments.now item.entry.given.now
+        (formula.Display references.now (based_on base))) }
 {
     let Some(source) = source_of(alloc, item.space, base)? else {
         return Ok(Ending::Faults(FaultKind::BadItem, 1));
@@ -145,7 +160,9 @@ fn source_of(
     space: &Namespace,
     base: Option<Box<Value>>,
 ) -> Result<Option<Path>, AllocError>
-    ensures { IfOk result (λ s. (n : Node) (to : Many Bytes → Outcome) → sourced_outcome s n to ≡ based_outcome (based_on base) space.now n to) }
+    ensures { IfOk result
+        (λ s. (n : Node) (to : Many Bytes → Outcome) →
+        sourced_outcome s n to ≡ based_outcome (based_on base) space.now n to) }
 {
     match base {
         None => return Ok(Some(space.source.copy()?)),
@@ -170,7 +187,9 @@ fn give_item(
     overlay: Overlay,
     source: Path,
 ) -> Result<Ending, AllocError>
-    ensures { IfOk result (λ e. (n : Node) → ending_of n e ≡ item_outcome item.entry.space.now item.entry.arguments.now overlay source) }
+    ensures { IfOk result
+        (λ e. (n : Node) →
+        ending_of n e ≡ item_outcome item.entry.space.now item.entry.arguments.now overlay source) }
 {
     let at = add_item(alloc, item.space.at.as_slice(), item.arguments)?;
     let value = Value::Space(at.copy()?);

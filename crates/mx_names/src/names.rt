@@ -57,7 +57,10 @@ fn seek_bound_reference(
     name: &Label,
     seen: &mut Seen,
 ) -> Result<Value, OpRefusal>
-    ensures { (h : Home) (line : ℕ) (to : Values → Next) (other : Next) → Goes (key_result world.now) result h line to (bound_name_next h space.now name.now line to other (told_name (Bound.Ref reference.entry))) seen.old seen.new }
+    ensures { (h : Home) (line : ℕ) (to : Values → Next) (other : Next) →
+        Goes (key_result world.now) result h line to
+        (bound_name_next h space.now name.now line to other
+        (told_name (Bound.Ref reference.entry))) seen.old seen.new }
 {
     seen.note(Read::Ref(space.at.copy()?, name.copy()?))?;
     let written = Written {
@@ -78,7 +81,8 @@ fn cells_here(space: &Namespace, name: &Label) -> Result<Value, AllocError>
 
 /// The space of a name in a namespace.
 fn child_here(alloc: Global, space: &Namespace, name: &Label) -> Result<Value, OpRefusal>
-    ensures { (h : Home) (line : ℕ) (to : Values → Next) → Continues result h line to (space_next h (spec.child name.now space.now).at line to) }
+    ensures { (h : Home) (line : ℕ) (to : Values → Next) →
+        Continues result h line to (space_next h (spec.child name.now space.now).at line to) }
 {
     space_at(add_name(alloc, space.at.as_slice(), name)?)
 }
@@ -115,7 +119,9 @@ fn seek_in(
     name: &Label,
     seen: &mut Seen,
 ) -> Result<Option<Value>, OpRefusal>
-    ensures { (h : Home) (line : ℕ) (to : Values → Next) (other : Next) → Goes (key_result world.now) result h line (found_or to other) (sought_in_next h space.now name.now line to other) seen.old seen.new }
+    ensures { (h : Home) (line : ℕ) (to : Values → Next) (other : Next) →
+        Goes (key_result world.now) result h line (found_or to other)
+        (sought_in_next h space.now name.now line to other) seen.old seen.new }
 {
     if let Some(value) = value_in(space.overlay.as_slice(), name) {
         return Ok(Some(value.copy(alloc)?));
@@ -133,7 +139,9 @@ fn seek_in(
 
 /// A function that a formula can always call. NoName comes exactly where the name is that of none.
 fn seek_builtin(name: &Label) -> Result<Callee, OpRefusal>
-    ensures { (h : Home) (line : ℕ) (to : Meant → Next) → Continues result h line (λ c. to (callee_of c)) (builtin_next h (builtin_of name.now) line to) }
+    ensures { (h : Home) (line : ℕ) (to : Meant → Next) →
+        Continues result h line (λ c. to (callee_of c))
+        (builtin_next h (builtin_of name.now) line to) }
 {
     match builtin_of(name.as_slice()) {
         Some(function) => return Ok(Callee::Function(function)),
@@ -149,7 +157,9 @@ fn seek_global(
     name: &Label,
     seen: &mut Seen,
 ) -> Result<Callee, OpRefusal>
-    ensures { (h : Home) (line : ℕ) (to : Meant → Next) → h.space ≡ space.now → Goes (key_result world.now) result h line (λ c. to (callee_of c)) (Look (key.Global name.now) (global_next h name.now line to)) seen.old seen.new }
+    ensures { (h : Home) (line : ℕ) (to : Meant → Next) → h.space ≡ space.now →
+        Goes (key_result world.now) result h line (λ c. to (callee_of c))
+        (Look (key.Global name.now) (global_next h name.now line to)) seen.old seen.new }
 {
     seen.look(Key::Global(name.copy()?))?;
     let Some(value) = world.global(name) else {
@@ -169,7 +179,9 @@ pub fn seek_name(
     name: &Label,
     seen: &mut Seen,
 ) -> Result<Callee, OpRefusal>
-    ensures { (h : Home) (line : ℕ) (to : Meant → Next) → h.space ≡ space.now → Goes (key_result world.now) result h line (λ c. to (callee_of c)) (name_next h name.now line to) seen.old seen.new }
+    ensures { (h : Home) (line : ℕ) (to : Meant → Next) → h.space ≡ space.now →
+        Goes (key_result world.now) result h line (λ c. to (callee_of c))
+        (name_next h name.now line to) seen.old seen.new }
 {
     match seek_in(alloc, world, space, name, seen) {
         Ok(Some(value)) => return Ok(Callee::Called(value)),
@@ -187,7 +199,9 @@ pub fn seek_through(
     name: &Label,
     seen: &mut Seen,
 ) -> Result<Value, OpRefusal>
-    ensures { (h : Home) (line : ℕ) (to : Values → Next) → Goes (key_result world.now) result h line to (sought_in_next h space.now name.now line to (Fault h NoName line)) seen.old seen.new }
+    ensures { (h : Home) (line : ℕ) (to : Values → Next) →
+        Goes (key_result world.now) result h line to
+        (sought_in_next h space.now name.now line to (Fault h NoName line)) seen.old seen.new }
 {
     match seek_in(alloc, world, space, name, seen) {
         Ok(Some(value)) => return Ok(value),

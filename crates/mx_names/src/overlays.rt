@@ -63,8 +63,11 @@ fn overlay(all: &mut Vec<(Label, Value)>, name: Label, value: Value) -> Result<(
 /// The place of a name in an overlay.
 fn place_of(overlay: &[(Label, Value)], name: &Label) -> Option<usize>
     ensures within { IfSome result (λ at. at < length overlay.now) }
-    ensures found { IfSome result (λ at. (v : Values) → spec.overlaid overlay.now name.now v ≡ slice_set overlay.now at (name.now, v)) }
-    ensures new { IfNone result ((v : Values) → spec.overlaid overlay.now name.now v ≡ overlay.now ++ (name.now, v) ∷ []) }
+    ensures found { IfSome result
+        (λ at. (v : Values) →
+        spec.overlaid overlay.now name.now v ≡ slice_set overlay.now at (name.now, v)) }
+    ensures new { IfNone result
+        ((v : Values) → spec.overlaid overlay.now name.now v ≡ overlay.now ++ (name.now, v) ∷ []) }
 {
     equality_laws();
     for (at, (other, _)) in overlay.iter().enumerate() {

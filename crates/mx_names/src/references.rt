@@ -32,7 +32,10 @@ pub fn seek_reference(
     space: &Namespace,
     seen: &mut Seen,
 ) -> Result<Value, OpRefusal>
-    ensures { (h : Home) (line : ℕ) (to : Values → Next) → Goes (key_result world.now) result h line to (reference_next h written.entry.value.now written.entry.owner.now space.now line to) seen.old seen.new }
+    ensures { (h : Home) (line : ℕ) (to : Values → Next) →
+        Goes (key_result world.now) result h line to
+        (reference_next h written.entry.value.now written.entry.owner.now space.now line to)
+        seen.old seen.new }
 {
     match written.value {
         RefValue::Plain(value) => return Ok(value.get().copy(alloc)?),

@@ -40,7 +40,8 @@ pub fn target_of(
     path: &Path,
     relative: Option<&[Label]>,
 ) -> Result<Target, AllocError>
-    ensures { IfOk result (λ t. target_meant t ≡ spec.target_of space.now path.now (option_copied relative.entry)) }
+    ensures { IfOk result
+        (λ t. target_meant t ≡ spec.target_of space.now path.now (option_copied relative.entry)) }
 {
     let Some(names) = relative else {
         let at = add_names(alloc, &[], path.as_slice())?;
@@ -54,7 +55,8 @@ pub fn target_of(
 
 /// The space at an address. TooLarge comes exactly where this has more than 64 segments.
 pub fn space_at(at: Addr) -> Result<Value, OpRefusal>
-    ensures { (h : Home) (line : ℕ) (to : Values → Next) → Continues result h line to (space_next h at line to) }
+    ensures { (h : Home) (line : ℕ) (to : Values → Next) →
+        Continues result h line to (space_next h at line to) }
 {
     if at.len() <= MOST_SEGMENTS {
         return Ok(Value::Space(at));
@@ -65,7 +67,8 @@ pub fn space_at(at: Addr) -> Result<Value, OpRefusal>
 /// The cells of a name in the space at an address. TooLarge comes exactly where this has more than
 /// 64 segments.
 pub fn cells_at(space: Addr, name: Label) -> Result<Value, OpRefusal>
-    ensures { (h : Home) (line : ℕ) (to : Values → Next) → Continues result h line to (cells_next h space name line to) }
+    ensures { (h : Home) (line : ℕ) (to : Values → Next) →
+        Continues result h line to (cells_next h space name line to) }
 {
     if space.len() <= MOST_SEGMENTS {
         return Ok(Value::Cells(CellsAt { space, name }));
@@ -80,7 +83,10 @@ fn seek_member(
     target: &Target,
     seen: &mut Seen,
 ) -> Result<Value, OpRefusal>
-    ensures { (h : Home) (line : ℕ) (to : Values → Next) → Goes (key_result world.now) result h line to (member_next h (target_meant target.now) (spec.member_of target.now.path) line to) seen.old seen.new }
+    ensures { (h : Home) (line : ℕ) (to : Values → Next) →
+        Goes (key_result world.now) result h line to
+        (member_next h (target_meant target.now)
+        (spec.member_of target.now.path) line to) seen.old seen.new }
 {
     let Some(name) = member_of(&target.path) else {
         return Err(OpRefusal::Fault(FaultKind::NoName));
@@ -104,7 +110,9 @@ pub fn seek_target(
     target: Target,
     seen: &mut Seen,
 ) -> Result<Value, OpRefusal>
-    ensures { (h : Home) (line : ℕ) (to : Values → Next) → Goes (key_result world.now) result h line to (target_next h (target_meant target) line to) seen.old seen.new }
+    ensures { (h : Home) (line : ℕ) (to : Values → Next) →
+        Goes (key_result world.now) result h line to
+        (target_next h (target_meant target) line to) seen.old seen.new }
 {
     seen.look(Key::Exists(target.path.copy()?))?;
     if world.exists(&target.path) {

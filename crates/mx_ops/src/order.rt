@@ -67,7 +67,8 @@ fn compare_alike(a: &Value, b: &Value) -> Option<Ordering>
 }
 
 fn compare_others(a: &Value, b: &Value) -> Option<Ordering>
-    ensures { result ≡ texts_or (bytes_in_value a.now) (bytes_in_value b.now) (spec.alike a.now b.now) }
+    ensures { result ≡ texts_or (bytes_in_value a.now) (bytes_in_value b.now)
+        (spec.alike a.now b.now) }
 {
     match bytes_of(a) {
         Some(s) => match bytes_of(b) {

@@ -8,7 +8,8 @@ use mx_value::value::Value;
 
 /// The items of a tuple.
 pub fn items_of(value: &Value) -> Option<&Items<Value>>
-    ensures { MatchOption result (spec.items_of value.now ≡ None) (λ items. spec.items_of value.now ≡ Some items.now) }
+    ensures { MatchOption result (spec.items_of value.now ≡ None)
+        (λ items. spec.items_of value.now ≡ Some items.now) }
 {
     match value {
         Value::Tup(items) => Some(items),
@@ -25,7 +26,8 @@ pub fn items_of(value: &Value) -> Option<&Items<Value>>
 
 /// The bytes of a text.
 pub fn bytes_of(value: &Value) -> Option<&[u8]>
-    ensures value { MatchOption result (spec.bytes_of value.now ≡ None) (λ bytes. spec.bytes_of value.now ≡ Some bytes.now) }
+    ensures value { MatchOption result (spec.bytes_of value.now ≡ None)
+        (λ bytes. spec.bytes_of value.now ≡ Some bytes.now) }
     ensures printable { IfSome result (λ bytes. All IsPrintable bytes.now) }
 {
     match value {

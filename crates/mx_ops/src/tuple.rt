@@ -29,7 +29,8 @@ const MOST_NESTING: u32 = 64;
 /// The best of some values: the first one, or the last of those that each stand to the best so
 /// far as is asked. Domain comes exactly where there is none.
 pub fn best(asked: Comparison, values: &[Value]) -> Result<&Value, FaultKind>
-    ensures { MatchResult result (λ v. spec.best (test_of asked) values.now ≡ Ok v.now) (λ kind. spec.best (test_of asked) values.now ≡ Err kind) }
+    ensures { MatchResult result (λ v. spec.best (test_of asked) values.now ≡ Ok v.now)
+        (λ kind. spec.best (test_of asked) values.now ≡ Err kind) }
 {
     let Some(first) = values.get(0) else {
         return Err(FaultKind::Domain);

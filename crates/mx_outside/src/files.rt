@@ -58,7 +58,8 @@ pub trait Files {
         ensures within { IfOk result (λ found. IsWithin limit found) }
         ensures held { held self.new ≡ held self.old }
         ensures later { read_faults self.old ≤ read_faults self.new }
-        ensures failed { IsErrOf result ReadFailure.Failed → Rose (read_faults self.old) (read_faults self.new) }
+        ensures failed { IsErrOf result ReadFailure.Failed →
+            Rose (read_faults self.old) (read_faults self.new) }
         ensures no_write { write_faults self.new ≡ write_faults self.old };
 
     /// Sets the bytes of a name. A write that fails changes no other name, and one without memory none at all.
@@ -68,7 +69,8 @@ pub trait Files {
         ensures err { OnErr result (ChangesOnly name.now (held self.old) (held self.new)) }
         ensures no_memory { IsErrOf result WriteFailure.NoMemory → held self.new ≡ held self.old }
         ensures later { write_faults self.old ≤ write_faults self.new }
-        ensures failed { IsErrOf result WriteFailure.Failed → Rose (write_faults self.old) (write_faults self.new) }
+        ensures failed { IsErrOf result WriteFailure.Failed →
+            Rose (write_faults self.old) (write_faults self.new) }
         ensures no_read { read_faults self.new ≡ read_faults self.old };
 }
 
@@ -119,7 +121,8 @@ pub(crate) fn set_bytes(
     name: &str,
     bytes: &[u8],
 ) -> Result<(), WriteFailure>
-    ensures ok { OnOk result (files_of files.new.items ≡ finite.insert (files_of files.old.items) name.now bytes.now) }
+    ensures ok { OnOk result
+        (files_of files.new.items ≡ finite.insert (files_of files.old.items) name.now bytes.now) }
     ensures unchanged { OnErr result (files_of files.new.items ≡ files_of files.old.items) }
     ensures err { IfErr result (λ failure. failure ≡ WriteFailure.NoMemory) }
 {

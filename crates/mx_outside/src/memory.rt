@@ -55,15 +55,18 @@ impl Source for MemSource {
 
     fn read(&mut self, into: &mut [u8]) -> Result<usize, Failed>
         ensures bound { IfOk result (λ n. n ≤ length into.new) }
-        ensures bytes { source_left self.old ≡ prepend_known (bytes_read result into.new) (source_left self.new) }
+        ensures bytes { source_left self.old
+            ≡ prepend_known (bytes_read result into.new) (source_left self.new) }
         ensures end { result ≡ Ok 0 → 0 < length into.new → IsAtEnd (source_left self.new) }
-        ensures ended { source_ended self.new ≡ tells_end (source_ended self.old) result (length into.new) }
+        ensures ended { source_ended self.new
+            ≡ tells_end (source_ended self.old) result (length into.new) }
         ensures kept { OnOk result (source_faults self.new ≡ source_faults self.old) }
         ensures later { source_faults self.old ≤ source_faults self.new }
         ensures failed { OnErr result (Rose (source_faults self.old) (source_faults self.new)) }
 
         // It fails exactly at the calls of the numbers that it was made with.
-        ensures told { IsErr result ↔ Contains (source_fails self.old) (next_call (source_calls self.old)) }
+        ensures told { IsErr result ↔ Contains (source_fails self.old)
+            (next_call (source_calls self.old)) }
         ensures fails { source_fails self.new ≡ source_fails self.old }
         ensures calls { source_calls self.new ≡ next_call (source_calls self.old) }
     {
@@ -125,16 +128,22 @@ impl Sink for MemSink {
     ghost faults = { sink_faults };
 
     fn write(&mut self, piece: &[u8]) -> Result<usize, WriteFailure>
-        ensures ok { IfOk result (λ n. (n ≤ length piece.now) × (sink_taken self.new ≡ append_known (sink_taken self.old) (take n piece.now))) }
+        ensures ok { IfOk result
+            (λ n. (n ≤ length piece.now)
+            × (sink_taken self.new ≡ append_known (sink_taken self.old) (take n piece.now))) }
         ensures some { IfOk result (λ n. 0 < length piece.now → 0 < n) }
-        ensures err { OnErr result (TakesFront (sink_taken self.old) (sink_taken self.new) piece.now) }
-        ensures no_memory { IsErrOf result WriteFailure.NoMemory → sink_taken self.new ≡ sink_taken self.old }
+        ensures err { OnErr result
+            (TakesFront (sink_taken self.old) (sink_taken self.new) piece.now) }
+        ensures no_memory { IsErrOf result WriteFailure.NoMemory →
+            sink_taken self.new ≡ sink_taken self.old }
         ensures kept { OnOk result (sink_faults self.new ≡ sink_faults self.old) }
         ensures later { sink_faults self.old ≤ sink_faults self.new }
-        ensures failed { IsErrOf result WriteFailure.Failed → Rose (sink_faults self.old) (sink_faults self.new) }
+        ensures failed { IsErrOf result WriteFailure.Failed →
+            Rose (sink_faults self.old) (sink_faults self.new) }
 
         // It fails exactly at the calls of the numbers that it was made with, and then takes nothing.
-        ensures told { IsErrOf result WriteFailure.Failed ↔ Contains (sink_fails self.old) (next_call (sink_calls self.old)) }
+        ensures told { IsErrOf result WriteFailure.Failed ↔ Contains (sink_fails self.old)
+            (next_call (sink_calls self.old)) }
         ensures nothing { OnErr result (sink_taken self.new ≡ sink_taken self.old) }
         ensures fails { sink_fails self.new ≡ sink_fails self.old }
         ensures calls { sink_calls self.new ≡ next_call (sink_calls self.old) }
@@ -186,7 +195,9 @@ impl MemFiles {
 
     /// What a name holds, where it is there. This is no call that may fail.
     pub fn get(&self, name: &str) -> Option<&[u8]>
-        ensures { Some (option_map (λ s. s.now) result) ≡ option_map (λ files. finite.get files name.now) (⟦<MemFiles as Files>⟧.held self.now) }
+        ensures { Some (option_map (λ s. s.now) result)
+            ≡ option_map (λ files. finite.get files name.now)
+            (⟦<MemFiles as Files>⟧.held self.now) }
     {
         bytes_of(self.files.as_slice(), name)
     }
@@ -209,11 +220,13 @@ impl Files for MemFiles {
         ensures within { IfOk result (λ found. IsWithin limit found) }
         ensures held { files_held self.new ≡ files_held self.old }
         ensures later { self.old.read_faults ≤ self.new.read_faults }
-        ensures failed { IsErrOf result ReadFailure.Failed → Rose self.old.read_faults self.new.read_faults }
+        ensures failed { IsErrOf result ReadFailure.Failed →
+            Rose self.old.read_faults self.new.read_faults }
         ensures no_write { self.new.write_faults ≡ self.old.write_faults }
 
         // It fails exactly at the calls of the numbers that it was made with.
-        ensures told { IsErrOf result ReadFailure.Failed ↔ Contains (files_fails self.old) (next_call (files_calls self.old)) }
+        ensures told { IsErrOf result ReadFailure.Failed ↔ Contains (files_fails self.old)
+            (next_call (files_calls self.old)) }
         ensures fails { files_fails self.new ≡ files_fails self.old }
         ensures calls { files_calls self.new ≡ next_call (files_calls self.old) }
     {
@@ -226,15 +239,20 @@ impl Files for MemFiles {
     }
 
     fn write(&mut self, alloc: Global, name: &str, bytes: &[u8]) -> Result<(), WriteFailure>
-        ensures ok { OnOk result (files_held self.new ≡ with_bytes (files_held self.old) name.now bytes.now) }
-        ensures err { OnErr result (ChangesOnly name.now (files_held self.old) (files_held self.new)) }
-        ensures no_memory { IsErrOf result WriteFailure.NoMemory → files_held self.new ≡ files_held self.old }
+        ensures ok { OnOk result
+            (files_held self.new ≡ with_bytes (files_held self.old) name.now bytes.now) }
+        ensures err { OnErr result
+            (ChangesOnly name.now (files_held self.old) (files_held self.new)) }
+        ensures no_memory { IsErrOf result WriteFailure.NoMemory →
+            files_held self.new ≡ files_held self.old }
         ensures later { self.old.write_faults ≤ self.new.write_faults }
-        ensures failed { IsErrOf result WriteFailure.Failed → Rose self.old.write_faults self.new.write_faults }
+        ensures failed { IsErrOf result WriteFailure.Failed →
+            Rose self.old.write_faults self.new.write_faults }
         ensures no_read { self.new.read_faults ≡ self.old.read_faults }
 
         // It fails exactly at the calls of the numbers that it was made with, and then changes nothing.
-        ensures told { IsErrOf result WriteFailure.Failed ↔ Contains (files_fails self.old) (next_call (files_calls self.old)) }
+        ensures told { IsErrOf result WriteFailure.Failed ↔ Contains (files_fails self.old)
+            (next_call (files_calls self.old)) }
         ensures nothing { OnErr result (files_held self.new ≡ files_held self.old) }
         ensures fails { files_fails self.new ≡ files_fails self.old }
         ensures calls { files_calls self.new ≡ next_call (files_calls self.old) }

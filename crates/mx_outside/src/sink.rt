@@ -38,7 +38,9 @@ pub trait Sink {
     /// Takes the first bytes of a piece, and gives their number: 0 for the empty piece alone.
     /// A piece of which nothing can be taken is `Failed`, which comes only where the count of faults rose in this call.
     fn write(&mut self, piece: &[u8]) -> Result<usize, WriteFailure>
-        ensures ok { IfOk result (λ n. (n ≤ length piece.now) × (taken self.new ≡ append_known (taken self.old) (take n piece.now))) }
+        ensures ok { IfOk result
+            (λ n. (n ≤ length piece.now)
+            × (taken self.new ≡ append_known (taken self.old) (take n piece.now))) }
         ensures some { IfOk result (λ n. 0 < length piece.now → 0 < n) }
         ensures err { OnErr result (TakesFront (taken self.old) (taken self.new) piece.now) }
         ensures no_memory { IsErrOf result WriteFailure.NoMemory → taken self.new ≡ taken self.old }
@@ -53,7 +55,8 @@ pub fn write_whole<K: Sink>(out: &mut K, piece: &[u8]) -> Result<(), WriteFailur
     ensures err { OnErr result (TakesFront (K.taken out.old) (K.taken out.new) piece.now) }
     ensures kept { OnOk result (K.faults out.new ≡ K.faults out.old) }
     ensures later { K.faults out.old ≤ K.faults out.new }
-    ensures failed { IsErrOf result WriteFailure.Failed → Rose (K.faults out.old) (K.faults out.new) }
+    ensures failed { IsErrOf result WriteFailure.Failed →
+        Rose (K.faults out.old) (K.faults out.new) }
 {
     let mut done = 0;
     while done < piece.len() {

@@ -45,9 +45,11 @@ impl Source for SureSource {
     fn read(&mut self, into: &mut [u8]) -> Result<usize, Failed>
         ensures sure { IsOk result }
         ensures bound { IfOk result (λ n. n ≤ length into.new) }
-        ensures bytes { sure_left self.old ≡ prepend_known (bytes_read result into.new) (sure_left self.new) }
+        ensures bytes { sure_left self.old
+            ≡ prepend_known (bytes_read result into.new) (sure_left self.new) }
         ensures end { result ≡ Ok 0 → 0 < length into.new → IsAtEnd (sure_left self.new) }
-        ensures ended { sure_ended self.new ≡ tells_end (sure_ended self.old) result (length into.new) }
+        ensures ended { sure_ended self.new
+            ≡ tells_end (sure_ended self.old) result (length into.new) }
     {
         let count = copy_front(&self.bytes[self.at..], into);
         self.at += count;
@@ -112,7 +114,9 @@ impl SureFiles {
 
     /// What a name holds, where it is there.
     pub fn get(&self, name: &str) -> Option<&[u8]>
-        ensures { Some (option_map (λ s. s.now) result) ≡ option_map (λ files. finite.get files name.now) (⟦<SureFiles as Files>⟧.held self.now) }
+        ensures { Some (option_map (λ s. s.now) result)
+            ≡ option_map (λ files. finite.get files name.now)
+            (⟦<SureFiles as Files>⟧.held self.now) }
     {
         bytes_of(self.files.as_slice(), name)
     }
@@ -140,7 +144,8 @@ impl Files for SureFiles {
 
     fn write(&mut self, alloc: Global, name: &str, bytes: &[u8]) -> Result<(), WriteFailure>
         ensures sure { IfErr result (λ failure. failure ≡ WriteFailure.NoMemory) }
-        ensures ok { OnOk result (sure_held self.new ≡ with_bytes (sure_held self.old) name.now bytes.now) }
+        ensures ok { OnOk result
+            (sure_held self.new ≡ with_bytes (sure_held self.old) name.now bytes.now) }
         ensures nothing { OnErr result (sure_held self.new ≡ sure_held self.old) }
     {
         return set_bytes(alloc, &mut self.files, name, bytes);

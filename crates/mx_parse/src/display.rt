@@ -90,7 +90,8 @@ fn ref_turn(
     levels: usize,
     found: &mut Items<(Label, Expr)>,
 ) -> Result<bool, Trouble>
-    ensures { Goes (spec.ref_turn (expression levels) found.old tokens.old) result found.new tokens.new }
+    ensures { Goes (spec.ref_turn
+        (expression levels) found.old tokens.old) result found.new tokens.new }
 {
     if tokens.sees(Symbol::CloseCurly) {
         tokens.expect(Symbol::CloseCurly)?;
@@ -184,7 +185,8 @@ fn entry_turn(
     levels: usize,
     found: &mut Items<ItemEntry>,
 ) -> Result<bool, Trouble>
-    ensures { Goes (spec.entry_turn (expression levels) found.old tokens.old) result found.new tokens.new }
+    ensures { Goes (spec.entry_turn
+        (expression levels) found.old tokens.old) result found.new tokens.new }
 {
     if tokens.sees(Symbol::CloseCurly) {
         tokens.expect(Symbol::CloseCurly)?;

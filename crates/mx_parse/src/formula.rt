@@ -24,7 +24,8 @@ fn formula_rest(
     levels: usize,
     params: List<Param>,
 ) -> Result<Formula, Trouble>
-    ensures { Reads (spec.formula_rest (expression_in inside) (body_in inside levels) params tokens.old) result tokens.new }
+    ensures { Reads (spec.formula_rest (expression_in inside)
+        (body_in inside levels) params tokens.old) result tokens.new }
 {
     if tokens.sees(Symbol::Assign) {
         tokens.expect(Symbol::Assign)?;
@@ -46,7 +47,8 @@ pub fn formula(
     inside: Inside,
     levels: usize,
 ) -> Result<Formula, Trouble>
-    ensures { Reads (spec.formula (parameters_in inside) (expression_in inside) (body_in inside levels) tokens.old) result tokens.new }
+    ensures { Reads (spec.formula (parameters_in inside) (expression_in inside)
+        (body_in inside levels) tokens.old) result tokens.new }
 {
     let params = parameters(alloc, tokens, inside.brackets)?;
     formula_rest(alloc, tokens, inside, levels, params)
@@ -60,7 +62,9 @@ fn given(
     inside: Inside,
     params: List<Param>,
 ) -> Result<Params, Trouble>
-    ensures { Reads (spec.given (λ entries. spec.item_of params entries) (λ x. spec.item_value_of params x) (expression_in inside) (display_in inside) tokens.old) result tokens.new }
+    ensures { Reads (spec.given (λ entries. spec.item_of params entries)
+        (λ x. spec.item_value_of params x) (expression_in inside)
+        (display_in inside) tokens.old) result tokens.new }
 {
     if tokens.sees(Symbol::OpenCurly) {
         let entries = display_in(alloc, tokens, inside)?;
@@ -83,7 +87,8 @@ fn params_rest(
     levels: usize,
     params: List<Param>,
 ) -> Result<Params, Trouble>
-    ensures { Reads (spec.params_rest (expression_in inside) (display_in inside) (body_in inside levels) params tokens.old) result tokens.new }
+    ensures { Reads (spec.params_rest (expression_in inside) (display_in inside)
+        (body_in inside levels) params tokens.old) result tokens.new }
 {
     if tokens.sees(Symbol::Newline) {
         tokens.expect(Symbol::Newline)?;
@@ -106,7 +111,8 @@ pub fn space_params(
     inside: Inside,
     levels: usize,
 ) -> Result<Params, Trouble>
-    ensures { Reads (spec.space_params (some_parameters_in inside) (expression_in inside) (display_in inside) (body_in inside levels) tokens.old) result tokens.new }
+    ensures { Reads (spec.space_params (some_parameters_in inside) (expression_in inside)
+        (display_in inside) (body_in inside levels) tokens.old) result tokens.new }
 {
     let params = some_parameters(alloc, tokens, inside.brackets)?;
     params_rest(alloc, tokens, inside, levels, params)

@@ -77,7 +77,8 @@ fn param_turn(
     levels: usize,
     found: &mut Items<Param>,
 ) -> Result<bool, Trouble>
-    ensures { Goes (spec.param_turn (literal levels) found.old tokens.old) result found.new tokens.new }
+    ensures { Goes (spec.param_turn
+        (literal levels) found.old tokens.old) result found.new tokens.new }
 {
     if tokens.sees(Symbol::CloseRound) {
         tokens.expect(Symbol::CloseRound)?;

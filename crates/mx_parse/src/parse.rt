@@ -136,7 +136,8 @@ fn params_of(alloc: Global, words: &[Word]) -> Result<Params, Trouble>
 }
 
 fn read_expression(alloc: Global, source: &[u8]) -> Result<Expr, ParseRefusal>
-    ensures { result ≢ Err ParseRefusal.NoMemory → AnswersWithin expression_text expression_limits source.now result }
+    ensures { result ≢ Err ParseRefusal.NoMemory →
+        AnswersWithin expression_text expression_limits source.now result }
 {
     let source = open(alloc, source)?;
     let expression = match expression_of(alloc, source.words.as_slice()) {
@@ -150,7 +151,8 @@ fn read_expression(alloc: Global, source: &[u8]) -> Result<Expr, ParseRefusal>
 }
 
 fn read_formula(alloc: Global, source: &[u8]) -> Result<Formula, ParseRefusal>
-    ensures { result ≢ Err ParseRefusal.NoMemory → AnswersWithin formula_text formula_limits source.now result }
+    ensures { result ≢ Err ParseRefusal.NoMemory →
+        AnswersWithin formula_text formula_limits source.now result }
 {
     let source = open(alloc, source)?;
     let formula = match formula_of(alloc, source.words.as_slice()) {
@@ -167,7 +169,8 @@ fn read_formula(alloc: Global, source: &[u8]) -> Result<Formula, ParseRefusal>
 }
 
 fn read_params(alloc: Global, source: &[u8]) -> Result<Params, ParseRefusal>
-    ensures { result ≢ Err ParseRefusal.NoMemory → AnswersWithin params_text params_limits source.now result }
+    ensures { result ≢ Err ParseRefusal.NoMemory →
+        AnswersWithin params_text params_limits source.now result }
 {
     let source = open(alloc, source)?;
     let params = match params_of(alloc, source.words.as_slice()) {
@@ -186,9 +189,11 @@ fn read_params(alloc: Global, source: &[u8]) -> Result<Params, ParseRefusal>
 /// The expression that the source spells on one line.
 pub fn parse_expr(alloc: Global, source: &[u8]) -> Result<Expr, ParseRefusal>
     // The answer is what the source spells within the limits, or the first trouble.
-    ensures found { result ≢ Err ParseRefusal.NoMemory → AnswersWithin expression_text expression_limits source.now result }
+    ensures found { result ≢ Err ParseRefusal.NoMemory →
+        AnswersWithin expression_text expression_limits source.now result }
     // What is spelled is the answer, and so is the first trouble, unless memory runs out.
-    ensures only { (answer : Result Expr ParseRefusal) → AnswersWithin expression_text expression_limits source.now answer → Unless answer result }
+    ensures only { (answer : Result Expr ParseRefusal) →
+        AnswersWithin expression_text expression_limits source.now answer → Unless answer result }
 {
     read_expression(alloc, source)
 }
@@ -197,9 +202,11 @@ pub fn parse_expr(alloc: Global, source: &[u8]) -> Result<Expr, ParseRefusal>
 /// statements.
 pub fn parse_formula(alloc: Global, source: &[u8]) -> Result<Formula, ParseRefusal>
     // The answer is what the source spells within the limits, or the first trouble.
-    ensures found { result ≢ Err ParseRefusal.NoMemory → AnswersWithin formula_text formula_limits source.now result }
+    ensures found { result ≢ Err ParseRefusal.NoMemory →
+        AnswersWithin formula_text formula_limits source.now result }
     // What is spelled is the answer, and so is the first trouble, unless memory runs out.
-    ensures only { (answer : Result Formula ParseRefusal) → AnswersWithin formula_text formula_limits source.now answer → Unless answer result }
+    ensures only { (answer : Result Formula ParseRefusal) →
+        AnswersWithin formula_text formula_limits source.now answer → Unless answer result }
 {
     read_formula(alloc, source)
 }
@@ -208,9 +215,11 @@ pub fn parse_formula(alloc: Global, source: &[u8]) -> Result<Formula, ParseRefus
 /// return a display.
 pub fn parse_params(alloc: Global, source: &[u8]) -> Result<Params, ParseRefusal>
     // The answer is what the source spells within the limits, or the first trouble.
-    ensures found { result ≢ Err ParseRefusal.NoMemory → AnswersWithin params_text params_limits source.now result }
+    ensures found { result ≢ Err ParseRefusal.NoMemory →
+        AnswersWithin params_text params_limits source.now result }
     // What is spelled is the answer, and so is the first trouble, unless memory runs out.
-    ensures only { (answer : Result Params ParseRefusal) → AnswersWithin params_text params_limits source.now answer → Unless answer result }
+    ensures only { (answer : Result Params ParseRefusal) →
+        AnswersWithin params_text params_limits source.now answer → Unless answer result }
 {
     read_params(alloc, source)
 }
@@ -221,7 +230,8 @@ pub fn parse_literal(alloc: Global, source: &[u8]) -> Result<Value, ParseRefusal
     // The answer is what the source spells, or the first trouble.
     ensures found { result ≢ Err ParseRefusal.NoMemory → Answers literal_text source.now result }
     // What is spelled is the answer, and so is the first trouble, unless memory runs out.
-    ensures only { (answer : Result Value ParseRefusal) → Answers literal_text source.now answer → Unless answer result }
+    ensures only { (answer : Result Value ParseRefusal) → Answers literal_text source.now answer →
+        Unless answer result }
 {
     let source = open(alloc, source)?;
     match literal_of(alloc, source.words.as_slice()) {
@@ -236,7 +246,8 @@ pub fn parse_addr(alloc: Global, source: &[u8]) -> Result<Addr, ParseRefusal>
     // The answer is what the source spells, or the first trouble.
     ensures found { result ≢ Err ParseRefusal.NoMemory → Answers addr_text source.now result }
     // What is spelled is the answer, and so is the first trouble, unless memory runs out.
-    ensures only { (answer : Result (List Segment) ParseRefusal) → Answers addr_text source.now answer → Unless answer result }
+    ensures only { (answer : Result (List Segment) ParseRefusal) →
+        Answers addr_text source.now answer → Unless answer result }
 {
     let source = open(alloc, source)?;
     match addr_of(alloc, source.words.as_slice()) {
@@ -251,7 +262,8 @@ pub fn parse_node(alloc: Global, source: &[u8]) -> Result<Node, ParseRefusal>
     // The answer is what the source spells, or the first trouble.
     ensures found { result ≢ Err ParseRefusal.NoMemory → Answers node_text source.now result }
     // What is spelled is the answer, and so is the first trouble, unless memory runs out.
-    ensures only { (answer : Result Node ParseRefusal) → Answers node_text source.now answer → Unless answer result }
+    ensures only { (answer : Result Node ParseRefusal) → Answers node_text source.now answer →
+        Unless answer result }
 {
     let source = open(alloc, source)?;
     match node_of(alloc, source.words.as_slice()) {

@@ -78,7 +78,8 @@ fn change(tokens: &mut Cursor<'_>) -> Result<ArithOp, Trouble>
 /// The rest of a line behind `return`.
 #[tactic(auto, unfolding(crate::specs::StatementParsers::returned, crate::specs::StatementParsers::given, crate::specs::StatementParsers::valued))]
 fn returned(alloc: Global, tokens: &mut Cursor<'_>, inside: Inside) -> Result<Stmt, Trouble>
-    ensures { Reads (spec.returned (expression_in inside) (display_in inside) tokens.old) result tokens.new }
+    ensures { Reads (spec.returned (expression_in inside)
+        (display_in inside) tokens.old) result tokens.new }
 {
     if tokens.sees(Symbol::Newline) {
         tokens.expect(Symbol::Newline)?;
@@ -119,7 +120,8 @@ fn changed(
 /// A simple statement, to the end of its line.
 #[tactic(auto, unfolding(crate::specs::StatementParsers::simple))]
 fn simple(alloc: Global, tokens: &mut Cursor<'_>, inside: Inside) -> Result<Stmt, Trouble>
-    ensures { Reads (spec.simple (expression_in inside) (display_in inside) tokens.old) result tokens.new }
+    ensures { Reads (spec.simple (expression_in inside)
+        (display_in inside) tokens.old) result tokens.new }
 {
     if tokens.sees(Symbol::Pass) {
         tokens.expect(Symbol::Pass)?;
@@ -137,7 +139,8 @@ fn simple(alloc: Global, tokens: &mut Cursor<'_>, inside: Inside) -> Result<Stmt
 impl<F: Fn(Global, &mut Cursor<'_>, Inside, usize) -> Result<List<Stmt>, Trouble>> Statements<F> {
     #[tactic(auto, unfolding(crate::specs::StatementParsers::body_by))]
     pub fn body(&self, tokens: &mut Cursor<'_>) -> Result<List<Stmt>, Trouble>
-        requires { Nests self.now.inside self.now.levels (F.pre self.now.block) (F.post self.now.block) }
+        requires { Nests self.now.inside self.now.levels (F.pre self.now.block)
+            (F.post self.now.block) }
         ensures { Reads (body_in self.now.inside self.now.levels tokens.old) result tokens.new }
     {
         if tokens.sees(Symbol::Newline) {
@@ -149,8 +152,10 @@ impl<F: Fn(Global, &mut Cursor<'_>, Inside, usize) -> Result<List<Stmt>, Trouble
 
     #[tactic(auto, unfolding(crate::specs::StatementParsers::arm, crate::specs::StatementParsers::headed))]
     fn arm(&self, tokens: &mut Cursor<'_>) -> Result<IfArm, Trouble>
-        requires { Nests self.now.inside self.now.levels (F.pre self.now.block) (F.post self.now.block) }
-        ensures { Reads (spec.arm (expression_in self.now.inside) (body_in self.now.inside self.now.levels) tokens.old) result tokens.new }
+        requires { Nests self.now.inside self.now.levels (F.pre self.now.block)
+            (F.post self.now.block) }
+        ensures { Reads (spec.arm (expression_in self.now.inside)
+            (body_in self.now.inside self.now.levels) tokens.old) result tokens.new }
     {
         let test = expression(self.alloc, tokens, self.inside.brackets)?;
         tokens.expect(Symbol::Colon)?;
@@ -160,8 +165,10 @@ impl<F: Fn(Global, &mut Cursor<'_>, Inside, usize) -> Result<List<Stmt>, Trouble
 
     #[tactic(auto, unfolding(crate::specs::StatementParsers::elif))]
     fn elif(&self, tokens: &mut Cursor<'_>) -> Result<IfArm, Trouble>
-        requires { Nests self.now.inside self.now.levels (F.pre self.now.block) (F.post self.now.block) }
-        ensures { Reads (spec.elif (expression_in self.now.inside) (body_in self.now.inside self.now.levels) tokens.old) result tokens.new }
+        requires { Nests self.now.inside self.now.levels (F.pre self.now.block)
+            (F.post self.now.block) }
+        ensures { Reads (spec.elif (expression_in self.now.inside)
+            (body_in self.now.inside self.now.levels) tokens.old) result tokens.new }
     {
         tokens.expect(Symbol::Elif)?;
         self.arm(tokens)
@@ -169,8 +176,10 @@ impl<F: Fn(Global, &mut Cursor<'_>, Inside, usize) -> Result<List<Stmt>, Trouble
 
     /// The arms of each `elif`, behind those found before.
     fn elifs(&self, tokens: &mut Cursor<'_>, found: Items<IfArm>) -> Result<Items<IfArm>, Trouble>
-        requires { Nests self.now.inside self.now.levels (F.pre self.now.block) (F.post self.now.block) }
-        ensures { Reads (spec.elifs (expression_in self.now.inside) (body_in self.now.inside self.now.levels) found tokens.old) result tokens.new }
+        requires { Nests self.now.inside self.now.levels (F.pre self.now.block)
+            (F.post self.now.block) }
+        ensures { Reads (spec.elifs (expression_in self.now.inside)
+            (body_in self.now.inside self.now.levels) found tokens.old) result tokens.new }
     {
         let mut arms = found;
         while tokens.sees(Symbol::Elif) {
@@ -182,8 +191,10 @@ impl<F: Fn(Global, &mut Cursor<'_>, Inside, usize) -> Result<List<Stmt>, Trouble
     /// What is left of an `if` behind its arms.
     #[tactic(auto, unfolding(crate::specs::StatementParsers::otherwise, crate::specs::StatementParsers::headed))]
     fn otherwise(&self, tokens: &mut Cursor<'_>, arms: Items<IfArm>) -> Result<Stmt, Trouble>
-        requires { Nests self.now.inside self.now.levels (F.pre self.now.block) (F.post self.now.block) }
-        ensures { Reads (spec.otherwise (body_in self.now.inside self.now.levels) arms tokens.old) result tokens.new }
+        requires { Nests self.now.inside self.now.levels (F.pre self.now.block)
+            (F.post self.now.block) }
+        ensures { Reads (spec.otherwise
+            (body_in self.now.inside self.now.levels) arms tokens.old) result tokens.new }
     {
         let arms = List::from_vec(self.alloc, arms.into_vec())?;
         if tokens.sees(Symbol::Else) {
@@ -197,8 +208,10 @@ impl<F: Fn(Global, &mut Cursor<'_>, Inside, usize) -> Result<List<Stmt>, Trouble
 
     #[tactic(auto, unfolding(crate::specs::StatementParsers::branches))]
     fn branches(&self, tokens: &mut Cursor<'_>) -> Result<Stmt, Trouble>
-        requires { Nests self.now.inside self.now.levels (F.pre self.now.block) (F.post self.now.block) }
-        ensures { Reads (spec.branches (expression_in self.now.inside) (body_in self.now.inside self.now.levels) tokens.old) result tokens.new }
+        requires { Nests self.now.inside self.now.levels (F.pre self.now.block)
+            (F.post self.now.block) }
+        ensures { Reads (spec.branches (expression_in self.now.inside)
+            (body_in self.now.inside self.now.levels) tokens.old) result tokens.new }
     {
         tokens.expect(Symbol::If)?;
         let first = self.arm(tokens)?;
@@ -210,8 +223,10 @@ impl<F: Fn(Global, &mut Cursor<'_>, Inside, usize) -> Result<List<Stmt>, Trouble
 
     #[tactic(auto, unfolding(crate::specs::StatementParsers::each, crate::specs::StatementParsers::headed))]
     fn each(&self, tokens: &mut Cursor<'_>) -> Result<Stmt, Trouble>
-        requires { Nests self.now.inside self.now.levels (F.pre self.now.block) (F.post self.now.block) }
-        ensures { Reads (spec.each (expression_in self.now.inside) (body_in self.now.inside self.now.levels) tokens.old) result tokens.new }
+        requires { Nests self.now.inside self.now.levels (F.pre self.now.block)
+            (F.post self.now.block) }
+        ensures { Reads (spec.each (expression_in self.now.inside)
+            (body_in self.now.inside self.now.levels) tokens.old) result tokens.new }
     {
         tokens.expect(Symbol::For)?;
         let name = tokens.name()?;
@@ -224,8 +239,11 @@ impl<F: Fn(Global, &mut Cursor<'_>, Inside, usize) -> Result<List<Stmt>, Trouble
 
     #[tactic(auto, unfolding(crate::specs::StatementParsers::statement))]
     fn statement(&self, tokens: &mut Cursor<'_>) -> Result<Stmt, Trouble>
-        requires { Nests self.now.inside self.now.levels (F.pre self.now.block) (F.post self.now.block) }
-        ensures { Reads (spec.statement (expression_in self.now.inside) (display_in self.now.inside) (body_in self.now.inside self.now.levels) tokens.old) result tokens.new }
+        requires { Nests self.now.inside self.now.levels (F.pre self.now.block)
+            (F.post self.now.block) }
+        ensures { Reads (spec.statement (expression_in self.now.inside)
+            (display_in self.now.inside)
+            (body_in self.now.inside self.now.levels) tokens.old) result tokens.new }
     {
         if tokens.sees(Symbol::If) {
             return self.branches(tokens);
@@ -238,8 +256,11 @@ impl<F: Fn(Global, &mut Cursor<'_>, Inside, usize) -> Result<List<Stmt>, Trouble
 
     /// The statements of a block, to its end.
     fn statements(&self, tokens: &mut Cursor<'_>) -> Result<Items<Stmt>, Trouble>
-        requires { Nests self.now.inside self.now.levels (F.pre self.now.block) (F.post self.now.block) }
-        ensures { Reads (spec.statements (expression_in self.now.inside) (display_in self.now.inside) (body_in self.now.inside self.now.levels) [] tokens.old) result tokens.new }
+        requires { Nests self.now.inside self.now.levels (F.pre self.now.block)
+            (F.post self.now.block) }
+        ensures { Reads (spec.statements (expression_in self.now.inside)
+            (display_in self.now.inside)
+            (body_in self.now.inside self.now.levels) [] tokens.old) result tokens.new }
     {
         let mut found = Items::new(self.alloc);
         loop {
@@ -253,8 +274,11 @@ impl<F: Fn(Global, &mut Cursor<'_>, Inside, usize) -> Result<List<Stmt>, Trouble
 
     #[tactic(auto, unfolding(crate::specs::StatementParsers::block_rule))]
     pub fn rule(&self, tokens: &mut Cursor<'_>) -> Result<List<Stmt>, Trouble>
-        requires { Nests self.now.inside self.now.levels (F.pre self.now.block) (F.post self.now.block) }
-        ensures { Reads (spec.block_rule (expression_in self.now.inside) (display_in self.now.inside) (block_in self.now.inside self.now.levels) tokens.old) result tokens.new }
+        requires { Nests self.now.inside self.now.levels (F.pre self.now.block)
+            (F.post self.now.block) }
+        ensures { Reads (spec.block_rule (expression_in self.now.inside)
+            (display_in self.now.inside)
+            (block_in self.now.inside self.now.levels) tokens.old) result tokens.new }
     {
         tokens.expect(Symbol::Newline)?;
         tokens.expect(Symbol::Indent)?;

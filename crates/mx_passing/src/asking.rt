@@ -37,7 +37,8 @@ pub fn ask(
     requires ordered { IsOrdered memo.now }
     requires once { HeldOnce memo.now.held }
     requires asks { AreHeld memo.now.held current.old.records.asks }
-    ensures met { IfOk result (Meets (model_of world.now) memo.now node.now current.old.records current.new.records) }
+    ensures met { IfOk result
+        (Meets (model_of world.now) memo.now node.now current.old.records current.new.records) }
     ensures node { current.new.node ≡ current.old.node }
     ensures asks { OnOk result (AreHeld memo.now.held current.new.records.asks) }
 {

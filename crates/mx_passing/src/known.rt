@@ -31,7 +31,8 @@ pub enum Known {
 
 /// The value that was put in for a node.
 fn input_of<'w>(world: &'w World, node: &Node) -> Option<&'w Value>
-    ensures { MatchOption result (is_input (model_of world.now) node.now ≡ false) (λ v. HasInput (model_of world.now) node.now v.now) }
+    ensures { MatchOption result (is_input (model_of world.now) node.now ≡ false)
+        (λ v. HasInput (model_of world.now) node.now v.now) }
 {
     if !is_static(node) {
         return None;

@@ -67,8 +67,14 @@ pub fn pass(
     ensures node { IfOk result (λ s. s.current.node ≡ running.current.node) }
     ensures asks { IfOk result (λ s. AreHeld memo.now.held s.current.records.asks) }
     ensures told { IfOk result (λ s. IsTold (model_of world.now) memo.now s.paused) }
-    ensures passes { IfOk result (λ s. (run : Run) → HaltsAs running.current.node run running.halt stack.old.top → Pauses (model_of world.now) memo.now run running.current.records s stack.new.top × (stack.new.below ≡ stack.old.below)) }
-    ensures own { IfOk result (λ s. (run : Run) → HaltsAs running.current.node run running.halt stack.old.top → HasOwnKey running.current.node running.current.records.seen.keys → HasOwnKey s.current.node s.current.records.seen.keys) }
+    ensures passes { IfOk result
+        (λ s. (run : Run) → HaltsAs running.current.node run running.halt stack.old.top →
+        Pauses (model_of world.now) memo.now run running.current.records s stack.new.top
+        × (stack.new.below ≡ stack.old.below)) }
+    ensures own { IfOk result
+        (λ s. (run : Run) → HaltsAs running.current.node run running.halt stack.old.top →
+        HasOwnKey running.current.node running.current.records.seen.keys →
+        HasOwnKey s.current.node s.current.records.seen.keys) }
 {
     let mut running = running;
     for _ in 0..u64::MAX {
@@ -94,7 +100,10 @@ fn pass_one(
     ensures node { IfOk result (λ p. (current_of p).node ≡ running.current.node) }
     ensures asks { IfOk result (λ p. AreHeld memo.now.held (current_of p).records.asks) }
     ensures told { IfOk result (λ p. IsToldThen (model_of world.now) memo.now p) }
-    ensures passes { IfOk result (λ p. (run : Run) → HaltsAs running.current.node run running.halt stack.old.top → PassesTo (model_of world.now) memo.now run running.current.records p stack.new.top × (stack.new.below ≡ stack.old.below)) }
+    ensures passes { IfOk result
+        (λ p. (run : Run) → HaltsAs running.current.node run running.halt stack.old.top →
+        PassesTo (model_of world.now) memo.now run running.current.records p stack.new.top
+        × (stack.new.below ≡ stack.old.below)) }
 {
     let Running { mut current, halt } = running;
     let (node, waiting) = match halt {
@@ -121,7 +130,8 @@ fn pass_one(
 /// The run waits for a node.
 fn asks(current: Current, node: SharedNode, waiting: Waiting, is_begun: bool) -> Stretch
     ensures current { result.current ≡ current }
-    ensures paused { result.paused ≡ paused.Asks (record { node = node; waiting = waiting; is_begun = is_begun }) }
+    ensures paused { result.paused
+        ≡ paused.Asks (record { node = node; waiting = waiting; is_begun = is_begun }) }
 {
     Stretch {
         current,

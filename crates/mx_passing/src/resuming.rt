@@ -28,7 +28,12 @@ pub fn resume(
     resumed: Resumed<'_>,
     stack: &mut Stack,
 ) -> Result<Halt, AllocError>
-    ensures goes { IfOk result (λ halt. (go : Replies → Run) → Resumes current.old.node resumed.entry.waiting stack.old.top go → HaltsAt (model_of world.now) current.old.node (go resumed.entry.reply.now) current.old.records.seen current.new.records.seen halt stack.new.top × (stack.new.below ≡ stack.old.below)) }
+    ensures goes { IfOk result
+        (λ halt. (go : Replies → Run) →
+        Resumes current.old.node resumed.entry.waiting stack.old.top go →
+        HaltsAt (model_of world.now) current.old.node
+        (go resumed.entry.reply.now) current.old.records.seen current.new.records.seen halt
+        stack.new.top × (stack.new.below ≡ stack.old.below)) }
     ensures node { current.new.node ≡ current.old.node }
     ensures asks { current.new.records.asks ≡ current.old.records.asks }
 {

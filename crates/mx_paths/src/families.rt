@@ -71,7 +71,8 @@ impl Siblings {
 pub fn families_of(alloc: Global, text: &ModelText) -> Result<(Siblings, Vec<Siblings>), AllocError>
     requires sound { IsSound text.now }
     requires named { IsNamed text.now }
-    ensures { IfOk result (λ both. AreSorted text.now (length text.now.spaces) both.0 both.1.items) }
+    ensures { IfOk result
+        (λ both. AreSorted text.now (length text.now.spaces) both.0 both.1.items) }
 {
     let mut tops = Siblings::new(alloc);
     let mut families = none_of(alloc, text.space_count() as usize)?;

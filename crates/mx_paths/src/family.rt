@@ -31,7 +31,8 @@ impl<'a> Family<'a> {
     }
 
     pub fn first(&self) -> Option<&'a Child>
-        ensures { MatchOption result (first self.now ≡ None) (λ child. first self.now ≡ Some child.now) }
+        ensures { MatchOption result (first self.now ≡ None)
+            (λ child. first self.now ≡ Some child.now) }
     {
         self.children.first()
     }

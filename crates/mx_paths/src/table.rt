@@ -66,7 +66,8 @@ impl Paths {
     /// The number of a path. None where it is no path of the table.
     pub fn find(&self, path: &Path) -> Option<PathId>
         ensures exact { result ≡ id_in self.now path.now }
-        ensures found { (text : ModelRecord) → IsTableOf text self.now → IsFoundIn text self.now path.now result }
+        ensures found { (text : ModelRecord) → IsTableOf text self.now →
+            IsFoundIn text self.now path.now result }
     {
         match self.rows.get_index_of(path) {
             Some(place) => Some(PathId(place as u32)),
@@ -89,7 +90,8 @@ impl Paths {
     pub fn layers(&self, id: PathId) -> &Order
         requires { id.0 < length self.now }
         ensures exact { layers_at self.now id ≡ Some result.now }
-        ensures layered { (text : ModelRecord) → IsTableOf text self.now → IsLayered text self.now id result.now }
+        ensures layered { (text : ModelRecord) → IsTableOf text self.now →
+            IsLayered text self.now id result.now }
     {
         let Some((_, layers)) = self.rows.get_index(id.0 as usize) else {
             unreachable!()

@@ -72,7 +72,8 @@ impl Paths {
 fn begin(alloc: Global, text: &ModelText) -> Result<Walk<'_>, AllocError>
     requires sound { IsSound text.now }
     requires named { IsNamed text.now }
-    ensures { IfOk result (λ w. IsReady w.text.now w.top w.families.items w.orders.items × (w.text.now ≡ text.now)) }
+    ensures { IfOk result
+        (λ w. IsReady w.text.now w.top w.families.items w.orders.items × (w.text.now ≡ text.now)) }
 {
     let (top, families) = families_of(alloc, text)?;
     let orders = orders_of(alloc, text)?;
@@ -87,7 +88,8 @@ fn begin(alloc: Global, text: &ModelText) -> Result<Walk<'_>, AllocError>
 impl Walk<'_> {
     /// Adds the children of the path at a place, where 0 stands for where static paths begin.
     fn expand(&self, alloc: Global, paths: &mut Paths, place: usize) -> Result<(), PathsRefusal>
-        requires ready { IsReady self.now.text.now self.now.top self.now.families.items self.now.orders.items }
+        requires ready { IsReady self.now.text.now self.now.top self.now.families.items
+            self.now.orders.items }
         requires place { place ≤ length paths.old }
         requires walked { IsWalkedTo self.now.text.now paths.old place }
         ensures { Expands self.now.text.now place paths.old paths.new result }
@@ -141,7 +143,8 @@ impl Walk<'_> {
         path: &Path,
         families: Vec<Family<'_>>,
     ) -> Result<(), PathsRefusal>
-        requires ready { IsReady self.now.text.now self.now.top self.now.families.items self.now.orders.items }
+        requires ready { IsReady self.now.text.now self.now.top self.now.families.items
+            self.now.orders.items }
         requires open { IsOpen self.now.text.now paths.old path.now families.items }
         ensures { (done : Many Names) → IsExpanding self.now.text.now paths.old done path.now families.entry.items →
             Closes self.now.text.now done path.now paths.old paths.new result }
@@ -187,11 +190,13 @@ impl Walk<'_> {
         path: Path,
         spaces: &[SpaceId],
     ) -> Result<(), PathsRefusal>
-        requires ready { IsReady self.now.text.now self.now.top self.now.families.items self.now.orders.items }
+        requires ready { IsReady self.now.text.now self.now.top self.now.families.items
+            self.now.orders.items }
         requires new { Has (paths_in paths.old) path → ⊥ }
         requires spaces { AreSpaces self.now.text.now spaces.now }
         requires some { spaces.now ≡ [] → ⊥ }
-        requires layered { layers self.now.text.now path ≡ of_children self.now.text.now spaces.now }
+        requires layered { layers self.now.text.now path
+            ≡ of_children self.now.text.now spaces.now }
         ensures { Adds self.now.text.now path paths.old paths.new result }
     {
         if path.len() > MOST_NAMES {
@@ -215,7 +220,8 @@ impl Walk<'_> {
 
 /// The least of the first names.
 fn least_name<'a>(families: &[Family<'a>]) -> Option<&'a Label>
-    ensures { MatchOption result (firsts families.now ≡ []) (λ name. IsLeast (firsts families.now) name.now) }
+    ensures { MatchOption result (firsts families.now ≡ [])
+        (λ name. IsLeast (firsts families.now) name.now) }
 {
     let mut least: Option<&'a Label> = None;
     for family in families {
@@ -265,7 +271,8 @@ fn take_first(
     name: &Label,
     spaces: &mut Vec<SpaceId>,
 ) -> Result<(), AllocError>
-    ensures spaces { OnOk result (spaces.new.items ≡ filter_map (first_named name.now) families.old) }
+    ensures spaces { OnOk result
+        (spaces.new.items ≡ filter_map (first_named name.now) families.old) }
     ensures rest { OnOk result (families.new ≡ map (without_first name.now) families.old) }
 {
     spaces.clear();

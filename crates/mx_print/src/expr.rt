@@ -107,7 +107,9 @@ fn push_separated<S: Sink>(
     least: u8,
     items: &[Expr],
 ) -> Result<(), AllocError>
-    ensures { OnOk result (S.written out.new ≡ S.written out.old ++ separated separator.now (all_at least (map printed items.now))) }
+    ensures { OnOk result
+        (S.written out.new
+        ≡ S.written out.old ++ separated separator.now (all_at least (map printed items.now))) }
 {
     for (i, item) in items.iter().enumerate() {
         if i > 0 {
@@ -121,7 +123,8 @@ fn push_separated<S: Sink>(
 /// Adds a tuple. One of a single item has a comma behind it.
 #[cycle(print)]
 fn push_tuple<S: Sink>(out: &mut S, items: &[Expr]) -> Result<(), AllocError>
-    ensures { OnOk result (S.written out.new ≡ S.written out.old ++ tuple_text (all_at 0 (map printed items.now))) }
+    ensures { OnOk result
+        (S.written out.new ≡ S.written out.old ++ tuple_text (all_at 0 (map printed items.now))) }
 {
     push(out, b"(")?;
     push_separated(out, b", ", 0, items)?;
@@ -152,7 +155,8 @@ fn push_arm<S: Sink>(out: &mut S, arm: &Arm) -> Result<(), AllocError>
 }
 
 fn push_nots<S: Sink>(out: &mut S, count: u32) -> Result<(), AllocError>
-    ensures { OnOk result (S.written out.new ≡ S.written out.old ++ flat (replicate count (codes "not "))) }
+    ensures { OnOk result
+        (S.written out.new ≡ S.written out.old ++ flat (replicate count (codes "not "))) }
 {
     for _ in 0..count {
         push(out, b"not ")?;
@@ -177,7 +181,8 @@ fn cmp_text(op: CmpOp) -> &'static [u8]
 
 #[cycle(print)]
 fn push_comparisons<S: Sink>(out: &mut S, parts: &[Comparison]) -> Result<(), AllocError>
-    ensures { OnOk result (S.written out.new ≡ S.written out.old ++ flat (map comparison_text parts.now)) }
+    ensures { OnOk result
+        (S.written out.new ≡ S.written out.old ++ flat (map comparison_text parts.now)) }
 {
     for part in parts {
         push_comparison(out, part)?;
@@ -219,7 +224,8 @@ fn sum_text(op: SumOp) -> &'static [u8]
 
 #[cycle(print)]
 fn push_sum_parts<S: Sink>(out: &mut S, parts: &[SumPart]) -> Result<(), AllocError>
-    ensures { OnOk result (S.written out.new ≡ S.written out.old ++ flat (map sum_part_text parts.now)) }
+    ensures { OnOk result
+        (S.written out.new ≡ S.written out.old ++ flat (map sum_part_text parts.now)) }
 {
     for part in parts {
         push_sum_part(out, part)?;
@@ -248,7 +254,8 @@ fn product_text(op: ProductOp) -> &'static [u8]
 
 #[cycle(print)]
 fn push_product_parts<S: Sink>(out: &mut S, parts: &[ProductPart]) -> Result<(), AllocError>
-    ensures { OnOk result (S.written out.new ≡ S.written out.old ++ flat (map product_part_text parts.now)) }
+    ensures { OnOk result
+        (S.written out.new ≡ S.written out.old ++ flat (map product_part_text parts.now)) }
 {
     for part in parts {
         push_product_part(out, part)?;
@@ -285,7 +292,8 @@ fn push_signs<S: Sink>(out: &mut S, signs: &[Sign]) -> Result<(), AllocError>
 
 #[cycle(print)]
 fn push_power_parts<S: Sink>(out: &mut S, parts: &[PowerPart]) -> Result<(), AllocError>
-    ensures { OnOk result (S.written out.new ≡ S.written out.old ++ flat (map power_part_text parts.now)) }
+    ensures { OnOk result
+        (S.written out.new ≡ S.written out.old ++ flat (map power_part_text parts.now)) }
 {
     for part in parts {
         push_power_part(out, part)?;
@@ -304,7 +312,9 @@ fn push_power_part<S: Sink>(out: &mut S, part: &PowerPart) -> Result<(), AllocEr
 
 /// Adds a space between a number and the dot of an attribute.
 fn push_gap<S: Sink>(out: &mut S, of: &Expr, trailers: &[Trailer]) -> Result<(), AllocError>
-    ensures { OnOk result (S.written out.new ≡ S.written out.old ++ spec.gap (printed of.now) (map trailer_text trailers.now)) }
+    ensures { OnOk result
+        (S.written out.new
+        ≡ S.written out.old ++ spec.gap (printed of.now) (map trailer_text trailers.now)) }
 {
     if !is_number(of) {
         return Ok(());
@@ -336,7 +346,8 @@ fn begins_with_dot(trailers: &[Trailer]) -> bool
 
 #[cycle(print)]
 fn push_trailers<S: Sink>(out: &mut S, trailers: &[Trailer]) -> Result<(), AllocError>
-    ensures { OnOk result (S.written out.new ≡ S.written out.old ++ flat (map trailer_text trailers.now)) }
+    ensures { OnOk result
+        (S.written out.new ≡ S.written out.old ++ flat (map trailer_text trailers.now)) }
 {
     for trailer in trailers {
         push_trailer(out, trailer)?;

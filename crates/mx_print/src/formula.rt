@@ -47,7 +47,8 @@ pub fn size(formula: &Formula) -> Result<Count, AllocError>
 /// The same of a parameter list.
 pub fn params_size(params: &Params) -> Result<Count, AllocError>
     ensures len { IfOk result (λ count. count.len ≡ length (spec.print_params params.now)) }
-    ensures opened { IfOk result (λ count. count.openings ≡ openings (spec.print_params params.now)) }
+    ensures opened { IfOk result
+        (λ count. count.openings ≡ openings (spec.print_params params.now)) }
 {
     let mut out = Count::none();
     push_all(&mut out, params)?;
@@ -67,7 +68,9 @@ fn push_all<S: Sink>(out: &mut S, params: &Params) -> Result<(), AllocError>
 }
 
 fn push_formula<S: Sink>(out: &mut S, params: &[Param], body: &[Stmt]) -> Result<(), AllocError>
-    ensures { OnOk result (S.written out.new ≡ S.written out.old ++ lines_text 0 (formula_lines params.now body.now)) }
+    ensures { OnOk result
+        (S.written out.new
+        ≡ S.written out.old ++ lines_text 0 (formula_lines params.now body.now)) }
 {
     push_params(out, params)?;
     match body {
@@ -82,7 +85,8 @@ fn push_formula<S: Sink>(out: &mut S, params: &[Param], body: &[Stmt]) -> Result
 
 /// Adds the rest of the one line of a formula that only returns an expression.
 fn push_value_line<S: Sink>(out: &mut S, value: &Expr) -> Result<(), AllocError>
-    ensures { OnOk result (S.written out.new ≡ S.written out.old ++ spec.rest_of_line (spec.whole value.now)) }
+    ensures { OnOk result
+        (S.written out.new ≡ S.written out.old ++ spec.rest_of_line (spec.whole value.now)) }
 {
     push(out, b" = ")?;
     push_at(out, 0, value)?;
@@ -91,7 +95,9 @@ fn push_value_line<S: Sink>(out: &mut S, value: &Expr) -> Result<(), AllocError>
 
 /// Adds the rest of the one line of a formula that only returns a display.
 fn push_display_line<S: Sink>(out: &mut S, entries: &[ItemEntry]) -> Result<(), AllocError>
-    ensures { OnOk result (S.written out.new ≡ S.written out.old ++ spec.rest_of_line (spec.display_text entries.now)) }
+    ensures { OnOk result
+        (S.written out.new
+        ≡ S.written out.old ++ spec.rest_of_line (spec.display_text entries.now)) }
 {
     push(out, b" = ")?;
     push_display(out, entries)?;
@@ -107,7 +113,8 @@ fn push_params<S: Sink>(out: &mut S, params: &[Param]) -> Result<(), AllocError>
 }
 
 fn push_commas<S: Sink>(out: &mut S, params: &[Param]) -> Result<(), AllocError>
-    ensures { OnOk result (S.written out.new ≡ S.written out.old ++ commas (map param_text params.now)) }
+    ensures { OnOk result
+        (S.written out.new ≡ S.written out.old ++ commas (map param_text params.now)) }
 {
     for (i, param) in params.iter().enumerate() {
         if i > 0 {

@@ -65,7 +65,8 @@ pub(crate) fn push_quoted<S: Sink>(out: &mut S, text: &[u8]) -> Result<(), Alloc
 
 /// Adds a text with a backslash in front of each quote and backslash.
 fn push_escaped<S: Sink>(out: &mut S, text: &[u8]) -> Result<(), AllocError>
-    ensures { OnOk result (S.written out.new ≡ S.written out.old ++ concat (map spec.escaped text.now)) }
+    ensures { OnOk result
+        (S.written out.new ≡ S.written out.old ++ concat (map spec.escaped text.now)) }
 {
     for byte in text {
         push_escaped_byte(out, *byte)?;
@@ -134,7 +135,8 @@ fn push_cells<S: Sink>(out: &mut S, at: &CellsAt) -> Result<(), AllocError>
 /// Adds values with commas between them.
 #[cycle(text)]
 fn push_commas<S: Sink>(out: &mut S, items: &[Value]) -> Result<(), AllocError>
-    ensures { OnOk result (S.written out.new ≡ S.written out.old ++ commas (map value_text items.now)) }
+    ensures { OnOk result
+        (S.written out.new ≡ S.written out.old ++ commas (map value_text items.now)) }
 {
     for (i, item) in items.iter().enumerate() {
         if i > 0 {
@@ -148,7 +150,8 @@ fn push_commas<S: Sink>(out: &mut S, items: &[Value]) -> Result<(), AllocError>
 /// Adds a tuple. One of a single item has a comma behind it.
 #[cycle(text)]
 fn push_tuple<S: Sink>(out: &mut S, items: &[Value]) -> Result<(), AllocError>
-    ensures { OnOk result (S.written out.new ≡ S.written out.old ++ spec.tuple_text (map value_text items.now)) }
+    ensures { OnOk result
+        (S.written out.new ≡ S.written out.old ++ spec.tuple_text (map value_text items.now)) }
 {
     push(out, b"(")?;
     push_commas(out, items)?;
@@ -172,7 +175,10 @@ fn push_address<S: Sink>(out: &mut S, at: &[Segment]) -> Result<(), AllocError>
 /// Adds a segment, which the first of an address has no dot in front of.
 #[cycle(text)]
 fn push_segment<S: Sink>(out: &mut S, segment: &Segment, first: bool) -> Result<(), AllocError>
-    ensures { OnOk result (S.written out.new ≡ S.written out.old ++ (if first then spec.after_dot (segment_text segment.now) else segment_text segment.now)) }
+    ensures { OnOk result
+        (S.written out.new
+        ≡ S.written out.old ++
+        (if first then spec.after_dot (segment_text segment.now) else segment_text segment.now)) }
 {
     match segment {
         Segment::Name(name) => {

@@ -23,7 +23,8 @@ pub(crate) fn push_display<S: Sink>(out: &mut S, entries: &[ItemEntry]) -> Resul
 }
 
 fn push_entries<S: Sink>(out: &mut S, entries: &[ItemEntry]) -> Result<(), AllocError>
-    ensures { OnOk result (S.written out.new ≡ S.written out.old ++ commas (map entry_text entries.now)) }
+    ensures { OnOk result
+        (S.written out.new ≡ S.written out.old ++ commas (map entry_text entries.now)) }
 {
     for (i, entry) in entries.iter().enumerate() {
         if i > 0 {
@@ -51,7 +52,8 @@ fn push_entry<S: Sink>(out: &mut S, entry: &ItemEntry) -> Result<(), AllocError>
 }
 
 fn push_refs<S: Sink>(out: &mut S, refs: &[(Label, Expr)]) -> Result<(), AllocError>
-    ensures { OnOk result (S.written out.new ≡ S.written out.old ++ commas (map ref_text refs.now)) }
+    ensures { OnOk result
+        (S.written out.new ≡ S.written out.old ++ commas (map ref_text refs.now)) }
 {
     for (i, reference) in refs.iter().enumerate() {
         if i > 0 {
@@ -90,7 +92,8 @@ fn push_line<S: Sink>(out: &mut S, depth: usize, line: &[u8]) -> Result<(), Allo
 }
 
 fn push_return<S: Sink>(out: &mut S, depth: usize, value: &Option<Expr>) -> Result<(), AllocError>
-    ensures { OnOk result (S.written out.new ≡ S.written out.old ++ line_text depth (return_text value.now)) }
+    ensures { OnOk result
+        (S.written out.new ≡ S.written out.old ++ line_text depth (return_text value.now)) }
 {
     match value {
         None => push_line(out, depth, b"return"),
@@ -118,7 +121,9 @@ fn push_return_item<S: Sink>(
     depth: usize,
     entries: &[ItemEntry],
 ) -> Result<(), AllocError>
-    ensures { OnOk result (S.written out.new ≡ S.written out.old ++ line_text depth (codes "return " ++ display_text entries.now)) }
+    ensures { OnOk result
+        (S.written out.new
+        ≡ S.written out.old ++ line_text depth (codes "return " ++ display_text entries.now)) }
 {
     push_margin(out, depth)?;
     push(out, b"return ")?;
@@ -132,7 +137,9 @@ fn push_assign<S: Sink>(
     name: &Label,
     value: &Expr,
 ) -> Result<(), AllocError>
-    ensures { OnOk result (S.written out.new ≡ S.written out.old ++ line_text depth (spec.assign_text name.now value.now)) }
+    ensures { OnOk result
+        (S.written out.new
+        ≡ S.written out.old ++ line_text depth (spec.assign_text name.now value.now)) }
 {
     push_margin(out, depth)?;
     push(out, name.as_slice())?;
@@ -148,7 +155,9 @@ fn push_change<S: Sink>(
     op: ArithOp,
     value: &Expr,
 ) -> Result<(), AllocError>
-    ensures { OnOk result (S.written out.new ≡ S.written out.old ++ line_text depth (spec.change_text name.now op value.now)) }
+    ensures { OnOk result
+        (S.written out.new
+        ≡ S.written out.old ++ line_text depth (spec.change_text name.now op value.now)) }
 {
     push_margin(out, depth)?;
     push(out, name.as_slice())?;
@@ -159,7 +168,9 @@ fn push_change<S: Sink>(
 
 /// Adds the first line of a `for`.
 fn push_for<S: Sink>(out: &mut S, depth: usize, name: &Label, over: &Expr) -> Result<(), AllocError>
-    ensures { OnOk result (S.written out.new ≡ S.written out.old ++ line_text depth (spec.for_text name.now over.now)) }
+    ensures { OnOk result
+        (S.written out.new
+        ≡ S.written out.old ++ line_text depth (spec.for_text name.now over.now)) }
 {
     push_margin(out, depth)?;
     push(out, b"for ")?;
@@ -173,7 +184,8 @@ fn push_for<S: Sink>(out: &mut S, depth: usize, name: &Label, over: &Expr) -> Re
 /// Adds the lines of a statement that stands so many levels in.
 #[cycle(statements)]
 fn push_stmt<S: Sink>(out: &mut S, depth: usize, stmt: &Stmt) -> Result<(), AllocError>
-    ensures { OnOk result (S.written out.new ≡ S.written out.old ++ lines_text depth (stmt_lines stmt.now)) }
+    ensures { OnOk result
+        (S.written out.new ≡ S.written out.old ++ lines_text depth (stmt_lines stmt.now)) }
 {
     match stmt {
         Stmt::Pass => push_line(out, depth, b"pass"),
@@ -198,7 +210,8 @@ fn push_stmt<S: Sink>(out: &mut S, depth: usize, stmt: &Stmt) -> Result<(), Allo
 /// Adds the statements of a body that stands so many levels in.
 #[cycle(statements)]
 fn push_body<S: Sink>(out: &mut S, depth: usize, body: &[Stmt]) -> Result<(), AllocError>
-    ensures { OnOk result (S.written out.new ≡ S.written out.old ++ lines_text depth (body_lines body.now)) }
+    ensures { OnOk result
+        (S.written out.new ≡ S.written out.old ++ lines_text depth (body_lines body.now)) }
 {
     for stmt in body {
         push_stmt(out, depth, stmt)?;
@@ -214,7 +227,9 @@ pub(crate) fn push_block<S: Sink>(
     depth: usize,
     body: &[Stmt],
 ) -> Result<(), AllocError>
-    ensures { OnOk result (S.written out.new ≡ S.written out.old ++ lines_text depth (block (map stmt_lines body.now))) }
+    ensures { OnOk result
+        (S.written out.new
+        ≡ S.written out.old ++ lines_text depth (block (map stmt_lines body.now))) }
 {
     let Some(deeper) = depth.checked_add(1) else {
         return Err(AllocError);
@@ -225,7 +240,9 @@ pub(crate) fn push_block<S: Sink>(
 /// Adds the arms of an `if`.
 #[cycle(statements)]
 fn push_arms<S: Sink>(out: &mut S, depth: usize, arms: &[IfArm]) -> Result<(), AllocError>
-    ensures { OnOk result (S.written out.new ≡ S.written out.old ++ lines_text depth (if_lines (map arm_lines arms.now))) }
+    ensures { OnOk result
+        (S.written out.new
+        ≡ S.written out.old ++ lines_text depth (if_lines (map arm_lines arms.now))) }
 {
     for (i, arm) in arms.iter().enumerate() {
         push_arm(out, depth, i == 0, arm)?;
@@ -235,7 +252,9 @@ fn push_arms<S: Sink>(out: &mut S, depth: usize, arms: &[IfArm]) -> Result<(), A
 
 #[cycle(statements)]
 fn push_arm<S: Sink>(out: &mut S, depth: usize, first: bool, arm: &IfArm) -> Result<(), AllocError>
-    ensures { OnOk result (S.written out.new ≡ S.written out.old ++ lines_text depth (front (spec.arm_word first) (arm_lines arm.now))) }
+    ensures { OnOk result
+        (S.written out.new
+        ≡ S.written out.old ++ lines_text depth (front (spec.arm_word first) (arm_lines arm.now))) }
 {
     push_margin(out, depth)?;
     push(out, arm_word(first))?;
@@ -253,7 +272,9 @@ fn arm_word(first: bool) -> &'static [u8]
 /// Adds the `else` of an `if`.
 #[cycle(statements)]
 fn push_else<S: Sink>(out: &mut S, depth: usize, body: &[Stmt]) -> Result<(), AllocError>
-    ensures { OnOk result (S.written out.new ≡ S.written out.old ++ lines_text depth (codes "else:" ∷ block (map stmt_lines body.now))) }
+    ensures { OnOk result
+        (S.written out.new
+        ≡ S.written out.old ++ lines_text depth (codes "else:" ∷ block (map stmt_lines body.now))) }
 {
     push_line(out, depth, b"else:")?;
     push_block(out, depth, body)

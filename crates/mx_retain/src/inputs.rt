@@ -108,7 +108,8 @@ fn add_changed(
     inputs: &Members<Node, Shared<Value>>,
     nodes: &mut Vec<SharedNode>,
 ) -> Result<(), AllocError>
-    ensures { OnOk result (nodes.new.items ≡ nodes.old.items ++ changed_in before.now after.now inputs.now) }
+    ensures { OnOk result
+        (nodes.new.items ≡ nodes.old.items ++ changed_in before.now after.now inputs.now) }
 {
     for place in 0..inputs.count() {
         let Some((node, _)) = inputs.at(place) else {
@@ -127,7 +128,8 @@ fn add_one(
     node: &Node,
     nodes: &mut Vec<SharedNode>,
 ) -> Result<(), AllocError>
-    ensures { OnOk result (nodes.new.items ≡ nodes.old.items ++ one_changed before.now after.now node.now) }
+    ensures { OnOk result
+        (nodes.new.items ≡ nodes.old.items ++ one_changed before.now after.now node.now) }
 {
     key_laws();
     if is_same(before, after, node) {
@@ -139,7 +141,8 @@ fn add_one(
 
 /// Whether the input of a node is the same in two worlds.
 fn is_same(before: &World, after: &World, node: &Node) -> bool
-    ensures { IsTrue result ↔ (key_result before.now (Input node.now) ≡ key_result after.now (Input node.now)) }
+    ensures { IsTrue result ↔
+        (key_result before.now (Input node.now) ≡ key_result after.now (Input node.now)) }
 {
     match (before.input(node), after.input(node)) {
         (Some(one), Some(other)) => return one == other,

@@ -59,7 +59,8 @@ impl<'w> KeyTest for Worlds<'w> {
 /// The nodes whose inputs differ are given. Takes no memory.
 pub fn keep_unchanged(before: &World, after: &World, inputs: &[SharedNode], memo: &mut Memo) -> u32
     requires { AreChanged (is_changed before.now after.now) inputs.now }
-    ensures drops { Sifts (IsTouched (HasChanged (is_changed before.now after.now)) memo.old.held) memo.old.held memo.new.held }
+    ensures drops { Sifts (IsTouched
+        (HasChanged (is_changed before.now after.now)) memo.old.held) memo.old.held memo.new.held }
     ensures count { result + length memo.new.held ≡ length memo.old.held }
     ensures last { memo.new.last ≡ memo.old.last }
     ensures begun { memo.new.begun ≡ memo.old.begun }

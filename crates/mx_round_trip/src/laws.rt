@@ -59,7 +59,8 @@ pub fn nodes_are_proper()
 
 /// The printed text of an expression spells it again, unless it is past a limit of sources.
 pub fn expressions_read_back()
-    ensures { (source : List ℕ) (x : Expr) → ReadsBackWithin expression_text source x (at 0 (printed x)) }
+    ensures { (source : List ℕ) (x : Expr) →
+        ReadsBackWithin expression_text source x (at 0 (printed x)) }
 {}
 
 /// The printed text of a formula spells it again, unless it is past a limit of sources.
@@ -69,31 +70,38 @@ pub fn formulas_read_back()
 
 /// The printed text of a space's parameters spells them again, unless it is past a limit of sources.
 pub fn params_read_back()
-    ensures { (source : List ℕ) (p : Params) → ReadsBackWithin params_text source p (print_params p) }
+    ensures { (source : List ℕ) (p : Params) →
+        ReadsBackWithin params_text source p (print_params p) }
 {}
 
 /// Of each formula that is given for a source, the printed text is a source for which that formula is given. So the parser, of which
 /// each source has one answer, gives it again.
 pub fn formula_round_trip()
-    ensures { (source : List ℕ) (f : Formula) → GivenAgain formula_text formula_limits source f (print f) }
+    ensures { (source : List ℕ) (f : Formula) →
+        GivenAgain formula_text formula_limits source f (print f) }
 {}
 
 /// The same of the parameters of a space.
 pub fn params_round_trip()
-    ensures { (source : List ℕ) (p : Params) → GivenAgain params_text params_limits source p (print_params p) }
+    ensures { (source : List ℕ) (p : Params) →
+        GivenAgain params_text params_limits source p (print_params p) }
 {}
 
 /// Of each formula that is given for a source, the printed text, cut at its line feeds, is the formula's lines. Each statement and each
 /// test of an `if` or `elif` stands in it at the line that the heights above it give.
 pub fn parsed_lines()
-    ensures { (source : List ℕ) (f : Formula) → AnswersWithin formula_text formula_limits source (Ok f) → HasItsLines (print f) f.params f.body }
+    ensures { (source : List ℕ) (f : Formula) →
+        AnswersWithin formula_text formula_limits source (Ok f) →
+        HasItsLines (print f) f.params f.body }
 {
     line_laws();
 }
 
 /// The same of the parameters of a space and the formula behind them.
 pub fn parsed_params_lines()
-    ensures { (source : List ℕ) (p : Params) (body : List Stmt) → AnswersWithin params_text params_limits source (Ok p) → p.body ≡ Some body → HasItsLines (print_params p) p.params body }
+    ensures { (source : List ℕ) (p : Params) (body : List Stmt) →
+        AnswersWithin params_text params_limits source (Ok p) → p.body ≡ Some body →
+        HasItsLines (print_params p) p.params body }
 {
     line_laws();
 }

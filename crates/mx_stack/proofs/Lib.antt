@@ -3,5 +3,3 @@ pub mod Taken
 pub mod Computed
 pub mod Collecting
 pub mod Walking
-pub mod Codes
-pub mod Plainly

@@ -21,7 +21,8 @@ pub enum Callee {
 /// What is called, from the top of the stack.
 #[inline(always)]
 pub fn pop_callee(stack: &mut Stack) -> Result<Callee, AllocError>
-    ensures { IfOk result (λ c. stack.old ≡ on_top (with_slot (slot_of (callee_of c)) stack.new.top) stack.new) }
+    ensures { IfOk result
+        (λ c. stack.old ≡ on_top (with_slot (slot_of (callee_of c)) stack.new.top) stack.new) }
 {
     match stack.pop() {
         Some(Slot::Holds(value)) => Ok(Callee::Called(value)),
@@ -33,7 +34,8 @@ pub fn pop_callee(stack: &mut Stack) -> Result<Callee, AllocError>
 /// Puts what is called back on the stack.
 #[inline(always)]
 pub fn push_callee(stack: &mut Stack, callee: Callee) -> Result<(), AllocError>
-    ensures { OnOk result (stack.new ≡ on_top (with_slot (slot_of (callee_of callee)) stack.old.top) stack.old) }
+    ensures { OnOk result
+        (stack.new ≡ on_top (with_slot (slot_of (callee_of callee)) stack.old.top) stack.old) }
 {
     match callee {
         Callee::Called(value) => stack.push(Slot::Holds(value)),

@@ -31,7 +31,8 @@ fn name_at(code: &Code, place: usize) -> Result<Label, AllocError>
 
 /// Adds a reference of the name at this place of the code.
 pub fn refer(code: &Code, stack: &mut Stack, place: usize) -> Went
-    ensures came { Came (act.Refer (get_or code.now.names place [])) result stack.old.top stack.new.top }
+    ensures came { Came (act.Refer (get_or code.now.names place [])) result stack.old.top
+        stack.new.top }
     ensures below { OnSome (done result) (stack.new.below ≡ stack.old.below) }
 {
     let Ok(value) = pop_value(stack) else {

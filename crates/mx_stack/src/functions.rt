@@ -29,7 +29,10 @@ pub fn call_function(
     function: Builtin,
     arguments: &[Value],
 ) -> Went
-    ensures came { IfSome (done result) (λ r. (h : Home) (line : ℕ) (way : Place) (back : Again) → call_next h way (Function function) arguments.now line back (answered stack.old.top) ≡ went_as h line r stack.new.top) }
+    ensures came { IfSome (done result)
+        (λ r. (h : Home) (line : ℕ) (way : Place) (back : Again) →
+        call_next h way (Function function) arguments.now line back (answered stack.old.top)
+        ≡ went_as h line r stack.new.top) }
     ensures below { OnSome (done result) (stack.new.below ≡ stack.old.below) }
 {
     leave_given(stack, apply(alloc, function.op(), arguments))
@@ -42,7 +45,8 @@ pub fn bind_arguments(
     params: &[Param],
     arguments: Items<Value>,
 ) -> Result<Items<Value>, OpRefusal>
-    ensures { (h : Home) (line : ℕ) (to : Many Values → Next) → Continues result h line to (arguments_next h params.now arguments line to) }
+    ensures { (h : Home) (line : ℕ) (to : Many Values → Next) →
+        Continues result h line to (arguments_next h params.now arguments line to) }
 {
     if !are_plain(&arguments) {
         return Err(OpRefusal::Fault(FaultKind::TypeMismatch));

@@ -24,7 +24,8 @@ use std::alloc::{AllocError, Global};
 /// The items that are still to come.
 #[inline(always)]
 fn pop_coming(stack: &mut Stack) -> Result<Coming, AllocError>
-    ensures { IfOk result (λ vs. stack.old ≡ on_top (with_slot (law.Items vs) stack.new.top) stack.new) }
+    ensures { IfOk result
+        (λ vs. stack.old ≡ on_top (with_slot (law.Items vs) stack.new.top) stack.new) }
 {
     match stack.pop() {
         Some(Slot::Items(coming)) => Ok(coming),
@@ -35,7 +36,8 @@ fn pop_coming(stack: &mut Stack) -> Result<Coming, AllocError>
 /// What a generator made so far.
 #[inline(always)]
 fn pop_collected(stack: &mut Stack) -> Result<Items<Value>, AllocError>
-    ensures { IfOk result (λ vs. stack.old ≡ on_top (with_slot (law.Collected vs) stack.new.top) stack.new) }
+    ensures { IfOk result
+        (λ vs. stack.old ≡ on_top (with_slot (law.Collected vs) stack.new.top) stack.new) }
 {
     match stack.pop() {
         Some(Slot::Collected(made)) => Ok(made),
@@ -87,7 +89,9 @@ struct Generator {
 
 #[inline(always)]
 fn pop_generator(stack: &mut Stack) -> Result<Generator, AllocError>
-    ensures { IfOk result (λ g. stack.old ≡ on_top (with_generator (callee_of g.callee) g.made g.coming stack.new.top) stack.new) }
+    ensures { IfOk result
+        (λ g. stack.old
+        ≡ on_top (with_generator (callee_of g.callee) g.made g.coming stack.new.top) stack.new) }
 {
     let coming = pop_coming(stack)?;
     let made = pop_collected(stack)?;
@@ -102,7 +106,12 @@ fn pop_generator(stack: &mut Stack) -> Result<Generator, AllocError>
 /// The generator goes on so many instructions back.
 #[inline(always)]
 fn resume(stack: &mut Stack, generator: Generator, count: usize) -> Result<(), AllocError>
-    ensures { OnOk result (stack.new ≡ on_top (at_back count (with_generator (callee_of generator.callee) generator.made generator.coming stack.old.top)) stack.old) }
+    ensures { OnOk result
+        (stack.new
+        ≡ on_top
+        (at_back count
+        (with_generator
+        (callee_of generator.callee) generator.made generator.coming stack.old.top)) stack.old) }
 {
     let Generator {
         callee,
@@ -119,7 +128,13 @@ fn resume(stack: &mut Stack, generator: Generator, count: usize) -> Result<(), A
 /// What comes of a generator that goes on so many instructions back.
 #[inline(always)]
 fn go_on(stack: &mut Stack, generator: Generator, count: usize) -> Went
-    ensures { IfSome (done result) (λ r. (r ≡ Went.On) × (stack.new ≡ on_top (at_back count (with_generator (callee_of generator.callee) generator.made generator.coming stack.old.top)) stack.old)) }
+    ensures { IfSome (done result)
+        (λ r. (r ≡ Went.On)
+        × (stack.new
+        ≡ on_top
+        (at_back count
+        (with_generator
+        (callee_of generator.callee) generator.made generator.coming stack.old.top)) stack.old)) }
 {
     match resume(stack, generator, count) {
         Ok(()) => Went::On,

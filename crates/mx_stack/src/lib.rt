@@ -1,20 +1,18 @@
 //! The stack on which formulas run, and what each instruction does to it.
 #![tactic(auto)]
 
-pub mod ahead;
 pub mod callee;
-mod displays;
+pub mod displays;
 pub mod functions;
-mod generators;
-mod jumps;
-mod operators;
-mod plain;
+pub mod generators;
+pub mod jumps;
+pub mod operators;
 pub mod rest;
 pub mod returns;
 pub mod slot;
 pub mod stack;
-mod taking;
+pub mod taking;
 mod tuples;
-mod values;
+pub mod values;
 pub mod walks;
 pub mod went;

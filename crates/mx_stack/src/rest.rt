@@ -38,7 +38,8 @@ impl Coming {
     /// Takes the next item.
     #[inline(always)]
     pub fn next(&mut self) -> Option<Value>
-        ensures { MatchOption result ((self.old ≡ []) × (self.new ≡ [])) (λ v. self.old ≡ v ∷ self.new) }
+        ensures { MatchOption result ((self.old ≡ []) × (self.new ≡ []))
+            (λ v. self.old ≡ v ∷ self.new) }
     {
         self.items.pop()
     }

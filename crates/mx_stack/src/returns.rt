@@ -23,7 +23,9 @@ pub enum Returned {
 
 /// Ends the run with a value.
 pub fn return_value(stack: &mut Stack) -> Result<Returned, AllocError>
-    ensures came { IfOk result (λ r. (h : Home) (line : ℕ) → next_of h act.Return line stack.old.top ≡ End (outcome_of h (returned_of r))) }
+    ensures came { IfOk result
+        (λ r. (h : Home) (line : ℕ) →
+        next_of h act.Return line stack.old.top ≡ End (outcome_of h (returned_of r))) }
     ensures below { OnOk result (stack.new.below ≡ stack.old.below) }
 {
     let value = pop_value(stack)?;
@@ -32,7 +34,9 @@ pub fn return_value(stack: &mut Stack) -> Result<Returned, AllocError>
 
 /// Ends the run with a display.
 pub fn return_display(stack: &mut Stack) -> Result<Returned, AllocError>
-    ensures came { IfOk result (λ r. (h : Home) (line : ℕ) → next_of h act.ReturnDisplay line stack.old.top ≡ End (outcome_of h (returned_of r))) }
+    ensures came { IfOk result
+        (λ r. (h : Home) (line : ℕ) →
+        next_of h act.ReturnDisplay line stack.old.top ≡ End (outcome_of h (returned_of r))) }
     ensures below { OnOk result (stack.new.below ≡ stack.old.below) }
 {
     match stack.pop() {

@@ -82,7 +82,8 @@ impl Stack {
     /// Takes the topmost slot of the run on top.
     #[inline(always)]
     pub fn pop(&mut self) -> Option<Slot>
-        ensures { MatchOption result ((self.old.top.stack ≡ []) × (self.new ≡ self.old)) (λ x. self.old ≡ on_top (with_slot (told x) self.new.top) self.new) }
+        ensures { MatchOption result ((self.old.top.stack ≡ []) × (self.new ≡ self.old))
+            (λ x. self.old ≡ on_top (with_slot (told x) self.new.top) self.new) }
     {
         if self.slots.len() <= self.base {
             return None;
@@ -102,7 +103,8 @@ impl Stack {
     /// Puts a slot on the run on top, which goes on behind its instruction.
     #[inline(always)]
     pub fn leave(&mut self, slot: Slot) -> Result<(), AllocError>
-        ensures { OnOk result (self.new ≡ on_top (at_next (with_slot (told slot) self.old.top)) self.old) }
+        ensures { OnOk result
+            (self.new ≡ on_top (at_next (with_slot (told slot) self.old.top)) self.old) }
     {
         self.push(slot)?;
         self.advance()
@@ -185,7 +187,9 @@ impl Stack {
         arguments: &[Value],
         size: usize,
     ) -> Result<(), AllocError>
-        ensures { OnOk result (self.new ≡ record { top = state 0 [] (begun size arguments.now); below = all_of self.old }) }
+        ensures { OnOk result
+            (self.new
+            ≡ record { top = state 0 [] (begun size arguments.now); below = all_of self.old }) }
     {
         let floor = self.locals.len();
         push_locals(alloc, &mut self.locals, arguments, size)?;
@@ -197,7 +201,9 @@ impl Stack {
 
     /// The run on top is over, and the one at this place, which is within what stands below, goes on.
     pub fn go_back(&mut self, place: Place)
-        ensures { place.base ≤ length self.old.below.slots → place.floor ≤ length self.old.below.locals → self.new ≡ part_of place.pc place.base place.floor self.old.below }
+        ensures { place.base ≤ length self.old.below.slots →
+            place.floor ≤ length self.old.below.locals →
+            self.new ≡ part_of place.pc place.base place.floor self.old.below }
     {
         self.slots.truncate(self.base);
         self.locals.truncate(self.floor);

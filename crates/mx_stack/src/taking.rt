@@ -28,7 +28,8 @@ pub fn pop_value(stack: &mut Stack) -> Result<Value, AllocError>
 /// The two topmost values, the lower one first.
 #[inline(always)]
 pub fn pop_two(stack: &mut Stack) -> Result<(Value, Value), AllocError>
-    ensures { IfOk result (λ p. stack.old ≡ on_top (with_value p.1 (with_value p.0 stack.new.top)) stack.new) }
+    ensures { IfOk result
+        (λ p. stack.old ≡ on_top (with_value p.1 (with_value p.0 stack.new.top)) stack.new) }
 {
     let right = pop_value(stack)?;
     let left = pop_value(stack)?;
@@ -41,8 +42,12 @@ pub fn pop_values(
     stack: &mut Stack,
     count: usize,
 ) -> Result<Items<Value>, AllocError>
-    ensures taken { IfOk result (λ values. (go : Many Values → Many Slots → Next) → on_many count [] stack.old.top.stack go ≡ go values stack.new.top.stack) }
-    ensures rest { OnOk result (stack.new ≡ on_top (state stack.old.top.pc stack.new.top.stack stack.old.top.locals) stack.old) }
+    ensures taken { IfOk result
+        (λ values. (go : Many Values → Many Slots → Next) →
+        on_many count [] stack.old.top.stack go ≡ go values stack.new.top.stack) }
+    ensures rest { OnOk result
+        (stack.new
+        ≡ on_top (state stack.old.top.pc stack.new.top.stack stack.old.top.locals) stack.old) }
 {
     let mut values = Vec::new(alloc);
     for _ in 0..count {
@@ -55,7 +60,12 @@ pub fn pop_values(
 /// The run goes on with one more slot.
 #[inline(always)]
 pub fn leave(stack: &mut Stack, slot: Slot) -> Went
-    ensures { IfSome (done result) (λ r. (r ≡ Went.On) × (stack.new ≡ on_top (state (stack.old.top.pc + 1) (told slot ∷ stack.old.top.stack) stack.old.top.locals) stack.old)) }
+    ensures { IfSome (done result)
+        (λ r. (r ≡ Went.On)
+        × (stack.new
+        ≡ on_top
+        (state (stack.old.top.pc + 1)
+        (told slot ∷ stack.old.top.stack) stack.old.top.locals) stack.old)) }
 {
     match stack.leave(slot) {
         Ok(()) => Went::On,
@@ -66,7 +76,11 @@ pub fn leave(stack: &mut Stack, slot: Slot) -> Went
 /// The run goes on behind its instruction.
 #[inline(always)]
 pub fn step_on(stack: &mut Stack) -> Went
-    ensures { IfSome (done result) (λ r. (r ≡ Went.On) × (stack.new ≡ on_top (state (stack.old.top.pc + 1) stack.old.top.stack stack.old.top.locals) stack.old)) }
+    ensures { IfSome (done result)
+        (λ r. (r ≡ Went.On)
+        × (stack.new
+        ≡ on_top
+        (state (stack.old.top.pc + 1) stack.old.top.stack stack.old.top.locals) stack.old)) }
 {
     match stack.advance() {
         Ok(()) => Went::On,
@@ -77,7 +91,8 @@ pub fn step_on(stack: &mut Stack) -> Went
 /// The run passes so many instructions.
 #[inline(always)]
 pub fn pass(stack: &mut Stack, count: usize) -> Went
-    ensures { IfSome (done result) (λ r. (r ≡ Went.On) × (stack.new ≡ on_top (at_past count stack.old.top) stack.old)) }
+    ensures { IfSome (done result)
+        (λ r. (r ≡ Went.On) × (stack.new ≡ on_top (at_past count stack.old.top) stack.old)) }
 {
     match stack.pass(count) {
         Ok(()) => Went::On,
@@ -88,7 +103,9 @@ pub fn pass(stack: &mut Stack, count: usize) -> Went
 /// The run passes so many instructions with one more value.
 #[inline(always)]
 pub fn pass_with(stack: &mut Stack, count: usize, value: Value) -> Went
-    ensures { IfSome (done result) (λ r. (r ≡ Went.On) × (stack.new ≡ on_top (at_past count (with_value value stack.old.top)) stack.old)) }
+    ensures { IfSome (done result)
+        (λ r. (r ≡ Went.On)
+        × (stack.new ≡ on_top (at_past count (with_value value stack.old.top)) stack.old)) }
 {
     let Ok(()) = stack.push(Slot::Holds(value)) else {
         return Went::NoMemory;

@@ -21,7 +21,12 @@ use std::alloc::Global;
 /// The run goes on with the value that was computed, or ends in the fault that came of it.
 #[inline(always)]
 pub fn leave_made(stack: &mut Stack, made: Result<Value, FaultKind>) -> Went
-    ensures came { IfSome (done result) (λ r. (h : Home) (line : ℕ) → computed_next h made line (λ x. On (state (stack.old.top.pc + 1) (Holds x ∷ stack.old.top.stack) stack.old.top.locals)) ≡ went_as h line r stack.new.top) }
+    ensures came { IfSome (done result)
+        (λ r. (h : Home) (line : ℕ) →
+        computed_next h made line
+        (λ x. On
+        (state (stack.old.top.pc + 1) (Holds x ∷ stack.old.top.stack) stack.old.top.locals))
+        ≡ went_as h line r stack.new.top) }
     ensures below { OnSome (done result) (stack.new.below ≡ stack.old.below) }
 {
     match made {
@@ -48,7 +53,8 @@ fn copy_in_place(value: &Value) -> Option<Value>
 /// Leaves the value at this place of the code's constants.
 #[inline(always)]
 pub fn constant(alloc: Global, code: &Code, stack: &mut Stack, place: usize) -> Went
-    ensures came { Came (act.Const (get_or code.now.constants place Nothing)) result stack.old.top stack.new.top }
+    ensures came { Came (act.Const (get_or code.now.constants place Nothing)) result stack.old.top
+        stack.new.top }
     ensures below { OnSome (done result) (stack.new.below ≡ stack.old.below) }
 {
     let Some(value) = code.constants.get(place) else {

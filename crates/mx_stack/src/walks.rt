@@ -55,9 +55,13 @@ pub struct Call {
 /// The walk of the instruction, where one is under way.
 #[inline(always)]
 pub fn pop_way(stack: &mut Stack) -> Result<Option<Way>, AllocError>
-    ensures taken { IfOk result (λ way. (go : Place → Many Slots → Next) → on_walk stack.old.top.stack go ≡ go (place_of way) stack.new.top.stack) }
+    ensures taken { IfOk result
+        (λ way. (go : Place → Many Slots → Next) →
+        on_walk stack.old.top.stack go ≡ go (place_of way) stack.new.top.stack) }
     ensures below { OnOk result (stack.new.top.stack ≡ below_way stack.old.top.stack) }
-    ensures rest { OnOk result (stack.new ≡ on_top (state stack.old.top.pc stack.new.top.stack stack.old.top.locals) stack.old) }
+    ensures rest { OnOk result
+        (stack.new
+        ≡ on_top (state stack.old.top.pc stack.new.top.stack stack.old.top.locals) stack.old) }
 {
     match stack.pop() {
         Some(Slot::Way(rest, came)) => Ok(Some(Way { rest, came })),
@@ -71,8 +75,14 @@ pub fn pop_way(stack: &mut Stack) -> Result<Option<Way>, AllocError>
 
 /// What an attribute takes.
 pub fn pop_access(stack: &mut Stack) -> Result<Access, AllocError>
-    ensures came { IfOk result (λ a. (h : Home) (line : ℕ) (name : Bytes) → next_of h (act.Attr name) line stack.old.top ≡ attribute_next h (place_of a.way) (out-Value a.of) name line (again stack.old.top) (answered stack.new.top)) }
-    ensures rest { OnOk result (stack.new ≡ on_top (state stack.old.top.pc stack.new.top.stack stack.old.top.locals) stack.old) }
+    ensures came { IfOk result
+        (λ a. (h : Home) (line : ℕ) (name : Bytes) →
+        next_of h (act.Attr name) line stack.old.top
+        ≡ attribute_next h (place_of a.way) (out-Value a.of) name line (again stack.old.top)
+        (answered stack.new.top)) }
+    ensures rest { OnOk result
+        (stack.new
+        ≡ on_top (state stack.old.top.pc stack.new.top.stack stack.old.top.locals) stack.old) }
 {
     let way = pop_way(stack)?;
     let of = pop_value(stack)?;
@@ -85,8 +95,14 @@ pub fn pop_subscript(
     stack: &mut Stack,
     count: usize,
 ) -> Result<Subscript, AllocError>
-    ensures came { IfOk result (λ a. (h : Home) (line : ℕ) → next_of h (act.Index count) line stack.old.top ≡ index_next h (place_of a.way) a.of a.arguments line (again stack.old.top) (answered stack.new.top)) }
-    ensures rest { OnOk result (stack.new ≡ on_top (state stack.old.top.pc stack.new.top.stack stack.old.top.locals) stack.old) }
+    ensures came { IfOk result
+        (λ a. (h : Home) (line : ℕ) →
+        next_of h (act.Index count) line stack.old.top
+        ≡ index_next h (place_of a.way) a.of a.arguments line (again stack.old.top)
+        (answered stack.new.top)) }
+    ensures rest { OnOk result
+        (stack.new
+        ≡ on_top (state stack.old.top.pc stack.new.top.stack stack.old.top.locals) stack.old) }
 {
     let way = pop_way(stack)?;
     let arguments = pop_values(alloc, stack, count)?;
@@ -96,8 +112,14 @@ pub fn pop_subscript(
 
 /// What a call with so many arguments takes.
 pub fn pop_call(alloc: Global, stack: &mut Stack, count: usize) -> Result<Call, AllocError>
-    ensures came { IfOk result (λ c. (h : Home) (line : ℕ) → next_of h (act.Call count) line stack.old.top ≡ call_next h (place_of c.way) (callee_of c.callee) c.arguments line (again stack.old.top) (answered stack.new.top)) }
-    ensures rest { OnOk result (stack.new ≡ on_top (state stack.old.top.pc stack.new.top.stack stack.old.top.locals) stack.old) }
+    ensures came { IfOk result
+        (λ c. (h : Home) (line : ℕ) →
+        next_of h (act.Call count) line stack.old.top
+        ≡ call_next h (place_of c.way) (callee_of c.callee) c.arguments line (again stack.old.top)
+        (answered stack.new.top)) }
+    ensures rest { OnOk result
+        (stack.new
+        ≡ on_top (state stack.old.top.pc stack.new.top.stack stack.old.top.locals) stack.old) }
 {
     let way = pop_way(stack)?;
     let arguments = pop_values(alloc, stack, count)?;

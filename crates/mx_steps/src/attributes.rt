@@ -37,7 +37,9 @@ pub fn run_attribute(
     name: &Label,
     seen: &mut Seen,
 ) -> Result<Called, AllocError>
-    ensures came { IfOk result (λ c. LeadsTo (key_result world.now) (act.Attr name.now) c stack.old.top stack.new.top seen.old seen.new) }
+    ensures came { IfOk result
+        (λ c. LeadsTo (key_result world.now)
+        (act.Attr name.now) c stack.old.top stack.new.top seen.old seen.new) }
     ensures below { OnOk result (stack.new.below ≡ stack.old.below) }
 {
     let way = pop_way(stack)?;

@@ -52,7 +52,9 @@ pub fn run_call(
     count: usize,
     seen: &mut Seen,
 ) -> Result<Called, AllocError>
-    ensures came { IfOk result (λ c. LeadsTo (key_result world.now) (act.Call count) c stack.old.top stack.new.top seen.old seen.new) }
+    ensures came { IfOk result
+        (λ c. LeadsTo (key_result world.now)
+        (act.Call count) c stack.old.top stack.new.top seen.old seen.new) }
     ensures below { OnOk result (stack.new.below ≡ stack.old.below) }
 {
     let way = pop_way(stack)?;
@@ -87,7 +89,9 @@ pub fn run_index(
     count: usize,
     seen: &mut Seen,
 ) -> Result<Called, AllocError>
-    ensures came { IfOk result (λ c. LeadsTo (key_result world.now) (act.Index count) c stack.old.top stack.new.top seen.old seen.new) }
+    ensures came { IfOk result
+        (λ c. LeadsTo (key_result world.now)
+        (act.Index count) c stack.old.top stack.new.top seen.old seen.new) }
     ensures below { OnOk result (stack.new.below ≡ stack.old.below) }
 {
     let way = pop_way(stack)?;

@@ -25,7 +25,12 @@ use std::alloc::Global;
 /// The run goes on behind its instruction, with one more slot.
 #[inline(always)]
 pub fn leave(stack: &mut Stack, slot: Slot) -> Went
-    ensures { IfSome (done result) (λ w. (w ≡ Went.On) × (stack.new ≡ on_top (state (stack.old.top.pc + 1) (told slot ∷ stack.old.top.stack) stack.old.top.locals) stack.old)) }
+    ensures { IfSome (done result)
+        (λ w. (w ≡ Went.On)
+        × (stack.new
+        ≡ on_top
+        (state (stack.old.top.pc + 1)
+        (told slot ∷ stack.old.top.stack) stack.old.top.locals) stack.old)) }
 {
     match stack.leave(slot) {
         Ok(()) => Went::On,
@@ -42,7 +47,8 @@ pub fn run_name(
     name: &Label,
     seen: &mut Seen,
 ) -> Went
-    ensures came { Goes (key_result world.now) (home_of home.now) (act.Name name.now) result stack.old.top stack.new.top seen.old seen.new }
+    ensures came { Goes (key_result world.now) (home_of home.now)
+        (act.Name name.now) result stack.old.top stack.new.top seen.old seen.new }
     ensures below { OnSome (done result) (stack.new.below ≡ stack.old.below) }
 {
     match seek_name(alloc, world, &home.space, name, seen) {
@@ -62,7 +68,8 @@ pub fn run_callee(
     name: &Label,
     seen: &mut Seen,
 ) -> Went
-    ensures came { Goes (key_result world.now) (home_of home.now) (act.Callee name.now) result stack.old.top stack.new.top seen.old seen.new }
+    ensures came { Goes (key_result world.now) (home_of home.now)
+        (act.Callee name.now) result stack.old.top stack.new.top seen.old seen.new }
     ensures below { OnSome (done result) (stack.new.below ≡ stack.old.below) }
 {
     match seek_name(alloc, world, &home.space, name, seen) {

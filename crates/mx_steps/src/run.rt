@@ -12,12 +12,12 @@ use crate::instructions::instruction_at;
 use crate::laws::laws;
 use crate::step::step;
 use crate::stepped::{Resume, Stop};
+use mx_ahead::ahead::{Ahead, run_ahead};
 use mx_code::code::Code;
 use mx_edit::reply::Reply;
 use mx_names::ending::Ending;
 use mx_names::home::Home;
 use mx_reading::seen::Seen;
-use mx_stack::ahead::{Ahead, run_ahead};
 use mx_stack::slot::Slot;
 use mx_stack::stack::Stack;
 use mx_value::namespace::Namespace;
@@ -34,7 +34,10 @@ pub fn run_code(
     stack: &mut Stack,
     seen: &mut Seen,
 ) -> Result<Stop, AllocError>
-    ensures runs { IfOk result (λ stop. (run : Run) → Does (told code.now) (home_of home.now) stack.old.top run → RunsTo (model_of world.now) (told code.now) (home_of home.now) run seen.old seen.new stop stack.new.top) }
+    ensures runs { IfOk result
+        (λ stop. (run : Run) → Does (told code.now) (home_of home.now) stack.old.top run →
+        RunsTo (model_of world.now) (told code.now)
+        (home_of home.now) run seen.old seen.new stop stack.new.top) }
     ensures below { OnOk result (stack.new.below ≡ stack.old.below) }
 {
     laws();

@@ -36,7 +36,11 @@ pub fn step(
     stack: &mut Stack,
     seen: &mut Seen,
 ) -> Result<Option<Stop>, AllocError>
-    ensures came { IfOk result (λ stop. passed (key_result world.now) (next_of (home_of home.now) instr.action instr.line stack.old.top) seen.old ≡ (stepped_as (home_of home.now) stop stack.new.top, seen.new)) }
+    ensures came { IfOk result
+        (λ stop.
+        passed (key_result world.now)
+        (next_of (home_of home.now) instr.action instr.line stack.old.top) seen.old
+        ≡ (stepped_as (home_of home.now) stop stack.new.top, seen.new)) }
     ensures below { OnOk result (stack.new.below ≡ stack.old.below) }
 {
     let line = instr.line;
@@ -69,7 +73,10 @@ pub fn step(
 
 /// The end of a run with the value that its formula returns.
 fn end_value(alloc: Global, home: &Home, stack: &mut Stack) -> Result<Ending, AllocError>
-    ensures came { IfOk result (λ e. (line : ℕ) → next_of (home_of home.now) act.Return line stack.old.top ≡ End (ending_of home.now.node e)) }
+    ensures came { IfOk result
+        (λ e. (line : ℕ) →
+        next_of (home_of home.now) act.Return line stack.old.top
+        ≡ End (ending_of home.now.node e)) }
     ensures below { OnOk result (stack.new.below ≡ stack.old.below) }
 {
     let returned = return_value(stack)?;
@@ -78,7 +85,10 @@ fn end_value(alloc: Global, home: &Home, stack: &mut Stack) -> Result<Ending, Al
 
 /// The end of a run with the display that its formula returns.
 fn end_display(alloc: Global, home: &Home, stack: &mut Stack) -> Result<Ending, AllocError>
-    ensures came { IfOk result (λ e. (line : ℕ) → next_of (home_of home.now) act.ReturnDisplay line stack.old.top ≡ End (ending_of home.now.node e)) }
+    ensures came { IfOk result
+        (λ e. (line : ℕ) →
+        next_of (home_of home.now) act.ReturnDisplay line stack.old.top
+        ≡ End (ending_of home.now.node e)) }
     ensures below { OnOk result (stack.new.below ≡ stack.old.below) }
 {
     let returned = return_display(stack)?;
@@ -88,7 +98,9 @@ fn end_display(alloc: Global, home: &Home, stack: &mut Stack) -> Result<Ending, 
 /// Where a run stops behind an instruction at this line, if it does.
 #[inline(always)]
 fn stop_after(went: Went, line: u32) -> Result<Option<Stop>, AllocError>
-    ensures { IfOk result (λ stop. IsSome (done went) × ((h : Where) (s : State) → went_as h line went s ≡ stepped_as h stop s)) }
+    ensures { IfOk result
+        (λ stop. IsSome (done went)
+        × ((h : Where) (s : State) → went_as h line went s ≡ stepped_as h stop s)) }
 {
     match went {
         Went::On => return Ok(None),
@@ -99,7 +111,9 @@ fn stop_after(went: Went, line: u32) -> Result<Option<Stop>, AllocError>
 
 /// Where a run stops whose instruction at this line led to something, if it does.
 fn stop_at(stack: &mut Stack, called: Called, line: u32) -> Result<Option<Stop>, AllocError>
-    ensures came { IfOk result (λ stop. (h : Where) → led_as h line called stack.old.top ≡ stepped_as h stop stack.new.top) }
+    ensures came { IfOk result
+        (λ stop. (h : Where) →
+        led_as h line called stack.old.top ≡ stepped_as h stop stack.new.top) }
     ensures below { OnOk result (stack.new.below ≡ stack.old.below) }
 {
     match called {

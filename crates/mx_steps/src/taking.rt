@@ -28,8 +28,11 @@ pub fn pop_values(
     stack: &mut Stack,
     count: usize,
 ) -> Result<Items<Value>, AllocError>
-    ensures taken { IfOk result (λ values. (go : Many Values → Many Slots → Next) → on_many count [] stack.old.top.stack go ≡ go values stack.new.top.stack) }
-    ensures stood { IfOk result (λ values. stack.old ≡ on_top (with_values values stack.new.top) stack.new) }
+    ensures taken { IfOk result
+        (λ values. (go : Many Values → Many Slots → Next) →
+        on_many count [] stack.old.top.stack go ≡ go values stack.new.top.stack) }
+    ensures stood { IfOk result
+        (λ values. stack.old ≡ on_top (with_values values stack.new.top) stack.new) }
 {
     let mut values = Vec::with_capacity(alloc, count)?;
     for _ in 0..count {

@@ -35,7 +35,8 @@ pub fn bind(
     args: Items<Value>,
 ) -> Result<Items<Value>, BindRefusal>
     ensures full { IfOk result (λ full. full ≡ bound params.now args) }
-    ensures wrong_count { IsErrOf result BindRefusal.WrongCount ↔ IsTrue (is_wrong_count params.now (length args)) }
+    ensures wrong_count { IsErrOf result BindRefusal.WrongCount ↔ IsTrue
+        (is_wrong_count params.now (length args)) }
 {
     let count = args.len();
     if is_wrong_count(params, count) {

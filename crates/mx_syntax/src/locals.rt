@@ -51,7 +51,8 @@ fn add_params(names: &mut Vec<Label>, params: &[Param]) -> Result<(), AllocError
 
 #[cycle(locals)]
 fn add_body(names: &mut Vec<Label>, body: &[Stmt]) -> Result<(), AllocError>
-    ensures { OnOk result (names.new.items ≡ add_all names.old.items (flat (map bound_by body.now))) }
+    ensures { OnOk result
+        (names.new.items ≡ add_all names.old.items (flat (map bound_by body.now))) }
 {
     for stmt in body {
         add_bound(names, stmt)?;
@@ -86,7 +87,8 @@ fn add_bound(names: &mut Vec<Label>, stmt: &Stmt) -> Result<(), AllocError>
 
 #[cycle(locals)]
 fn add_arms(names: &mut Vec<Label>, arms: &[IfArm]) -> Result<(), AllocError>
-    ensures { OnOk result (names.new.items ≡ add_all names.old.items (flat (map arm_bound arms.now))) }
+    ensures { OnOk result
+        (names.new.items ≡ add_all names.old.items (flat (map arm_bound arms.now))) }
 {
     for arm in arms {
         add_body(names, arm.body.as_slice())?;

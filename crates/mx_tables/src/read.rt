@@ -70,7 +70,9 @@ fn read_whole(alloc: Global, records: &Records) -> Result<Table, TableRefusal>
 fn read_header(alloc: Global, header: &ByteRecord) -> Result<Vec<Label>, TableRefusal>
     ensures names { IfOk result (λ names. names.items ≡ fields_of header.now) }
     ensures printable { IfOk result (λ names. are_printable (fields_of header.now) ≡ true) }
-    ensures err { IfErr result (λ e. (e ≡ TableRefusal.NoMemory) ⊎ (e ≡ TableRefusal.BadRow 0) × (are_printable (fields_of header.now) ≡ false)) }
+    ensures err { IfErr result
+        (λ e. (e ≡ TableRefusal.NoMemory) ⊎ (e ≡ TableRefusal.BadRow 0)
+        × (are_printable (fields_of header.now) ≡ false)) }
 {
     let mut names = Vec::new(alloc);
     for place in 0..header.len() {
@@ -115,9 +117,12 @@ fn read_rows(
 fn read_front(alloc: Global, count: usize, records: &[ByteRecord]) -> Result<Front, AllocError>
     requires narrow { count ≤ 120 }
     requires few { length records.now ≤ 10000 }
-    ensures keys { IfOk result (λ front. front.keys.items ≡ (front_said count 1 (map fields_of records.now)).keys) }
-    ensures rows { IfOk result (λ front. front.rows.items ≡ (front_said count 1 (map fields_of records.now)).rows) }
-    ensures trouble { IfOk result (λ front. front.trouble ≡ (front_said count 1 (map fields_of records.now)).trouble) }
+    ensures keys { IfOk result
+        (λ front. front.keys.items ≡ (front_said count 1 (map fields_of records.now)).keys) }
+    ensures rows { IfOk result
+        (λ front. front.rows.items ≡ (front_said count 1 (map fields_of records.now)).rows) }
+    ensures trouble { IfOk result
+        (λ front. front.trouble ≡ (front_said count 1 (map fields_of records.now)).trouble) }
 {
     let mut keys = Vec::new(alloc);
     let mut rows = Vec::new(alloc);
@@ -154,8 +159,12 @@ fn read_record(
     fields: &ByteRecord,
 ) -> Result<Row, TableRefusal>
     requires { count ≤ 120 }
-    ensures row { IfOk result (λ row. spec.record_said count number (fields_of fields.now) ≡ Ok (record { key = row.key; numbers = row.numbers })) }
-    ensures err { IfErr result (λ e. (e ≡ TableRefusal.NoMemory) ⊎ (e ≢ TableRefusal.NoMemory) × (spec.record_said count number (fields_of fields.now) ≡ Err e)) }
+    ensures row { IfOk result
+        (λ row. spec.record_said count number (fields_of fields.now)
+        ≡ Ok (record { key = row.key; numbers = row.numbers })) }
+    ensures err { IfErr result
+        (λ e. (e ≡ TableRefusal.NoMemory) ⊎ (e ≢ TableRefusal.NoMemory)
+        × (spec.record_said count number (fields_of fields.now) ≡ Err e)) }
 {
     if fields.len() != count {
         return Err(TableRefusal::BadRow(number));
@@ -177,8 +186,10 @@ fn read_numbers(
     alloc: Global,
     fields: &ByteRecord,
 ) -> Result<Result<Items<Value>, usize>, AllocError>
-    ensures said { IfOk result (λ said. said ≡ spec.numbers_said 1 (drop 1 (fields_of fields.now))) }
-    ensures within { IfOk result (λ said. IfErr said (λ column. column < length (fields_of fields.now))) }
+    ensures said { IfOk result
+        (λ said. said ≡ spec.numbers_said 1 (drop 1 (fields_of fields.now))) }
+    ensures within { IfOk result
+        (λ said. IfErr said (λ column. column < length (fields_of fields.now))) }
 {
     let mut numbers = Items::new(alloc);
     for column in 1..fields.len() {

@@ -29,7 +29,11 @@ pub fn begin<L: Ledger>(
     requires sound { IsSound memo.old runs.old.frames.items (frame_nodes runs.old.frames.items) }
     requires new { IsNew memo.old.held node }
     requires apart { Has memo.old.begun node → ⊥ }
-    ensures begins { (q : Work) → IsAwaited (model_of world.now) q memo.old runs.old.stack runs.old.frames.items node steps.old → Begins (model_of world.now) q memo.new runs.new.stack runs.new.frames.items (first_of runs.old.frames.items node) steps.new result }
+    ensures begins { (q : Work) →
+        IsAwaited
+        (model_of world.now) q memo.old runs.old.stack runs.old.frames.items node steps.old →
+        Begins (model_of world.now) q memo.new runs.new.stack runs.new.frames.items
+        (first_of runs.old.frames.items node) steps.new result }
     ensures sound { IsBegun memo.new runs.new.frames.items result }
     ensures held { memo.new.held ≡ memo.old.held }
     ensures last { memo.new.last ≡ memo.old.last }

@@ -25,7 +25,11 @@ pub fn give(
     runs: &mut Runs,
 ) -> Result<Progress, EvalRefusal>
     requires sound { IsSoundPaused memo.old runs.old.frames.items (stretch_giving current reply) }
-    ensures flew { (q : Work) (now : ℕ) → IsPaused (model_of world.now) q memo.old runs.old.stack runs.old.frames.items (stretch_giving current reply) now → Flew (model_of world.now) q memo.new runs.new.stack runs.new.frames.items (first_of runs.old.frames.items current.node) now result }
+    ensures flew { (q : Work) (now : ℕ) →
+        IsPaused (model_of world.now) q memo.old runs.old.stack runs.old.frames.items
+        (stretch_giving current reply) now →
+        Flew (model_of world.now) q memo.new runs.new.stack runs.new.frames.items
+        (first_of runs.old.frames.items current.node) now result }
     ensures sound { IsSoundAfter memo.new runs.new.frames.items result }
     ensures grown { (start : Memory) → HasGrown start memo.old → HasGrown start memo.new }
     ensures frames { length runs.new.frames.items ≤ length runs.old.frames.items }

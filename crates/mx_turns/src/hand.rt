@@ -20,8 +20,14 @@ pub fn hand_down(
     given: Given,
     runs: &mut Runs,
 ) -> Result<Progress, AllocError>
-    ensures goes { (q : Work) (m : Memory) (now : ℕ) → IsAtHand m runs.old.frames.items given → IsHandedOver (model_of world.now) q m runs.old.stack.below runs.old.frames.items given.node given.reply now → GoesDown (model_of world.now) q m given runs.new.stack runs.new.frames.items (first_of runs.old.frames.items given.node) now result }
-    ensures sound { (m : Memory) → IsAtHand m runs.old.frames.items given → IsSound m runs.old.frames.items (frame_nodes runs.old.frames.items) → IsHandedDown m runs.new.frames.items given result }
+    ensures goes { (q : Work) (m : Memory) (now : ℕ) → IsAtHand m runs.old.frames.items given →
+        IsHandedOver
+        (model_of world.now) q m runs.old.stack.below runs.old.frames.items given.node given.reply
+        now → GoesDown (model_of world.now) q m given runs.new.stack runs.new.frames.items
+        (first_of runs.old.frames.items given.node) now result }
+    ensures sound { (m : Memory) → IsAtHand m runs.old.frames.items given →
+        IsSound m runs.old.frames.items (frame_nodes runs.old.frames.items) →
+        IsHandedDown m runs.new.frames.items given result }
     ensures frames { length runs.new.frames.items ≤ length runs.old.frames.items }
 {
     let Some(frame) = runs.frames.pop() else {

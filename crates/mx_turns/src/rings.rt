@@ -22,7 +22,8 @@ pub fn nodes_of(alloc: Global, frames: &[Frame]) -> Result<Items<Node>, AllocErr
 
 /// The frames from the one of this node on, where it has one.
 pub fn frames_from<'f>(frames: &'f [Frame], node: &Node) -> &'f [Frame]
-    ensures { Has (frame_nodes frames.now) node.now → IsFrom (frame_nodes frames.now) node.now (frame_nodes result.now) }
+    ensures { Has (frame_nodes frames.now) node.now →
+        IsFrom (frame_nodes frames.now) node.now (frame_nodes result.now) }
 {
     for at in 0..frames.len() {
         if *frames[at].current.node.get() == *node {

@@ -32,7 +32,10 @@ fn step<L: Ledger>(
     steps: &mut Steps<L>,
 ) -> Result<Progress, EvalRefusal>
     requires sound { IsSoundWith memo.old runs.old.frames.items running }
-    ensures flew { StepsTo (model_of setting.now.world.now) (within setting.now.limit setting.now.below) running (stage memo.old runs.old.stack runs.old.frames.items steps.old) (stage memo.new runs.new.stack runs.new.frames.items steps.new) result }
+    ensures flew { StepsTo (model_of setting.now.world.now)
+        (within setting.now.limit setting.now.below) running
+        (stage memo.old runs.old.stack runs.old.frames.items steps.old)
+        (stage memo.new runs.new.stack runs.new.frames.items steps.new) result }
     ensures sound { IsSoundAfter memo.new runs.new.frames.items result }
     ensures grown { (start : Memory) → HasGrown start memo.old → HasGrown start memo.new }
     ensures ticks { steps.old ≤ steps.new }
@@ -65,7 +68,9 @@ pub fn drive<L: Ledger>(
     requires sound { IsSound memo.old runs.old.frames.items (frame_nodes runs.old.frames.items) }
     requires new { IsNew memo.old.held node }
     requires apart { Has memo.old.begun node → ⊥ }
-    ensures drove { DrivesFrom (model_of setting.now.world.now) (within setting.now.limit setting.now.below) node (stage memo.old runs.old.stack runs.old.frames.items steps.old) memo.new steps.new result }
+    ensures drove { DrivesFrom (model_of setting.now.world.now)
+        (within setting.now.limit setting.now.below) node
+        (stage memo.old runs.old.stack runs.old.frames.items steps.old) memo.new steps.new result }
     ensures sound { IsDriven memo.new runs.new.frames.items result }
     ensures grown { (start : Memory) → HasGrown start memo.old → HasGrown start memo.new }
     ensures ticks { steps.old ≤ steps.new }
@@ -83,7 +88,9 @@ pub fn go_on<L: Ledger>(
     steps: &mut Steps<L>,
 ) -> Result<Given, EvalRefusal>
     requires sound { IsSoundWith memo.old runs.old.frames.items running }
-    ensures drove { DrivesOn (model_of setting.now.world.now) (within setting.now.limit setting.now.below) running (stage memo.old runs.old.stack runs.old.frames.items steps.old) memo.new steps.new result }
+    ensures drove { DrivesOn (model_of setting.now.world.now)
+        (within setting.now.limit setting.now.below) running
+        (stage memo.old runs.old.stack runs.old.frames.items steps.old) memo.new steps.new result }
     ensures sound { IsDriven memo.new runs.new.frames.items result }
     ensures grown { (start : Memory) → HasGrown start memo.old → HasGrown start memo.new }
     ensures ticks { steps.old ≤ steps.new }

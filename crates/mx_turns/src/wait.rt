@@ -23,10 +23,17 @@ pub fn wait(
     asked: Asked,
     runs: &mut Runs,
 ) -> Result<SharedNode, EvalRefusal>
-    ensures waited { (model : Models) (q : Work) (m : Memory) (now : ℕ) → InputsEnd model → AsksInOrder model → IsWithin q setting.now.limit setting.now.below → IsSoundPaused m runs.old.frames.items (stretch_asking current asked) → IsPaused model q m runs.old.stack runs.old.frames.items (stretch_asking current asked) now → Waited model q m runs.new.stack runs.new.frames.items (first_of runs.old.frames.items current.node) now result }
+    ensures waited { (model : Models) (q : Work) (m : Memory) (now : ℕ) → InputsEnd model →
+        AsksInOrder model → IsWithin q setting.now.limit setting.now.below →
+        IsSoundPaused m runs.old.frames.items (stretch_asking current asked) →
+        IsPaused model q m runs.old.stack runs.old.frames.items
+        (stretch_asking current asked) now →
+        Waited model q m runs.new.stack runs.new.frames.items
+        (first_of runs.old.frames.items current.node) now result }
     ensures node { IfOk result (λ n. n ≡ asked.node) }
     ensures begun { IfOk result (λ n. asked.is_begun ≡ false) }
-    ensures frames { IfOk result (λ n. length runs.new.frames.items + setting.now.below < setting.now.limit) }
+    ensures frames { IfOk result
+        (λ n. length runs.new.frames.items + setting.now.below < setting.now.limit) }
     ensures pushed { OnOk result (IsPushed current runs.old.frames.items runs.new.frames.items) }
     ensures stack { runs.new.stack ≡ runs.old.stack }
 {

@@ -123,7 +123,8 @@ impl Fixed {
     /// The one fault is ZeroDivision, exactly at the divisor 0.
     pub fn rem(self, other: Fixed) -> Result<Fixed, NumFault>
         ensures value { result ≡ fixed_rem self other }
-        ensures rest { IfOk result (λ r. (q : ℤ) × (self ≡ (q *ℤ other) +ℤ r) × IsFloor self other q) }
+        ensures rest { IfOk result
+            (λ r. (q : ℤ) × (self ≡ (q *ℤ other) +ℤ r) × IsFloor self other q) }
         ensures sign { IfOk result (LiesTowards other) }
     {
         if other.raw == 0 {

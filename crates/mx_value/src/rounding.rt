@@ -68,6 +68,7 @@ pub fn mod_floor(dividend: i128, divisor: i128) -> i128
 
 /// The rounded quotients are the only numbers with their properties.
 pub fn laws()
-    ensures one_half_even { (n d q r : ℤ) → d ≢ pos 0 → IsHalfEven n d q → IsHalfEven n d r → q ≡ r }
+    ensures one_half_even { (n d q r : ℤ) → d ≢ pos 0 → IsHalfEven n d q → IsHalfEven n d r →
+        q ≡ r }
     ensures one_floor { (n d q r : ℤ) → IsFloor n d q → IsFloor n d r → q ≡ r }
 {}

@@ -14,9 +14,8 @@ use Rattle.mx_vertices.specs.declared.slot.Watched.{Watched}
 use Rattle.mx_vertices.specs.declared.slot.Slot.TheVariants.{Free, Watch}
 use Rattle.mx_vertices.specs.Places.{slot_at, node_place, key_place, at, IsPlacedIn}
 use Rattle.mx_vertices.specs.Kept.{entries, IsNode, IsWhole}
-use Rattle.mx_vertices.proofs.Places.{Nodes, same_or, at_below}
+use Rattle.mx_vertices.proofs.Places.{Nodes, same_or, at_below, at_has}
 use Rattle.mx_vertices.proofs.Edges.{has_find}
-use Rattle.mx_vertices.proofs.Keeping.{at_has}
 use Rattle.mx_vertices.proofs.Pushing.{entries_live}
 
 -- a new vertex, for a key that is not there, stands at the last place

@@ -9,7 +9,7 @@ use Rattle.std.proofs.Math.ListN.{set, get_or-map}
 use Rattle.mx_graph.specs.declared.ids.NodeId.{NodeId}
 use Rattle.mx_vertices.specs.declared.slot.Slot.{Slot}
 use Rattle.mx_vertices.specs.declared.slot.Slot.TheVariants.{Free}
-use Rattle.mx_vertices.specs.Places.{slot_at, node_place, cleared, CanClear, at, IsPlacedIn, if_live, held_in, counts}
+use Rattle.mx_vertices.specs.Places.{slot_at, node_place, cleared, CanClear, at, IsPlacedIn, if_live, held_in, counts, Has}
 
 abbrev pub Nodes : Type 0
 Nodes = map.FinMap nat_cmp Bool
@@ -22,6 +22,11 @@ pub at_below : (list : List (Option NodeId)) (p : ℕ) (id : NodeId) → at list
 at_below [] p id e = let n : at [] p ≡ None = get_or_past {X = Option NodeId} [] p None (omega arith) in cc
 at_below (o ∷ list) zero id e = omega arith
 at_below (o ∷ list) (suc p) id e = let l = at_below list p id e in omega arith
+
+-- what is among these stands at some place
+pub at_has : (list : List (Option NodeId)) (id : NodeId) → Has list (Some id) → (p : ℕ) × (at list p ≡ Some id)
+at_has [] id h = absurd h
+at_has (o ∷ list) id h = elim h [ inl e ↦ (0, e) | inr i ↦ let r = at_has list id i in (suc r.0, r.1) ]
 
 at_set : (list : List (Option NodeId)) (k p : ℕ) → at list p ≡ None → at (set list k None) p ≡ None
 at_set list k p e =

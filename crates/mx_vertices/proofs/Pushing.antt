@@ -16,9 +16,8 @@ use Rattle.mx_vertices.specs.declared.slot.Watched.{Watched}
 use Rattle.mx_vertices.specs.declared.slot.Slot.TheVariants.{Free, Node, Watch}
 use Rattle.mx_vertices.specs.Places.{slot_at, node_place, key_place, at, IsPlacedIn, Has}
 use Rattle.mx_vertices.specs.Kept.{Kept, Source, own_key, sources_at, source_in, kept, entries, body_of, IsNode, IsWhole}
-use Rattle.mx_vertices.proofs.Places.{Nodes, same_or, at_below}
+use Rattle.mx_vertices.proofs.Places.{Nodes, same_or, at_below, at_has}
 use Rattle.mx_vertices.proofs.Edges.{has_find}
-use Rattle.mx_vertices.proofs.Keeping.{at_has}
 
 pub push_same : (slots : List Slot) (q : ℕ) → slot_at (slots ++ Free ∷ []) q ≡ slot_at slots q
 push_same [] zero = refl

@@ -10,12 +10,11 @@ use Rattle.mx_edit.specs.Equality.{key_eq}
 use Rattle.mx_vertices.specs.declared.slot.Slot.{Slot}
 use Rattle.mx_vertices.specs.declared.slot.Watched.{Watched}
 use Rattle.mx_vertices.specs.declared.slot.Slot.TheVariants.{Free, Node, Watch}
-use Rattle.mx_vertices.specs.Places.{slot_at, key_place, IsPlacedIn, IsAlike}
+use Rattle.mx_vertices.specs.Places.{slot_at, key_place, IsPlacedIn}
 use Rattle.mx_vertices.specs.Found.{AreWatched, key_without}
 use Rattle.mx_vertices.specs.Kept.{IsKeyAt}
-use Rattle.mx_vertices.specs.Marked.{AreKeysLive}
+use Rattle.mx_vertices.specs.Live.{AreKeysLive}
 use Rattle.mx_vertices.proofs.Places.{Nodes, same_or, slot_freed, slot_free}
-use Rattle.mx_vertices.proofs.Settling.{alike_watch}
 
 abbrev pub KeyLaws : Type 0
 KeyLaws = (a b : Key) → (key_eq a b ≡ true → a ≡ b) × (a ≡ b → key_eq a b ≡ true)
@@ -87,13 +86,6 @@ watched_turn laws look look2 slots slots2 q left is watched p w e =
               absurd (n (sym a.2 ∙ ap (λ (i : NodeId). i.at) same ∙ b.2))
           | false ↦ λ t. refl
         ] refl
-
--- vertices are told other places
-pub watched_alike : (slots slots2 : List Slot) → ((q : ℕ) → IsAlike (slot_at slots q) (slot_at slots2 q)) → (look : Key → Option NodeId) → AreWatched look slots → AreWatched look slots2
-watched_alike slots slots2 alike look watched q w e =
-    let v = alike_watch (slot_at slots q) (slot_at slots2 q) (alike q) w e in
-    let l = watched q v.0 v.1 in
-    (l.0, ap look (sym v.2) ∙ l.1, l.2)
 
 -- a node is held, and keys stay where they are
 pub watched_kept : (look : Key → Option NodeId) (nodes nodes2 : Nodes) (slots slots2 : List Slot) (keys : List (Option NodeId)) → IsPlacedIn key_place nodes slots keys → IsPlacedIn key_place nodes2 slots2 keys

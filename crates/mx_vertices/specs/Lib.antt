@@ -1,9 +1,8 @@
 pub mod Places
-pub mod Marked
+pub mod Live
 pub mod Kept
 pub mod Held
 pub mod Found
-pub mod Stamps
 pub mod Reading
 pub mod Inputs
 pub mod Walks

@@ -6,7 +6,7 @@ ghost use Rattle.mx_edit.specs.Equality.{key_eq};
 ghost use Rattle.mx_value.specs.Equality.{node_eq};
 ghost use Rattle.mx_graph.specs.Relation.{IsLive};
 ghost use Rattle.mx_vertices.specs.Found.{AreWatched, LeadsTo};
-ghost use Rattle.mx_vertices.specs.Marked.{AreKeysLive};
+ghost use Rattle.mx_vertices.specs.Live.{AreKeysLive};
 ghost use Rattle.mx_vertices.specs.Reading.{reads_in, readers_in};
 ghost use Rattle.mx_vertices.specs.Walks.{AreAllReaders};
 

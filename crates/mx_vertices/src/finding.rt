@@ -59,8 +59,12 @@ pub fn holds_node(slots: &[Slot], id: NodeId, node: &Node) -> bool
 
 /// Takes the node or the key of a slot out of its table.
 pub fn forget(slots: &[Slot], table: &mut Table, at: usize)
-    ensures nodes { (n : Asked) → look_up node_eq table.new.nodes n ≡ look_without (slot_at slots.now at) (look_up node_eq table.old.nodes) n }
-    ensures keys { (k : Looked) → look_up key_eq table.new.keys k ≡ key_without (slot_at slots.now at) (look_up key_eq table.old.keys) k }
+    ensures nodes { (n : Asked) →
+        look_up node_eq table.new.nodes n
+        ≡ look_without (slot_at slots.now at) (look_up node_eq table.old.nodes) n }
+    ensures keys { (k : Looked) →
+        look_up key_eq table.new.keys k
+        ≡ key_without (slot_at slots.now at) (look_up key_eq table.old.keys) k }
 {
     let Some(slot) = slots.get(at) else {
         return;
@@ -97,9 +101,13 @@ pub fn begin_in(
     node: &SharedNode,
 ) -> Result<(), NoMemory>
     ensures begun { OnOk result (begun.new.items ≡ begun.old.items ++ node.now ∷ []) }
-    ensures marked { OnOk result ((n : Asked) → look_up node_eq table.new n ≡ (if node_eq node.now n then Some Begun else look_up node_eq table.old n)) }
+    ensures marked { OnOk result
+        ((n : Asked) →
+        look_up node_eq table.new n
+        ≡ (if node_eq node.now n then Some Begun else look_up node_eq table.old n)) }
     ensures stay { OnErr result (begun.new.items ≡ begun.old.items) }
-    ensures lost { OnErr result ((n : Asked) → look_up node_eq table.new n ≡ look_up node_eq table.old n) }
+    ensures lost { OnErr result
+        ((n : Asked) → look_up node_eq table.new n ≡ look_up node_eq table.old n) }
 {
     let first = node.copy()?;
     let second = node.copy()?;
@@ -113,7 +121,11 @@ pub fn begin_in(
 pub fn end_in(table: &mut Nodes, begun: &mut Vec<SharedNode>) -> Option<SharedNode>
     ensures begun { begun.old.items ≡ begun.new.items ++ option_to_list result }
     ensures none { IfNone result (begun.old.items ≡ []) }
-    ensures table { MatchOption result ((n : Asked) → look_up node_eq table.new n ≡ look_up node_eq table.old n) (λ node. (n : Asked) → look_up node_eq table.new n ≡ (if node_eq node n then None else look_up node_eq table.old n)) }
+    ensures table { MatchOption result
+        ((n : Asked) → look_up node_eq table.new n ≡ look_up node_eq table.old n)
+        (λ node. (n : Asked) →
+        look_up node_eq table.new n
+        ≡ (if node_eq node n then None else look_up node_eq table.old n)) }
 {
     let Some(node) = begun.pop() else {
         return None;
@@ -127,7 +139,10 @@ pub fn end_as(table: &mut Nodes, begun: &mut Vec<SharedNode>, id: NodeId) -> Opt
     requires { AreBegun (look_up node_eq table.old) begun.old.items }
     ensures begun { begun.old.items ≡ begun.new.items ++ option_to_list result }
     ensures none { IfNone result (begun.old.items ≡ []) }
-    ensures table { IfSome result (λ node. (n : Asked) → look_up node_eq table.new n ≡ (if node_eq node n then Some (Ended id) else look_up node_eq table.old n)) }
+    ensures table { IfSome result
+        (λ node. (n : Asked) →
+        look_up node_eq table.new n
+        ≡ (if node_eq node n then Some (Ended id) else look_up node_eq table.old n)) }
 {
     let Some(node) = begun.pop() else {
         return None;

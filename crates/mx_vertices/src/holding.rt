@@ -30,9 +30,12 @@ fn key_vertices(
     requires none { sources.old.items ≡ [] }
     ensures watched { AreWatched (look_up key_eq table.new) slots.new.items }
     ensures whole { IsWhole graph.new slots.new.items order.now keys.new.items }
-    ensures same { entries graph.new.edges slots.new.items 0 order.now ≡ entries graph.old.edges slots.old.items 0 order.now }
-    ensures stays { (q : ℕ) → (slot_at slots.old.items q ≡ Free → ⊥) → slot_at slots.new.items q ≡ slot_at slots.old.items q }
-    ensures sources { OnOk result (sources_of slots.new.items sources.new.items ≡ map_list looked wanted.now) }
+    ensures same { entries graph.new.edges slots.new.items 0 order.now
+        ≡ entries graph.old.edges slots.old.items 0 order.now }
+    ensures stays { (q : ℕ) → (slot_at slots.old.items q ≡ Free → ⊥) →
+        slot_at slots.new.items q ≡ slot_at slots.old.items q }
+    ensures sources { OnOk result
+        (sources_of slots.new.items sources.new.items ≡ map_list looked wanted.now) }
     ensures there { AreThere slots.new.items sources.new.items }
 {
     for key in wanted {
@@ -56,7 +59,9 @@ fn read_all(
     requires reader { IsNode (slot_at slots.now reader.at) }
     requires there { AreThere slots.now sources.now }
     ensures whole { IsWhole graph.new slots.now order.now keys.now }
-    ensures read { entries graph.new.edges slots.now 0 order.now ≡ map_list (with_sources reader.at (sources_of slots.now sources.now)) (entries graph.old.edges slots.now 0 order.now) }
+    ensures read { entries graph.new.edges slots.now 0 order.now
+        ≡ map_list (with_sources reader.at (sources_of slots.now sources.now))
+        (entries graph.old.edges slots.now 0 order.now) }
 {
     for source in sources {
         read_next(graph, slots, order, keys, reader, *source);
@@ -89,9 +94,13 @@ pub fn vertices_of(
     requires asks { AreNodes slots.old.items asks.now }
     ensures watched { AreWatched (look_up key_eq table.new) slots.new.items }
     ensures whole { IsWhole graph.new slots.new.items order.now keys.new.items }
-    ensures same { entries graph.new.edges slots.new.items 0 order.now ≡ entries graph.old.edges slots.old.items 0 order.now }
-    ensures stays { (q : ℕ) → (slot_at slots.old.items q ≡ Free → ⊥) → slot_at slots.new.items q ≡ slot_at slots.old.items q }
-    ensures sources { IfOk result (λ s. sources_of slots.new.items s.items ≡ map_list looked wanted.now ++ map_list asked_id asks.now) }
+    ensures same { entries graph.new.edges slots.new.items 0 order.now
+        ≡ entries graph.old.edges slots.old.items 0 order.now }
+    ensures stays { (q : ℕ) → (slot_at slots.old.items q ≡ Free → ⊥) →
+        slot_at slots.new.items q ≡ slot_at slots.old.items q }
+    ensures sources { IfOk result
+        (λ s. sources_of slots.new.items s.items
+        ≡ map_list looked wanted.now ++ map_list asked_id asks.now) }
     ensures there { IfOk result (λ s. AreThere slots.new.items s.items) }
 {
     let room = wanted.len().saturating_add(asks.len());
@@ -113,12 +122,26 @@ pub fn hold_with(
     requires whole { IsWhole graph.old slots.old.items order.old.items keys.now }
     requires there { AreThere slots.old.items sources.now }
     ensures whole { IsWhole graph.new slots.new.items order.new.items keys.now }
-    ensures held { IfOk result (λ id. entries graph.new.edges slots.new.items 0 order.new.items ≡ entries graph.old.edges slots.old.items 0 order.old.items ++ record { stamp = length order.old.items + 1; id = id.at; body = body; sources = own_key body.node ++ sources_of slots.old.items sources.now } ∷ []) }
-    ensures node { IfOk result (λ id. slot_at slots.new.items id.at ≡ Slot_Node (record { body = body; place = length order.old.items })) }
+    ensures held { IfOk result
+        (λ id. entries graph.new.edges slots.new.items 0 order.new.items
+        ≡ entries graph.old.edges slots.old.items 0 order.old.items
+        ++ record {
+          stamp = length order.old.items + 1;
+          id = id.at;
+          body = body;
+          sources = own_key
+              body.node ++ sources_of slots.old.items sources.now;
+        } ∷ []) }
+    ensures node { IfOk result
+        (λ id. slot_at slots.new.items id.at
+        ≡ Slot_Node (record { body = body; place = length order.old.items })) }
     ensures order { IfOk result (λ id. order.new.items ≡ order.old.items ++ Some id ∷ []) }
-    ensures stays { (q : ℕ) → (slot_at slots.old.items q ≡ Free → ⊥) → slot_at slots.new.items q ≡ slot_at slots.old.items q }
+    ensures stays { (q : ℕ) → (slot_at slots.old.items q ≡ Free → ⊥) →
+        slot_at slots.new.items q ≡ slot_at slots.old.items q }
     ensures last { OnOk result (length order.new.items ≡ length order.old.items + 1) }
-    ensures lost { OnErr result (entries graph.new.edges slots.new.items 0 order.new.items ≡ entries graph.old.edges slots.old.items 0 order.old.items) }
+    ensures lost { OnErr result
+        (entries graph.new.edges slots.new.items 0 order.new.items
+        ≡ entries graph.old.edges slots.old.items 0 order.old.items) }
     ensures still { OnErr result (order.new.items ≡ order.old.items) }
 {
     let Ok(reads) = u32::try_from(sources.len()) else {

@@ -1,6 +1,5 @@
 //! Static nodes, whose own input is looked up before all else: no vertex is kept for its key.
-ghost use Rattle.std.specs.Prelude.{◌≡◌, ◌↔◌, ◌⊎◌, ℕ, Some, true, IsSome, IfOk, map as map_list, option_to_list};
-ghost use Rattle.std.specs.FinMap as map;
+ghost use Rattle.std.specs.Prelude.{◌≡◌, ◌↔◌, ℕ, IfOk, map as map_list, option_to_list};
 ghost use Rattle.std.specs.HashMap.{get as look_up};
 ghost use Rattle.mx_value.specs.Equality.{node_eq};
 ghost use Rattle.mx_value.specs.declared.value.Segment.{out-Segment};
@@ -8,14 +7,13 @@ ghost use Rattle.mx_vertices.specs.Inputs.{is_name, has_no_item, is_static};
 ghost use Rattle.mx_vertices.specs.Places.{slot_at, Has};
 ghost use Rattle.mx_vertices.specs.Found.{IsNodeAt, LeadsTo, node_at};
 ghost use Rattle.mx_vertices.specs.Kept.{own_key};
-ghost use Rattle.mx_vertices.specs.Marked.{IsInputBy, IsInputFrom, AreNodesLive};
 ghost use Rattle.mx_vertices.specs.Reading.{keys_in, id_at, IsOwnKeyAt};
 
 use crate::finding::{Nodes, holds_node};
 use crate::slot::Slot;
 use crate::standing::Standing;
 use mx_edit::key::Key;
-use mx_graph::{NoMemory, NodeId, ReadGraph};
+use mx_graph::{NoMemory, NodeId};
 use mx_value::node::{Node, SharedNode};
 use mx_value::value::Segment;
 use std::alloc::Global;
@@ -55,7 +53,8 @@ pub fn is_static(node: &Node) -> bool
 /// The held node that is this one.
 pub fn find_held(slots: &[Slot], table: &Nodes, node: &SharedNode) -> Option<NodeId>
     requires { LeadsTo (look_up node_eq table.now) slots.now }
-    ensures { (q : ℕ) → IsNodeAt slots.now q node.now ↔ Has (map_list id_at (option_to_list result)) q }
+    ensures { (q : ℕ) →
+        IsNodeAt slots.now q node.now ↔ Has (map_list id_at (option_to_list result)) q }
 {
     let Some(standing) = table.get(node) else {
         return None;
@@ -72,7 +71,8 @@ pub fn find_held(slots: &[Slot], table: &Nodes, node: &SharedNode) -> Option<Nod
 /// The held static node whose own input the key is.
 pub fn node_of_input(slots: &[Slot], table: &Nodes, key: &Key) -> Option<NodeId>
     requires { LeadsTo (look_up node_eq table.now) slots.now }
-    ensures { (q : ℕ) → IsOwnKeyAt slots.now q key.now ↔ Has (map_list id_at (option_to_list result)) q }
+    ensures { (q : ℕ) →
+        IsOwnKeyAt slots.now q key.now ↔ Has (map_list id_at (option_to_list result)) q }
 {
     let Key::Input(node) = key else {
         return None;
@@ -81,35 +81,6 @@ pub fn node_of_input(slots: &[Slot], table: &Nodes, key: &Key) -> Option<NodeId>
         return None;
     }
     find_held(slots, table, node)
-}
-
-/// Marks a node with all that reach it, where it is held and static.
-fn mark_input(graph: &mut ReadGraph, slots: &[Slot], table: &Nodes, node: &SharedNode)
-    requires nodes { AreNodesLive graph.old.nodes slots.now }
-    requires found { LeadsTo (look_up node_eq table.now) slots.now }
-    ensures live { (q : ℕ) → IsSome (map.get graph.new.nodes q) ↔ IsSome (map.get graph.old.nodes q) }
-    ensures edges { graph.new.edges ≡ graph.old.edges }
-    ensures marked { (q : ℕ) → (map.get graph.new.nodes q ≡ Some true) ↔ ((map.get graph.old.nodes q ≡ Some true) ⊎ IsInputBy slots.now graph.old.edges node.now q) }
-{
-    if !is_static(node.get()) {
-        return;
-    }
-    if let Some(id) = find_held(slots, table, node) {
-        graph.mark_readers(id);
-    }
-}
-
-/// Marks each of these nodes that is held and static, with all that reach it.
-pub fn mark_inputs(graph: &mut ReadGraph, slots: &[Slot], table: &Nodes, nodes: &[SharedNode])
-    requires nodes { AreNodesLive graph.old.nodes slots.now }
-    requires found { LeadsTo (look_up node_eq table.now) slots.now }
-    ensures live { (q : ℕ) → IsSome (map.get graph.new.nodes q) ↔ IsSome (map.get graph.old.nodes q) }
-    ensures edges { graph.new.edges ≡ graph.old.edges }
-    ensures marked { (q : ℕ) → (map.get graph.new.nodes q ≡ Some true) ↔ ((map.get graph.old.nodes q ≡ Some true) ⊎ IsInputFrom slots.now graph.old.edges nodes.now q) }
-{
-    for node in nodes {
-        mark_input(graph, slots, table, node);
-    }
 }
 
 /// The key of the own input of a held node, where it is static.

@@ -63,7 +63,10 @@ fn put_node(
     ensures nodes { graph.new.nodes ≡ map.insert graph.old.nodes result.at false }
     ensures edges { graph.new.edges ≡ graph.old.edges }
     ensures room { graph.new.spare_edges ≡ graph.old.spare_edges }
-    ensures slots { (q : ℕ) → slot_at slots.new.items q ≡ (if result.at == q then Slot_Node (record { body = body; place = place }) else slot_at slots.old.items q) }
+    ensures slots { (q : ℕ) →
+        slot_at slots.new.items q
+        ≡ (if result.at == q then Slot_Node
+        (record { body = body; place = place }) else slot_at slots.old.items q) }
     ensures order { order.new.items ≡ slice_set order.old.items place (Some result) }
 {
     let id = graph.add_node();
@@ -83,14 +86,28 @@ pub fn hold_in(
 ) -> Result<NodeId, NoMemory>
     requires { IsWhole graph.old slots.old.items order.old.items keys.now }
     ensures whole { IsWhole graph.new slots.new.items order.new.items keys.now }
-    ensures held { IfOk result (λ id. entries graph.new.edges slots.new.items 0 order.new.items ≡ entries graph.old.edges slots.old.items 0 order.old.items ++ record { stamp = length order.old.items + 1; id = id.at; body = body; sources = own_key body.node } ∷ []) }
-    ensures node { IfOk result (λ id. slot_at slots.new.items id.at ≡ Slot_Node (record { body = body; place = length order.old.items })) }
-    ensures stays { (q : ℕ) → (slot_at slots.old.items q ≡ Free → ⊥) → slot_at slots.new.items q ≡ slot_at slots.old.items q }
+    ensures held { IfOk result
+        (λ id. entries graph.new.edges slots.new.items 0 order.new.items
+        ≡ entries graph.old.edges slots.old.items 0 order.old.items
+        ++ record {
+          stamp = length order.old.items + 1;
+          id = id.at;
+          body = body;
+          sources = own_key
+              body.node;
+        } ∷ []) }
+    ensures node { IfOk result
+        (λ id. slot_at slots.new.items id.at
+        ≡ Slot_Node (record { body = body; place = length order.old.items })) }
+    ensures stays { (q : ℕ) → (slot_at slots.old.items q ≡ Free → ⊥) →
+        slot_at slots.new.items q ≡ slot_at slots.old.items q }
     ensures room { OnOk result (reads ≤ graph.new.spare_edges) }
     ensures order { IfOk result (λ id. order.new.items ≡ order.old.items ++ Some id ∷ []) }
     ensures last { OnOk result (length order.new.items ≡ length order.old.items + 1) }
     ensures still { OnErr result (order.new.items ≡ order.old.items) }
-    ensures lost { OnErr result (entries graph.new.edges slots.new.items 0 order.new.items ≡ entries graph.old.edges slots.old.items 0 order.old.items) }
+    ensures lost { OnErr result
+        (entries graph.new.edges slots.new.items 0 order.new.items
+        ≡ entries graph.old.edges slots.old.items 0 order.old.items) }
 {
     graph.relation();
     let place = order.len();
@@ -117,7 +134,9 @@ pub fn read_next(
     requires read { slot_at slots.now read.at ≡ Free → ⊥ }
     ensures whole { IsWhole graph.new slots.now order.now keys.now }
     ensures spare { graph.new.spare_edges + 1 ≡ graph.old.spare_edges }
-    ensures read { entries graph.new.edges slots.now 0 order.now ≡ map_list (with_read reader.at (source_in read.at (slot_at slots.now read.at))) (entries graph.old.edges slots.now 0 order.now) }
+    ensures read { entries graph.new.edges slots.now 0 order.now
+        ≡ map_list (with_read reader.at (source_in read.at (slot_at slots.now read.at)))
+        (entries graph.old.edges slots.now 0 order.now) }
 {
     graph.relation();
     graph.add_edge(reader, read);
@@ -126,7 +145,8 @@ pub fn read_next(
 
 /// What a held node is.
 pub fn body_at(slots: &[Slot], id: NodeId) -> Option<&Body>
-    ensures { MatchOption result (IsNode (slot_at slots.now id.at) → ⊥) (λ body. IsBodyAt slots.now id.at body.now) }
+    ensures { MatchOption result (IsNode (slot_at slots.now id.at) → ⊥)
+        (λ body. IsBodyAt slots.now id.at body.now) }
 {
     let Some(slot) = slots.get(id.index()) else {
         return None;
@@ -140,7 +160,8 @@ pub fn body_at(slots: &[Slot], id: NodeId) -> Option<&Body>
 
 /// The namespace that a held node gives, where it gives one.
 pub fn namespace_at(slots: &[Slot], id: NodeId) -> Option<&Namespace>
-    ensures { MatchOption result ((body_of (slot_at slots.now id.at)).reply.namespace ≡ None) (λ n. (body_of (slot_at slots.now id.at)).reply.namespace ≡ Some n.now) }
+    ensures { MatchOption result ((body_of (slot_at slots.now id.at)).reply.namespace ≡ None)
+        (λ n. (body_of (slot_at slots.now id.at)).reply.namespace ≡ Some n.now) }
 {
     let Some(slot) = slots.get(id.index()) else {
         return None;
@@ -209,7 +230,10 @@ fn put_key(
     ensures nodes { graph.new.nodes ≡ map.insert graph.old.nodes result.at false }
     ensures edges { graph.new.edges ≡ graph.old.edges }
     ensures room { graph.new.spare_edges ≡ graph.old.spare_edges }
-    ensures slots { (q : ℕ) → slot_at slots.new.items q ≡ (if result.at == q then Slot_Watch (record { key = key; place = place }) else slot_at slots.old.items q) }
+    ensures slots { (q : ℕ) →
+        slot_at slots.new.items q
+        ≡ (if result.at == q then Slot_Watch
+        (record { key = key; place = place }) else slot_at slots.old.items q) }
     ensures keys { keys.new.items ≡ slice_set keys.old.items place (Some result) }
 {
     let id = graph.add_node();
@@ -229,10 +253,13 @@ fn new_key(
     requires whole { IsWhole graph.old slots.old.items order.now keys.old.items }
     requires new { (q : ℕ) → IsKeyAt slots.old.items q key → ⊥ }
     ensures whole { IsWhole graph.new slots.new.items order.now keys.new.items }
-    ensures same { entries graph.new.edges slots.new.items 0 order.now ≡ entries graph.old.edges slots.old.items 0 order.now }
-    ensures stays { (q : ℕ) → (slot_at slots.old.items q ≡ Free → ⊥) → slot_at slots.new.items q ≡ slot_at slots.old.items q }
+    ensures same { entries graph.new.edges slots.new.items 0 order.now
+        ≡ entries graph.old.edges slots.old.items 0 order.now }
+    ensures stays { (q : ℕ) → (slot_at slots.old.items q ≡ Free → ⊥) →
+        slot_at slots.new.items q ≡ slot_at slots.old.items q }
     ensures key { IfOk result (λ id. IsKeyAt slots.new.items id.at key) }
-    ensures others { IfOk result (λ id. (q : ℕ) → (id.at ≡ q → ⊥) → slot_at slots.new.items q ≡ slot_at slots.old.items q) }
+    ensures others { IfOk result
+        (λ id. (q : ℕ) → (id.at ≡ q → ⊥) → slot_at slots.new.items q ≡ slot_at slots.old.items q) }
     ensures lost { OnErr result ((q : ℕ) → slot_at slots.new.items q ≡ slot_at slots.old.items q) }
 {
     graph.relation();
@@ -258,8 +285,10 @@ pub fn key_vertex(
     requires watched { AreWatched (look_up key_eq table.old) slots.old.items }
     ensures whole { IsWhole graph.new slots.new.items order.now keys.new.items }
     ensures watched { AreWatched (look_up key_eq table.new) slots.new.items }
-    ensures same { entries graph.new.edges slots.new.items 0 order.now ≡ entries graph.old.edges slots.old.items 0 order.now }
-    ensures stays { (q : ℕ) → (slot_at slots.old.items q ≡ Free → ⊥) → slot_at slots.new.items q ≡ slot_at slots.old.items q }
+    ensures same { entries graph.new.edges slots.new.items 0 order.now
+        ≡ entries graph.old.edges slots.old.items 0 order.now }
+    ensures stays { (q : ℕ) → (slot_at slots.old.items q ≡ Free → ⊥) →
+        slot_at slots.new.items q ≡ slot_at slots.old.items q }
     ensures key { IfOk result (λ id. IsKeyAt slots.new.items id.at key.now) }
 {
     if let Some(id) = find_key(slots.as_slice(), table, key) {

@@ -8,7 +8,7 @@ ghost use Rattle.mx_vertices.specs.Places.{slot_at};
 ghost use Rattle.mx_vertices.specs.Held.{sources_of};
 ghost use Rattle.mx_vertices.specs.Found.{node_at};
 ghost use Rattle.mx_vertices.specs.Kept.{own_key, sources_at};
-ghost use Rattle.mx_vertices.specs.Marked.{AreLive};
+ghost use Rattle.mx_vertices.specs.Live.{AreLive};
 ghost use Rattle.mx_vertices.specs.Reading.{keys_in, asks_in, id_at};
 ghost use Rattle.mx_vertices.specs.Walks.{asks_among, keys_read};
 
@@ -123,7 +123,7 @@ impl<'a> Model for AllKeys<'a> {
     ghost use Rattle.mx_value.specs.contracts.value.Value as value;
     ghost use Rattle.mx_value.specs.contracts.value.Segment as segment;
     ghost use Rattle.mx_edit.specs.declared.key.Key.{Key};
-    ghost use Rattle.mx_vertices.specs.Marked.{AreLive};
+    ghost use Rattle.mx_vertices.specs.Live.{AreLive};
     ghost use Rattle.mx_vertices.specs.Walks.{keys_read};
 
     ghost Value = { List Key };
@@ -164,7 +164,8 @@ impl<'a> Iterator for AllKeys<'a> {
 
 /// The key that a vertex is, with its place, where it is one.
 fn watched_at(slots: &[Slot], id: NodeId) -> Option<&Watched>
-    ensures { MatchOption result ((w : Watched) → slot_at slots.now id.at ≡ Slot_Watch w → ⊥) (λ w. slot_at slots.now id.at ≡ Slot_Watch w.now) }
+    ensures { MatchOption result ((w : Watched) → slot_at slots.now id.at ≡ Slot_Watch w → ⊥)
+        (λ w. slot_at slots.now id.at ≡ Slot_Watch w.now) }
 {
     match slots.get(id.index()) {
         Some(Slot::Watch(watched)) => Some(watched),
@@ -186,7 +187,8 @@ fn next_ask(vertices: &mut VerticesRead<'_>, slots: &[Slot]) -> Option<NodeId>
 
 /// The next of these vertices that is a key.
 fn next_key<'a>(vertices: &mut VerticesRead<'_>, slots: &'a [Slot]) -> Option<&'a Key>
-    ensures { YieldsFirstRef (λ ids. keys_in (sources_of slots.now ids)) vertices.old result vertices.new }
+    ensures { YieldsFirstRef
+        (λ ids. keys_in (sources_of slots.now ids)) vertices.old result vertices.new }
 {
     'nodes: while let Some(id) = vertices.next() {
         if let Some(watched) = watched_at(slots, id) {
@@ -199,7 +201,8 @@ fn next_key<'a>(vertices: &mut VerticesRead<'_>, slots: &'a [Slot]) -> Option<&'
 /// The key that stands in a place, where some vertex reads it.
 fn key_read<'a>(graph: &ReadGraph, slots: &'a [Slot], place: Option<NodeId>) -> Option<&'a Key>
     requires { IfSome place (IsLive graph.now) }
-    ensures { MatchOption result (keys_read graph.now.edges slots.now (place ∷ []) ≡ []) (λ key. keys_read graph.now.edges slots.now (place ∷ []) ≡ key.now ∷ []) }
+    ensures { MatchOption result (keys_read graph.now.edges slots.now (place ∷ []) ≡ [])
+        (λ key. keys_read graph.now.edges slots.now (place ∷ []) ≡ key.now ∷ []) }
 {
     let id = place?;
     let watched = watched_at(slots, id)?;
@@ -216,7 +219,10 @@ pub fn keys_at(
     id: NodeId,
 ) -> Result<Vec<Key>, NoMemory>
     requires { IsLive graph.now id }
-    ensures { IfOk result (λ keys. keys.items ≡ keys_in (own_key (node_at slots.now id.at)) ++ keys_in (sources_at slots.now id.at graph.now.edges)) }
+    ensures { IfOk result
+        (λ keys. keys.items
+        ≡ keys_in (own_key (node_at slots.now id.at)) ++ keys_in
+        (sources_at slots.now id.at graph.now.edges)) }
 {
     let mut keys = own_keys(alloc, slots, id)?;
     for key in HeldKeys::of(graph, slots, id) {

@@ -70,7 +70,8 @@ fn same_cells(one: Option<BoundCells<'_>>, other: Option<BoundCells<'_>>) -> boo
 
 /// Whether two parameter lists are the same.
 fn same_params(one: Option<&CompiledParams>, other: Option<&CompiledParams>) -> bool
-    ensures { IsTrue result ↔ (params_of (option_copied one.entry) ≡ params_of (option_copied other.entry)) }
+    ensures { IsTrue result ↔
+        (params_of (option_copied one.entry) ≡ params_of (option_copied other.entry)) }
 {
     match (one, other) {
         (Some(one), Some(other)) => return one.params() == other.params(),
@@ -81,7 +82,8 @@ fn same_params(one: Option<&CompiledParams>, other: Option<&CompiledParams>) -> 
 
 /// Whether two references of models are the same.
 fn same_global(one: Option<&RefValue>, other: Option<&RefValue>) -> bool
-    ensures { IsTrue result ↔ (global_of (option_copied one.entry) ≡ global_of (option_copied other.entry)) }
+    ensures { IsTrue result ↔
+        (global_of (option_copied one.entry) ≡ global_of (option_copied other.entry)) }
 {
     match (one, other) {
         (Some(one), Some(other)) => return one == other,
@@ -92,7 +94,8 @@ fn same_global(one: Option<&RefValue>, other: Option<&RefValue>) -> bool
 
 /// Whether two values that were put in are the same.
 fn same_value(one: Option<&Value>, other: Option<&Value>) -> bool
-    ensures { IsTrue result ↔ (value_of (option_copied one.entry) ≡ value_of (option_copied other.entry)) }
+    ensures { IsTrue result ↔
+        (value_of (option_copied one.entry) ≡ value_of (option_copied other.entry)) }
 {
     match (one, other) {
         (Some(one), Some(other)) => return one == other,
@@ -103,7 +106,8 @@ fn same_value(one: Option<&Value>, other: Option<&Value>) -> bool
 
 /// Whether two tables are the same.
 fn same_table(one: Option<&Table>, other: Option<&Table>) -> bool
-    ensures { IsTrue result ↔ (table_of (option_copied one.entry) ≡ table_of (option_copied other.entry)) }
+    ensures { IsTrue result ↔
+        (table_of (option_copied one.entry) ≡ table_of (option_copied other.entry)) }
 {
     match (one, other) {
         (Some(one), Some(other)) => return one == other,

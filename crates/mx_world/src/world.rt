@@ -119,7 +119,8 @@ impl World {
 
     /// The layers of a static path.
     fn layers_of(&self, path: &Path) -> Option<&Order>
-        ensures { MatchOption result (layers self.now path.now ≡ NotStatic) (λ spaces. layers self.now path.now ≡ Layers spaces.now) }
+        ensures { MatchOption result (layers self.now path.now ≡ NotStatic)
+            (λ spaces. layers self.now path.now ≡ Layers spaces.now) }
     {
         let paths = self.paths();
         match paths.find(path) {
@@ -195,7 +196,8 @@ impl World {
 /// What layers bind a name to.
 fn name_in<'a>(text: &'a ModelText, layers: &Order, name: &Hashed<&Label>) -> Bound<'a>
     requires { AllBelow (length text.now.spaces) layers.now }
-    ensures { told_name result ≡ bound_to (first_with text.now (own_member text.now name.now.now) layers.now) }
+    ensures { told_name result
+        ≡ bound_to (first_with text.now (own_member text.now name.now.now) layers.now) }
 {
     match lookup_by(text, layers, name) {
         Binding::CellsHere { owner: _ } => return Bound::CellsHere,
@@ -213,7 +215,8 @@ fn reference_of<'a>(
 ) -> BoundReference<'a>
     requires within { owner.0 < length text.now.spaces }
     requires of_kind { kind_in text.now owner name.now.now ≡ Some kind.Reference }
-    ensures { found.Ref result.value.now result.owner.now ≡ bound_to (member_in text.now owner name.now.now) }
+    ensures { found.Ref result.value.now result.owner.now
+        ≡ bound_to (member_in text.now owner name.now.now) }
 {
     let Some(value) = text.reference_by(owner, name) else {
         unreachable!()
@@ -231,7 +234,8 @@ fn cells_in<'a>(
     name: &Hashed<&Label>,
 ) -> Option<BoundCells<'a>>
     requires { AllBelow (length text.now.spaces) layers.now }
-    ensures { told_cells result ≡ formula_of (first_with text.now (own_member text.now name.now.now) layers.now) }
+    ensures { told_cells result
+        ≡ formula_of (first_with text.now (own_member text.now name.now.now) layers.now) }
 {
     match lookup_by(text, layers, name) {
         Binding::CellsHere { owner } => return Some(cells_of(text, owner, name)),
@@ -245,7 +249,8 @@ fn cells_in<'a>(
 fn cells_of<'a>(text: &'a ModelText, owner: SpaceId, name: &Hashed<&Label>) -> BoundCells<'a>
     requires within { owner.0 < length text.now.spaces }
     requires of_kind { kind_in text.now owner name.now.now ≡ Some kind.Cells }
-    ensures { found.Formula result.formula.now result.allow_none ≡ formula_of (member_in text.now owner name.now.now) }
+    ensures { found.Formula result.formula.now result.allow_none
+        ≡ formula_of (member_in text.now owner name.now.now) }
 {
     let Some(cells) = text.cells_by(owner, name) else {
         unreachable!()

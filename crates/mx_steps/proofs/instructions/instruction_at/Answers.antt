@@ -1,7 +1,7 @@
 use Rattle.std.proofs.Common.{◌∙◌, Some, sym, ap}
 use Rattle.mx_code.specs.declared.action.Action.{Action}
 use Rattle.mx_code.specs.Expressions.{at}
-use Rattle.mx_stack.proofs.Codes.{told_at}
+use Rattle.mx_ahead.proofs.Codes.{told_at}
 use Rattle.mx_steps.proofs.instructions.instruction_at.Goals as goal
 
 pub returns : goal.returns

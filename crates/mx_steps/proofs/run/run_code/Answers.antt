@@ -7,9 +7,9 @@ use Rattle.mx_code_law.specs.Machine.{next_of}
 use Rattle.mx_reading.specs.Passed.{passed}
 use Rattle.mx_names.specs.Homes.{home_of}
 use Rattle.mx_names.specs.declared.ending.Ending.TheVariants as ending
-use Rattle.mx_stack.specs.declared.ahead.Ahead.{Ahead}
-use Rattle.mx_stack.specs.declared.ahead.Ahead.TheVariants as ahead
-use Rattle.mx_stack.specs.Ahead.{GoesAhead}
+use Rattle.mx_ahead.specs.declared.ahead.Ahead.{Ahead}
+use Rattle.mx_ahead.specs.declared.ahead.Ahead.TheVariants as ahead
+use Rattle.mx_ahead.specs.Ahead.{GoesAhead}
 use Rattle.mx_steps.specs.declared.stepped.Stop.{Stop}
 use Rattle.mx_steps.specs.declared.stepped.Stop.TheVariants as stop
 use Rattle.mx_steps.specs.Reached.{stepped_as}

@@ -3,9 +3,9 @@ use Rattle.mx_graph.specs.declared.ids.NodeId.{NodeId}
 use Rattle.mx_edit.specs.declared.key.Key.{Key}
 use Rattle.mx_vertices.specs.declared.slot.Slot.{Slot}
 use Rattle.mx_vertices.specs.Kept.{entries}
-use Rattle.mx_vertices.specs.Marked.{AreLive}
+use Rattle.mx_vertices.specs.Live.{AreLive}
 use Rattle.mx_vertices.specs.Walks.{keys_read, AreHeldKeys}
-use Rattle.mx_vertices.proofs.HeldKeys.{all_held}
+use Rattle.mx_drops.proofs.HeldKeys.{all_held}
 use Rattle.mx_memo.specs.Memos.{Memory}
 use Rattle.mx_memo.proofs.memo.Memo.all_keys.Goals as goal
 

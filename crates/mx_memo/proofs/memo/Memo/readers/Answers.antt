@@ -4,7 +4,7 @@ use Rattle.mx_value.specs.Equality.{node_eq}
 use Rattle.mx_graph.specs.declared.ids.NodeId.{NodeId}
 use Rattle.mx_vertices.specs.declared.slot.Slot.{Slot}
 use Rattle.mx_edit.specs.Equality.{key_eq}
-use Rattle.mx_vertices.specs.Marked.{AreKeysLive}
+use Rattle.mx_vertices.specs.Live.{AreKeysLive}
 use Rattle.mx_vertices.proofs.Watching.{keys_live}
 use Rattle.mx_vertices.specs.Found.{LeadsTo, AreWatched}
 use Rattle.mx_vertices.specs.Kept.{looked, entries}

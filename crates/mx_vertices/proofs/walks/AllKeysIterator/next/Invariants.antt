@@ -1,5 +1,5 @@
 use Rattle.std.proofs.Common.{◌≡◌, length}
-use Rattle.mx_vertices.specs.Marked.{AreLive}
+use Rattle.mx_vertices.specs.Live.{AreLive}
 use Rattle.mx_vertices.specs.Walks.{keys_read}
 use Rattle.mx_vertices.proofs.walks.AllKeysIterator.next.Given as goal
 

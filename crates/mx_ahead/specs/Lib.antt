@@ -1,0 +1,3 @@
+pub mod Plain
+pub mod Together
+pub mod Ahead

@@ -1,0 +1,11 @@
+pub mod Sweeping
+pub mod Steps
+pub mod MarkedInputs
+pub mod Keeping
+pub mod Stamping
+pub mod Spreading
+pub mod Starts
+pub mod Dropping
+pub mod Settling
+pub mod Settled
+pub mod HeldKeys
