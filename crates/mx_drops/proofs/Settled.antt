@@ -11,9 +11,9 @@ use Rattle.mx_vertices.specs.declared.slot.Slot.TheVariants.{Free, Node, Watch}
 use Rattle.mx_vertices.specs.Places.{slot_at, node_place, key_place, at, with_place, IsAlike, IsPlacedIn, IsSettled, StandOnce, held_in}
 use Rattle.mx_vertices.specs.Kept.{Kept, Source, own_key, sources_at, source_in, kept, entries, body_of, IsWhole}
 use Rattle.mx_drops.specs.Stamps.{renumbered}
-use Rattle.mx_vertices.specs.Found.{IsFound, AreWatched}
+use Rattle.mx_vertices.specs.Found.{IsFound, LeadsRight, AreWatched}
 use Rattle.mx_vertices.proofs.Places.{Nodes, at_has}
-use Rattle.mx_drops.proofs.Settling.{alike_body, alike_source, alike_node, alike_free, alike_watch, has_there, has_taken, has_untaken, once_of, taken}
+use Rattle.mx_drops.proofs.Settling.{alike_body, alike_source, alike_node, alike_free, alike_watch, alike_held, has_there, has_taken, has_untaken, once_of, taken}
 
 module _ (slots slots2 : List Slot) (alike : (q : ℕ) → IsAlike (slot_at slots q) (slot_at slots2 q)) where
   reads_alike : (q : ℕ) (es : List Entry) → sources_at slots2 q es ≡ sources_at slots q es
@@ -168,6 +168,12 @@ pub found_taken : (look : Asked → Option Standing) (slots : List Slot) (order 
 found_taken look slots order found p id e = let f = taken_in order p id e in found f.0 id f.1
 
 -- vertices are told other places
+pub right_alike : (slots slots2 : List Slot) → ((q : ℕ) → IsAlike (slot_at slots q) (slot_at slots2 q)) → (look : Asked → Option Standing) → LeadsRight look slots → LeadsRight look slots2
+right_alike slots slots2 alike look right n id e =
+    let i = right n id e in
+    let h = alike_held (slot_at slots id.at) (slot_at slots2 id.at) (alike id.at) i.held i.slot in
+    record { held = h.0; slot = h.1; is = ap (λ (b : Body). b.node) h.2 ∙ i.is }
+
 pub watched_alike : (slots slots2 : List Slot) → ((q : ℕ) → IsAlike (slot_at slots q) (slot_at slots2 q)) → (look : Key → Option NodeId) → AreWatched look slots → AreWatched look slots2
 watched_alike slots slots2 alike look watched q w e =
     let v = alike_watch (slot_at slots q) (slot_at slots2 q) (alike q) w e in

@@ -5,6 +5,7 @@ use Rattle.std.proofs.lemmas.Bool.{eqb-true, eq-eqb}
 use Rattle.std.proofs.lemmas.List.{get_or_past}
 use Rattle.std.proofs.Math.ListN.{get_or}
 use Rattle.mx_graph.specs.declared.ids.NodeId.{NodeId}
+use Rattle.mx_vertices.specs.declared.slot.Held.{Held}
 use Rattle.mx_vertices.specs.declared.slot.Slot.{Slot}
 use Rattle.mx_vertices.specs.declared.slot.Watched.{Watched}
 use Rattle.mx_vertices.specs.declared.slot.Slot.TheVariants.{Free, Node, Watch}
@@ -60,6 +61,14 @@ module _ (s t : Slot) (a : IsAlike s t) where
 
   pub alike_watch : (w : Watched) → t ≡ Watch w → (v : Watched) × (s ≡ Watch v) × (v.key ≡ w.key)
   alike_watch w e = watch_placed w s (sym (ap (with_place 0) e) ∙ a 0)
+
+  held_placed : (h : Held) (u : Slot) → with_place 0 u ≡ Node (record h { place = 0 }) → (h2 : Held) × (u ≡ Node h2) × (h2.body ≡ h.body)
+  held_placed h Free e = cc
+  held_placed h (Node h2) e = let same : record h2 { place = 0 } ≡ record h { place = 0 } = cc in (h2, refl, ap (λ (x : Held). x.body) same)
+  held_placed h (Watch w) e = cc
+
+  pub alike_held : (h : Held) → s ≡ Node h → (h2 : Held) × (t ≡ Node h2) × (h2.body ≡ h.body)
+  alike_held h e = held_placed h t (a 0 ∙ ap (with_place 0) e)
 
 pub has_there : (list : List (Option NodeId)) (p : ℕ) (id : NodeId) → at list p ≡ Some id → Has list (Some id)
 has_there [] p id e = let l = at_below [] p id e in absurd (omega (arith, l))

@@ -36,7 +36,7 @@ pub fn evaluate<L: Ledger>(
     let node = SharedNode::new(alloc, node)?;
     match find_known(alloc, setting.world, memo, &node)? {
         Known::Input(reply) => return Ok(reply.get().value.copy(alloc)?),
-        Known::Held(_, reply) => return Ok(reply.get().value.copy(alloc)?),
+        Known::Held(found) => return Ok(found.reply.get().value.copy(alloc)?),
         Known::Begun => unreachable!(),
         Known::New => return evaluate_new(alloc, setting, node, memo, steps),
     }

@@ -23,7 +23,7 @@ use mx_graph::{NoMemory, NodeId, ReadGraph};
 use mx_value::namespace::Namespace;
 use mx_value::node::SharedNode;
 use mx_vertices::along::Readers;
-use mx_vertices::finding::{Table, begin_in, end_as, end_in, holds_node, node_laws};
+use mx_vertices::finding::{Table, begin_in, end_as, end_in, node_laws};
 use mx_vertices::holding::{hold_with, vertices_of};
 use mx_vertices::inputs::find_held;
 use mx_vertices::slot::{Body, Slot};
@@ -125,10 +125,7 @@ impl Memo {
         let Standing::Ended(id) = *standing else {
             return Some(Standing::Begun);
         };
-        if holds_node(&self.slots, id, node.get()) {
-            return Some(Standing::Ended(id));
-        }
-        None
+        Some(Standing::Ended(id))
     }
 
     /// The held node that is this one.
@@ -142,10 +139,7 @@ impl Memo {
         let Standing::Ended(id) = *standing else {
             return None;
         };
-        if holds_node(&self.slots, id, node.get()) {
-            return Some(id);
-        }
-        None
+        Some(id)
     }
 
     /// Notes that the run of a node has begun, behind all others that have. After an error the memo is as before.

@@ -20,6 +20,7 @@ use Rattle.mx_node_runs.specs.Halts.{HaltsAs, HaltsAt, Resumes}
 use Rattle.mx_entries.specs.Entries.{entries_of, nodes_under, own_keys}
 use Rattle.mx_bound.specs.declared.records.Records.{Records}
 use Rattle.mx_bound.specs.Records.{recorded_in, HasOwnKey}
+use Rattle.mx_passing.specs.declared.current.Current.{Current}
 use Rattle.mx_passing.specs.declared.current.Running.{Running}
 use Rattle.mx_passing.specs.declared.passing.Asked.{Asked}
 use Rattle.mx_passing.specs.declared.passing.Passed.{Passed}
@@ -100,26 +101,28 @@ module _ (model : Model) (m : Memory) (run : Run) (olds : Records) where
       }
 
   -- a run that halted goes on
-  pub passes_on : (at : Running) (s after : State) (to : Passed) → HaltsPast model m run olds at s → ((rest : Run) → HaltsAs at.current.node rest at.halt s → PassesTo model m rest at.current.records to after) → PassesTo model m run olds to after
-  passes_on at s after (passed.Halts r) h on =
+  pub passes_on : (at : Running) (current : Current) (s after : State) (to : Passed) → HaltsPast model m run olds at s
+      → ((rest : Run) → HaltsAs at.current.node rest at.halt s → PassesTo model m rest at.current.records current to after) → PassesTo model m run olds current to after
+  passes_on at current s after (passed.Halts halt) h on =
       let t = on h.rest h.halts in
       record {
         rest = t.rest;
-        past = past_then model (entries_of m.held) run h.rest t.rest (recorded_in m.held olds) (recorded_in m.held at.current.records) (recorded_in m.held r.current.records) h.past t.past;
+        past = past_then model (entries_of m.held) run h.rest t.rest (recorded_in m.held olds) (recorded_in m.held at.current.records) (recorded_in m.held current.records) h.past t.past;
         halts = t.halts;
       }
-  passes_on at s after (passed.Pauses p) h on =
+  passes_on at current s after (passed.Pauses p) h on =
       let t = on h.rest h.halts in
       record {
         rest = t.rest;
-        past = past_then model (entries_of m.held) run h.rest t.rest (recorded_in m.held olds) (recorded_in m.held at.current.records) (recorded_in m.held p.current.records) h.past t.past;
+        past = past_then model (entries_of m.held) run h.rest t.rest (recorded_in m.held olds) (recorded_in m.held at.current.records) (recorded_in m.held current.records) h.past t.past;
         pauses = t.pauses;
       }
 
   -- and what belongs to the runs below is kept
-  pub then_passes : (at : Running) (before after : Flight) (first : Below) (to : Passed) → HaltsPast model m run olds at before.top × (before.below ≡ first)
-      → ((rest : Run) → HaltsAs at.current.node rest at.halt before.top → PassesTo model m rest at.current.records to after.top × (after.below ≡ before.below)) → PassesTo model m run olds to after.top × (after.below ≡ first)
-  then_passes at before after first to h on = (passes_on at before.top after.top to h.0 (λ rest g. (on rest g).0), (on h.0.rest h.0.halts).1 ∙ h.1)
+  pub then_passes : (at : Running) (current : Current) (before after : Flight) (first : Below) (to : Passed) → HaltsPast model m run olds at before.top × (before.below ≡ first)
+      → ((rest : Run) → HaltsAs at.current.node rest at.halt before.top → PassesTo model m rest at.current.records current to after.top × (after.below ≡ before.below))
+      → PassesTo model m run olds current to after.top × (after.below ≡ first)
+  then_passes at current before after first to h on = (passes_on at current before.top after.top to h.0 (λ rest g. (on rest g).0), (on h.0.rest h.0.halts).1 ∙ h.1)
 
   -- the first key stays where it pauses
   pub own_paused : (n : Node) (at : Stretch) (s : State) → Pauses model m run olds at s → at.current.node ≡ n → HasOwnKey n olds.seen.keys → HasOwnKey at.current.node at.current.records.seen.keys

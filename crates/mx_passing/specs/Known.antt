@@ -11,6 +11,7 @@ use Rattle.mx_vertices.specs.Places.{Has}
 use Rattle.mx_memo.specs.Memos.{Memory}
 use Rattle.mx_runs.specs.Runs.{Model}
 use Rattle.mx_runs.specs.Inputs.{is_input}
+use Rattle.mx_passing.specs.declared.known.Found.{Found}
 use Rattle.mx_passing.specs.declared.known.Known.{Known}
 use Rattle.mx_passing.specs.declared.known.Known.TheVariants as known
 
@@ -44,14 +45,19 @@ pub record HasBegun (model : Model) (m : Memory) (n : Node) : Type 0 where
   pub own : is_input model n ≡ false
   pub begun : Has m.begun n
 
+-- what is found is the held node
+pub record IsFound (held : List Kept) (n : Node) (found : Found) : Type 0 where
+  pub node_is : found.node ≡ n
+  pub gives : GivesHeld held found.id.at n found.reply
+
 -- it is told that the node is held, with its reply
 abbrev pub IsHeldReply : List Kept → Node → Known → Type 0
-IsHeldReply held n (known.Held id r) = GivesHeld held id.at n r
+IsHeldReply held n (known.Held f) = IsFound held n f
 IsHeldReply held n other = ⊥
 
 -- what is told of a node is so
 abbrev pub IsKnownAs : Model → Memory → Node → Known → Type 0
 IsKnownAs model m n (known.Input r) = RepliesInput model n r
-IsKnownAs model m n (known.Held id r) = GivesHeld m.held id.at n r
+IsKnownAs model m n (known.Held f) = IsFound m.held n f
 IsKnownAs model m n known.Begun = HasBegun model m n
 IsKnownAs model m n known.New = IsUnknown model m n

@@ -48,17 +48,12 @@ pub record HaltsPast (model : Model) (m : Memory) (run : Run) (olds : Records) (
   pub past : GoesPast model (entries_of m.held) run (recorded_in m.held olds) rest (recorded_in m.held at.current.records)
   pub halts : HaltsAs at.current.node rest at.halt s
 
--- the run that went on
-abbrev pub current_of : Passed → Current
-current_of (passed.Halts r) = r.current
-current_of (passed.Pauses s) = s.current
-
--- it does one or the other
-abbrev pub PassesTo : Model → Memory → Run → Records → Passed → State → Type 0
-PassesTo model m run olds (passed.Halts r) s = HaltsPast model m run olds r s
-PassesTo model m run olds (passed.Pauses at) s = Pauses model m run olds at s
+-- it does one or the other, with this recorded of it
+abbrev pub PassesTo : Model → Memory → Run → Records → Current → Passed → State → Type 0
+PassesTo model m run olds current (passed.Halts halt) s = HaltsPast model m run olds (record { current = current; halt = halt }) s
+PassesTo model m run olds current (passed.Pauses p) s = Pauses model m run olds (record { current = current; paused = p }) s
 
 -- it has halted once more, or what is told of the node that it asks is so
 abbrev pub IsToldThen : Model → Memory → Passed → Type 0
-IsToldThen model m (passed.Halts r) = Unit {0}
-IsToldThen model m (passed.Pauses at) = IsTold model m at.paused
+IsToldThen model m (passed.Halts halt) = Unit {0}
+IsToldThen model m (passed.Pauses p) = IsTold model m p

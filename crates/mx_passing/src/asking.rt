@@ -7,7 +7,7 @@ ghost use Rattle.mx_entries.specs.Laws.{HeldOnce};
 ghost use Rattle.mx_passing.specs.Asking.{Meets};
 
 use crate::current::Current;
-use crate::known::{Known, find_known};
+use crate::known::{Found, Known, find_known};
 use mx_edit::reply::Reply;
 use mx_list::shared::Shared;
 use mx_memo::Memo;
@@ -26,7 +26,8 @@ pub enum Met {
     New,
 }
 
-/// A run asks a node: what is known of that answers it, and is recorded.
+/// A run asks a node: what is known of that answers it, and is recorded. Of a held node what is kept is recorded, so the one that
+/// was made to ask it goes.
 pub fn ask(
     alloc: Global,
     world: &World,
@@ -47,8 +48,9 @@ pub fn ask(
             current.records.ask_input(node)?;
             Ok(Met::Reply(reply))
         }
-        Known::Held(id, reply) => {
-            current.records.ask(node, id)?;
+        Known::Held(found) => {
+            let Found { id, node, reply } = found;
+            current.records.ask(&node, id)?;
             Ok(Met::Reply(reply))
         }
         Known::Begun => Ok(Met::Begun),

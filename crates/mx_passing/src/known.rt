@@ -16,13 +16,21 @@ use mx_vertices::inputs::is_static;
 use mx_world::world::World;
 use std::alloc::{AllocError, Global};
 
+/// A held node: its id, the node as it is kept, and its reply.
+#[derive(Drop)]
+pub struct Found {
+    pub id: NodeId,
+    pub node: SharedNode,
+    pub reply: Shared<Reply>,
+}
+
 /// What is known of an asked node without a run.
 #[derive(Drop)]
 pub enum Known {
     /// It has a value that was put in.
     Input(Shared<Reply>),
     /// It is held.
-    Held(NodeId, Shared<Reply>),
+    Held(Found),
     /// Its run has begun and has not ended.
     Begun,
     /// Nothing.
@@ -73,5 +81,7 @@ fn held(memo: &Memo, node: &SharedNode, id: NodeId) -> Result<Known, AllocError>
     let Some(body) = memo.body(id) else {
         unreachable!()
     };
-    Ok(Known::Held(id, body.reply.copy()?))
+    let node = body.node.copy()?;
+    let reply = body.reply.copy()?;
+    Ok(Known::Held(Found { id, node, reply }))
 }

@@ -1,5 +1,5 @@
 //! Runs that go on past the nodes that are known.
-ghost use Rattle.std.specs.Prelude.{◌≡◌, IfOk};
+ghost use Rattle.std.specs.Prelude.{◌≡◌, IfOk, OnOk};
 ghost use Rattle.mx_state.specs.Model.{model_of};
 ghost use Rattle.mx_memo.specs.Memos.{AreHeld};
 ghost use Rattle.mx_runs.specs.Runs.{Run};
@@ -7,7 +7,7 @@ ghost use Rattle.mx_entries.specs.Entries.{IsOrdered};
 ghost use Rattle.mx_entries.specs.Laws.{HeldOnce};
 ghost use Rattle.mx_node_runs.specs.Halts.{HaltsAs};
 ghost use Rattle.mx_bound.specs.Records.{HasOwnKey};
-ghost use Rattle.mx_passing.specs.Passing.{IsTold, IsToldThen, Pauses, PassesTo, current_of};
+ghost use Rattle.mx_passing.specs.Passing.{IsTold, IsToldThen, Pauses, PassesTo};
 ghost use Rattle.mx_passing.specs.declared.passing.Paused.TheVariants as paused;
 
 use crate::asking::{Met, ask};
@@ -49,8 +49,8 @@ pub struct Stretch {
 #[derive(Drop)]
 enum Passed {
     /// It has halted once more.
-    Halts(Running),
-    Pauses(Stretch),
+    Halts(Halt),
+    Pauses(Paused),
 }
 
 /// The run on top goes on past the nodes that are held and the inputs, to its end or to a node that is neither.
@@ -76,11 +76,12 @@ pub fn pass(
         HasOwnKey running.current.node running.current.records.seen.keys →
         HasOwnKey s.current.node s.current.records.seen.keys) }
 {
-    let mut running = running;
+    let Running { mut current, halt } = running;
+    let mut halt = halt;
     for _ in 0..u64::MAX {
-        match pass_one(alloc, world, memo, running, stack)? {
-            Passed::Halts(next) => running = next,
-            Passed::Pauses(stretch) => return Ok(stretch),
+        match pass_one(alloc, world, memo, &mut current, halt, stack)? {
+            Passed::Halts(next) => halt = next,
+            Passed::Pauses(paused) => return Ok(Stretch { current, paused }),
         }
     }
     Err(AllocError)
@@ -91,54 +92,47 @@ fn pass_one(
     alloc: Global,
     world: &World,
     memo: &Memo,
-    running: Running,
+    current: &mut Current,
+    halt: Halt,
     stack: &mut Stack,
 ) -> Result<Passed, AllocError>
     requires ordered { IsOrdered memo.now }
     requires once { HeldOnce memo.now.held }
-    requires asks { AreHeld memo.now.held running.current.records.asks }
-    ensures node { IfOk result (λ p. (current_of p).node ≡ running.current.node) }
-    ensures asks { IfOk result (λ p. AreHeld memo.now.held (current_of p).records.asks) }
+    requires asks { AreHeld memo.now.held current.old.records.asks }
+    ensures node { current.new.node ≡ current.old.node }
+    ensures asks { OnOk result (AreHeld memo.now.held current.new.records.asks) }
     ensures told { IfOk result (λ p. IsToldThen (model_of world.now) memo.now p) }
     ensures passes { IfOk result
-        (λ p. (run : Run) → HaltsAs running.current.node run running.halt stack.old.top →
-        PassesTo (model_of world.now) memo.now run running.current.records p stack.new.top
+        (λ p. (run : Run) → HaltsAs current.old.node run halt stack.old.top →
+        PassesTo (model_of world.now) memo.now run current.old.records current.new p stack.new.top
         × (stack.new.below ≡ stack.old.below)) }
 {
-    let Running { mut current, halt } = running;
     let (node, waiting) = match halt {
-        Halt::Ends(ending) => {
-            let paused = Paused::Ends(ending);
-            return Ok(Passed::Pauses(Stretch { current, paused }));
-        }
+        Halt::Ends(ending) => return Ok(Passed::Pauses(Paused::Ends(ending))),
         Halt::Asks(node, waiting) => (node, waiting),
     };
-    match ask(alloc, world, memo, &mut current, &node)? {
+    match ask(alloc, world, memo, current, &node)? {
         Met::Reply(reply) => {
             let resumed = Resumed {
                 waiting,
                 reply: reply.get(),
             };
-            let halt = resume(alloc, world, &mut current, resumed, stack)?;
-            return Ok(Passed::Halts(Running { current, halt }));
+            let halt = resume(alloc, world, current, resumed, stack)?;
+            return Ok(Passed::Halts(halt));
         }
-        Met::Begun => return Ok(Passed::Pauses(asks(current, node, waiting, true))),
-        Met::New => return Ok(Passed::Pauses(asks(current, node, waiting, false))),
+        Met::Begun => return Ok(Passed::Pauses(waits(node, waiting, true))),
+        Met::New => return Ok(Passed::Pauses(waits(node, waiting, false))),
     }
 }
 
 /// The run waits for a node.
-fn asks(current: Current, node: SharedNode, waiting: Waiting, is_begun: bool) -> Stretch
-    ensures current { result.current ≡ current }
-    ensures paused { result.paused
+fn waits(node: SharedNode, waiting: Waiting, is_begun: bool) -> Paused
+    ensures { result
         ≡ paused.Asks (record { node = node; waiting = waiting; is_begun = is_begun }) }
 {
-    Stretch {
-        current,
-        paused: Paused::Asks(Asked {
-            node,
-            waiting,
-            is_begun,
-        }),
-    }
+    Paused::Asks(Asked {
+        node,
+        waiting,
+        is_begun,
+    })
 }

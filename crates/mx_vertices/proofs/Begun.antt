@@ -10,10 +10,11 @@ use Rattle.mx_vertices.specs.declared.standing.Standing.{Standing}
 use Rattle.mx_vertices.specs.declared.standing.Standing.TheVariants.{Begun, Ended}
 use Rattle.mx_vertices.specs.Places.{Has, at}
 use Rattle.mx_vertices.specs.Kept.{kept, entries}
-use Rattle.mx_vertices.specs.Found.{IsFound, IsNew, is_begun, node_at, AreBegun, AreDistinct}
+use Rattle.mx_vertices.specs.Found.{IsFound, LeadsRight, IsNew, is_begun, node_at, AreBegun, AreDistinct}
 use Rattle.mx_vertices.proofs.Sources.{has_push, has_front, append_none}
 use Rattle.mx_vertices.proofs.Touching.{at_entry}
 use Rattle.mx_vertices.proofs.Table.{NodeLaws}
+use Rattle.mx_vertices.proofs.Right.{right_same, right_marked}
 
 -- a look that tells the same
 pub begun_same : (look look2 : Asked → Option Standing) (begun : List Asked) → ((n : Asked) → is_begun (look2 n) ≡ is_begun (look n)) → AreBegun look begun → AreBegun look2 begun
@@ -119,7 +120,13 @@ new_apart edges slots order x new p id e s = let f = at_entry edges slots 0 orde
 
 -- what is true of the table and of the begun nodes
 abbrev pub IsMarked : (Asked → Option Standing) → List Asked → List Slot → List (Option NodeId) → Type 0
-IsMarked look begun slots order = AreBegun look begun × AreDistinct begun × IsFound look slots order
+IsMarked look begun slots order = AreBegun look begun × AreDistinct begun × IsFound look slots order × LeadsRight look slots
+
+begun_not_ended : (id : NodeId) → Some Begun ≡ Some (Ended id) → ⊥
+begun_not_ended id e = let no : Begun ≡ Ended id = cc in cc
+
+none_not_ended : (id : NodeId) → None ≡ Some (Ended id) → ⊥
+none_not_ended id e = cc
 
 pub began : (laws : NodeLaws) (look look2 : Asked → Option Standing) (begun begun2 : List Asked) (x : Asked) (slots : List Slot) (order : List (Option NodeId)) {E : Type 0} (r : Result (Unit {0}) E) → OnOk r (begun2 ≡ begun ++ x ∷ []) → OnOk r ((n : Asked) → look2 n ≡ cond (node_eq x n) (Some Begun) (look n))
     → OnErr r (begun2 ≡ begun) → OnErr r ((n : Asked) → look2 n ≡ look n) → (Has begun x → ⊥) → ((p : ℕ) (id : NodeId) → at order p ≡ Some id → x ≡ node_at slots id.at → ⊥) → IsMarked look begun slots order → IsMarked look2 begun2 slots order
@@ -127,11 +134,13 @@ began laws look look2 begun begun2 x slots order (Ok u) b m s l once new w = (
   subst (AreBegun look2) (sym b) (begun_more laws look look2 begun x m w.0),
   subst AreDistinct (sym b) (distinct_more begun x w.1 once),
   found_marked laws look look2 (Some Begun) x slots order m new w.2,
+  right_marked look look2 (Some Begun) x slots m begun_not_ended w.3,
 )
 began laws look look2 begun begun2 x slots order (Err e) b m s l once new w = (
   subst (AreBegun look2) (sym s) (begun_same look look2 begun (λ n. ap is_begun (l n)) w.0),
   subst AreDistinct (sym s) w.1,
   λ p id e. l (node_at slots id.at) ∙ w.2 p id e,
+  right_same look look2 slots slots l (λ q n. refl) w.3,
 )
 
 pub ended : (laws : NodeLaws) (look look2 : Asked → Option Standing) (begun begun2 : List Asked) (slots : List Slot) (order : List (Option NodeId)) (r : Option Asked) → begun ≡ begun2 ++ option_to_list r
@@ -141,6 +150,7 @@ ended laws look look2 begun begun2 slots order None b m w =
       subst (AreBegun look2) same (begun_same look look2 begun (λ n. ap is_begun (m n)) w.0),
       subst AreDistinct same w.1,
       λ p id e. m (node_at slots id.at) ∙ w.2 p id e,
+      right_same look look2 slots slots m (λ q n. refl) w.3,
     )
 ended laws look look2 begun begun2 slots order (Some x) b m w =
     let distinct : AreDistinct (begun2 ++ x ∷ []) = subst AreDistinct b w.1 in
@@ -148,4 +158,5 @@ ended laws look look2 begun begun2 slots order (Some x) b m w =
       begun_less laws look look2 begun2 x m distinct marked,
       (distinct_less begun2 x distinct).0,
       found_marked laws look look2 None x slots order m (begun_new look (begun2 ++ x ∷ []) x slots order marked (has_end begun2 x) w.2) w.2,
+      right_marked look look2 None x slots m none_not_ended w.3,
     )

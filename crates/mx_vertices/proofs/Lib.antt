@@ -6,6 +6,7 @@ pub mod Reading
 pub mod KeyPushing
 pub mod Sources
 pub mod Table
+pub mod Right
 pub mod EdgeWalks
 pub mod Walking
 pub mod Begun

@@ -158,13 +158,6 @@ module _ (g : Graph) (slots : List Slot) (order keys : List (Option NodeId)) (wh
   pub new_begun : look n ≡ Some Begun → IsNew (entries g.edges slots 0 order) n
   new_begun some r h e = let f = found_as r h e in begun_ended f.0 (sym some ∙ f.1.0)
 
-  pub new_other : (id : NodeId) → look n ≡ Some (Ended id) → (IsNodeAt slots id.at n → ⊥) → IsNew (entries g.edges slots 0 order) n
-  new_other id some other r h e =
-      let f = found_as r h e in
-      let both : Some (Ended f.0) ≡ Some (Ended id) = sym f.1.0 ∙ some in
-      let same : f.0 ≡ id = cc in
-      other (subst (λ (j : NodeId). IsNodeAt slots j.at n) same f.1.1)
-
   pub held_as : (q : ℕ) → IsNodeAt slots q n → IsHeldAs (entries g.edges slots 0 order) q n
   held_as q a =
       let st = whole.placed.nodes_in.stands q a.held.place (ap node_place a.slot) in

@@ -39,11 +39,6 @@ key_without Free look k = look k
 key_without (Node h) look k = look k
 key_without (Watch w) look k = if key_eq w.key k then None else look k
 
--- the tables lead to each held node and to each key
-pub record IsIndexed (table : Table) (slots : List Slot) (order : List (Option NodeId)) : Type 0 where
-  pub nodes : IsFound (look_up node_eq table.nodes) slots order
-  pub keys : AreWatched (look_up key_eq table.keys) slots
-
 -- the table without what a slot holds
 abbrev pub look_without : Slot → (Asked → Option Standing) → Asked → Option Standing
 look_without Free look n = look n
@@ -55,6 +50,16 @@ pub record IsNodeAt (slots : List Slot) (q : ℕ) (n : Asked) : Type 0 where
   pub held : Held
   pub slot : slot_at slots q ≡ Node held
   pub is : held.body.node ≡ n
+
+-- where the table leads to a vertex for a node, it is that node
+abbrev pub LeadsRight : (Asked → Option Standing) → List Slot → Type 0
+LeadsRight look slots = (n : Asked) (id : NodeId) → look n ≡ Some (Ended id) → IsNodeAt slots id.at n
+
+-- the tables lead to each held node and to each key, and for a node to no other vertex
+pub record IsIndexed (table : Table) (slots : List Slot) (order : List (Option NodeId)) : Type 0 where
+  pub nodes : IsFound (look_up node_eq table.nodes) slots order
+  pub right : LeadsRight (look_up node_eq table.nodes) slots
+  pub keys : AreWatched (look_up key_eq table.keys) slots
 
 -- a node is held, under this id
 pub record IsHeldAs (held : List Kept) (id : ℕ) (n : Asked) : Type 0 where

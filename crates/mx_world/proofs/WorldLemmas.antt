@@ -11,7 +11,7 @@ use Rattle.mx_model.specs.Walk.{Meets}
 use Rattle.mx_model.specs.Valid.{Valid}
 use Rattle.mx_model.proofs.LookupLemmas.{layers_below}
 use Rattle.mx_paths.specs.declared.id.PathId.{PathId}
-use Rattle.mx_paths.specs.Table.{Row, layers_at, IsFoundIn}
+use Rattle.mx_paths.specs.Table.{Row, path_at, layers_at, IsFoundIn, IsLayered}
 use Rattle.mx_world.specs.World.{IsWorld}
 use Rattle.mx_world.proofs.Beginning.{begins_valid}
 
@@ -19,6 +19,11 @@ pub found_layers : (text shown : ModelRecord) (rows : List Row) (path : Path) (i
 found_layers text shown rows path id spaces v found at =
     let same = same_Some found.0 spaces (sym found.2 ∙ at) in
     subst (λ (t : ModelRecord). layers t path ≡ Layers spaces) v (found.1 ∙ ap Layers same)
+
+pub numbered_layers : (text shown : ModelRecord) (rows : List Row) (path : Path) (id : PathId) (spaces : List SpaceId) → text ≡ shown → path_at rows id ≡ Some path → IsLayered text rows id spaces → layers shown path ≡ Layers spaces
+numbered_layers text shown rows path id spaces v at l =
+    let same = same_Some l.path path (sym l.at ∙ at) in
+    subst (λ (t : ModelRecord). layers t path ≡ Layers spaces) v (subst (λ (p : Path). layers text p ≡ Layers spaces) same l.is)
 
 pub below : (text shown : ModelRecord) (rows : List Row) (path : Path) (spaces : List SpaceId) → text ≡ shown → IsWorld text rows → layers shown path ≡ Layers spaces → AllBelow (length text.spaces) spaces
 below text shown rows path spaces v is e =

@@ -1,5 +1,5 @@
 //! A valid model text with the table of its static paths.
-ghost use Rattle.std.specs.Prelude.{◌≡◌, ◌<◌, length, option_copied, Option, Some, IfOk, MatchOption};
+ghost use Rattle.std.specs.Prelude.{◌≡◌, ◌<◌, length, option_copied, Option, Some, IfOk, IsTrue, MatchOption};
 ghost use Rattle.mx_c3.specs.InOrder.{AllBelow};
 ghost use Rattle.mx_edit.specs.declared.key.Key.TheVariants as key;
 ghost use Rattle.mx_model.specs.declared.kind.Kind.TheVariants as kind;
@@ -11,7 +11,7 @@ ghost use Rattle.mx_model.specs.Lookup.{kind_in, member_in};
 ghost use Rattle.mx_model.specs.Keys.{bound_to, formula_of, params_of, global_of, value_of, table_of, key_result};
 ghost use Rattle.mx_model.specs.Valid.{Valid};
 ghost use Rattle.mx_paths.specs.Names.{IsNamed};
-ghost use Rattle.mx_paths.specs.Table.{IsTableOf};
+ghost use Rattle.mx_paths.specs.Table.{IsTableOf, path_at};
 ghost use Rattle.mx_model.specs.Literals.{HasLiterals};
 ghost use Rattle.mx_world.specs.World.{IsWorld};
 ghost use Rattle.mx_world.specs.Bound.{told_name, told_cells, TellsReference};
@@ -27,12 +27,15 @@ use mx_hashed::hashed::Hashed;
 use mx_list::shared::Shared;
 use mx_model::lookup::{Binding, first_params, lookup_by};
 use mx_model::text::ModelText;
+use mx_paths::id::PathId;
 use mx_paths::refusal::PathsRefusal;
 use mx_paths::table::Paths;
+use mx_value::equality::equality_laws;
 use mx_value::label::Label;
 use mx_value::node::{Node, Path};
 use mx_value::value::Value;
 use std::alloc::{AllocError, Global};
+use std::cell::Cell;
 use std::marker::Model;
 
 /// A valid text and the table of its static paths. Contracts see the text.
@@ -40,6 +43,8 @@ use std::marker::Model;
 pub struct World {
     text: ModelText,
     paths: Shared<Paths>,
+    // The number of the path that was found last. Most look-ups are for that one again.
+    last: Cell<u32>,
 }
 
 impl Model for World {
@@ -83,7 +88,11 @@ impl World {
         requires { IsWorld text paths }
         ensures { result ≡ text }
     {
-        World { text, paths }
+        World {
+            text,
+            paths,
+            last: Cell::new(0),
+        }
     }
 
     /// The text.
@@ -123,8 +132,15 @@ impl World {
             (λ spaces. layers self.now path.now ≡ Layers spaces.now) }
     {
         let paths = self.paths();
+        let last = PathId(self.last.get());
+        if is_of(paths, last, path) {
+            return Some(paths.layers(last));
+        }
         match paths.find(path) {
-            Some(id) => return Some(paths.layers(id)),
+            Some(id) => {
+                self.last.set(id.0);
+                return Some(paths.layers(id));
+            }
             None => return None,
         }
     }
@@ -191,6 +207,18 @@ impl World {
             Bound::Missing => return None,
         }
     }
+}
+
+/// Whether a number is that of a path.
+fn is_of(paths: &Paths, id: PathId, path: &Path) -> bool
+    ensures within { IsTrue result → id.0 < length paths.now }
+    ensures path { IsTrue result → path_at paths.now id ≡ Some path.now }
+{
+    equality_laws();
+    if paths.count() <= id.0 as usize {
+        return false;
+    }
+    *paths.path_of(id) == *path
 }
 
 /// What layers bind a name to.

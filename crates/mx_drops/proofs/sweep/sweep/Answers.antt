@@ -6,6 +6,7 @@ use Rattle.mx_vertices.specs.Found.{look_without, key_without}
 use Rattle.mx_edit.specs.Equality.{key_eq}
 use Rattle.mx_vertices.proofs.Watching.{watched_turn}
 use Rattle.mx_vertices.proofs.Table.{found_turn, begun_turn}
+use Rattle.mx_vertices.proofs.Right.{right_turn}
 use Rattle.mx_graph.proofs.Removal.{rest-edges}
 use Rattle.mx_vertices.specs.Places.{slot_at, node_place, key_place, cleared, held_in}
 use Rattle.mx_vertices.proofs.Places.{can_clear, cleared_count, held_less}
@@ -41,6 +42,9 @@ marked-preserved c =
         nodes = found_turn c.node_laws.ensures (look_up node_eq c.marked.table.nodes) (look_up node_eq c.forget.new.table.nodes) c.marked.graph.nodes c.marked.slots.items c.marked.order.items c.index-at.result c.marked.invariant.sweeping.placed.nodes_in c.marked.invariant.found.nodes
             (λ n. subst (λ (xs : List Slot). look_up node_eq c.forget.new.table.nodes n ≡ look_without (slot_at xs c.index-at.result) (look_up node_eq c.marked.table.nodes) n) c.as_slice.ensures.value (c.forget.ensures.nodes n))
             c.clear.new.slots.items c.clear.new.order.items c.clear.ensures.slots c.clear.ensures.order;
+        right = right_turn c.node_laws.ensures (look_up node_eq c.marked.table.nodes) (look_up node_eq c.forget.new.table.nodes) c.marked.slots.items c.clear.new.slots.items c.index-at.result
+            (λ n. subst (λ (xs : List Slot). look_up node_eq c.forget.new.table.nodes n ≡ look_without (slot_at xs c.index-at.result) (look_up node_eq c.marked.table.nodes) n) c.as_slice.ensures.value (c.forget.ensures.nodes n))
+            c.clear.ensures.slots c.marked.invariant.found.right;
         keys = watched_turn c.key_laws.ensures (look_up key_eq c.marked.table.keys) (look_up key_eq c.forget.new.table.keys) c.marked.slots.items c.clear.new.slots.items c.index-at.result
             (λ k. subst (λ (xs : List Slot). look_up key_eq c.forget.new.table.keys k ≡ key_without (slot_at xs c.index-at.result) (look_up key_eq c.marked.table.keys) k) c.as_slice.ensures.value (c.forget.ensures.keys k))
             c.clear.ensures.slots c.marked.invariant.found.keys;

@@ -14,7 +14,7 @@ use Rattle.mx_drops.proofs.Spreading.{either}
 use Rattle.mx_drops.proofs.Starts.{IsUnread, unread_spread, spread_unread, unread_here, unread_key}
 use Rattle.mx_drops.proofs.Dropping.{IsSwept, swept_whole, swept_sifts, left_all}
 use Rattle.mx_drops.proofs.Settling.{taken}
-use Rattle.mx_drops.proofs.Settled.{entries_alike, alike_found, keys_once, keys_there, keys_settled, watched_alike}
+use Rattle.mx_drops.proofs.Settled.{entries_alike, alike_found, keys_once, keys_there, keys_settled, right_alike, watched_alike}
 use Rattle.mx_drops.proofs.unread.drop_unread.Goals.{After-sweep}
 use Rattle.mx_edit.specs.Equality.{key_eq}
 use Rattle.mx_drops.proofs.unread.drop_unread.Goals as goal
@@ -62,6 +62,7 @@ settle-requires-clause-once c = keys_once c.sweep.new.graph c.sweep.new.slots.it
 pub returns-clause-found : goal.returns-clause-found
 returns-clause-found c = record {
   nodes = alike_found c.sweep.new.slots.items c.settle.new.slots.items c.settle.ensures.settled.alike (look_up node_eq c.sweep.new.table.nodes) c.sweep.new.order.items c.sweep.ensures.found.nodes;
+  right = right_alike c.sweep.new.slots.items c.settle.new.slots.items c.settle.ensures.settled.alike (look_up node_eq c.sweep.new.table.nodes) c.sweep.ensures.found.right;
   keys = watched_alike c.sweep.new.slots.items c.settle.new.slots.items c.settle.ensures.settled.alike (look_up key_eq c.sweep.new.table.keys) c.sweep.ensures.found.keys;
 }
 

@@ -2,7 +2,7 @@ use Rattle.std.proofs.Common.{◌∙◌, ◌-◌, ap, subst}
 use Rattle.mx_value.specs.declared.node.Node.{Node}
 use Rattle.mx_edit.specs.declared.reply.Reply.{Reply}
 use Rattle.mx_state.specs.Model.{model_of}
-use Rattle.mx_passing.specs.Known.{IsKnownAs}
+use Rattle.mx_passing.specs.Known.{IsFound, IsKnownAs}
 use Rattle.mx_passing.specs.declared.known.Known.{Known}
 use Rattle.mx_machine.specs.Closing.{HasClosed}
 use Rattle.mx_machine.specs.Settings.{evaluation_of}
@@ -18,9 +18,9 @@ returns-in-Input-clause-closed g c =
 
 pub returns-in-Held-clause-closed : goal.returns-in-Held-clause-closed
 returns-in-Held-clause-closed g c =
-    closed_held c.args.setting.now.world.now c.args.memo.now c.requires.kept c.args.setting.now.limit c.args.node c.args.steps.now c.in-Held.field-0.at c.in-Held.reply c.in_ok-copy-in-Held.field-0
-    (subst (λ (k : Known). IsKnownAs (model_of c.args.setting.now.world.now) c.args.memo.now c.args.node k) c.in-Held.is
-    (subst (λ (n : Node). IsKnownAs (model_of c.args.setting.now.world.now) c.args.memo.now n c.in_ok-reply.field-0) c.in_ok-node.ensures c.in_ok-reply.ensures))
+    let f : IsFound c.args.memo.now.held c.args.node c.in-Held.found = subst (λ (k : Known). IsKnownAs (model_of c.args.setting.now.world.now) c.args.memo.now c.args.node k) c.in-Held.is
+    (subst (λ (n : Node). IsKnownAs (model_of c.args.setting.now.world.now) c.args.memo.now n c.in_ok-reply.field-0) c.in_ok-node.ensures c.in_ok-reply.ensures) in
+    closed_held c.args.setting.now.world.now c.args.memo.now c.requires.kept c.args.setting.now.limit c.args.node c.args.steps.now c.in-Held.found.id.at c.in-Held.found.reply c.in_ok-copy-in-Held.field-0 f.gives
     (c.in_ok-copy-in-Held.ensures ∙ ap (λ (r : Reply). r.value) c.get-in-Held.ensures)
 
 pub returns-in-New-clause-closed : goal.returns-in-New-clause-closed

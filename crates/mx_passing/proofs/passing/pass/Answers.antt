@@ -1,10 +1,10 @@
 use Rattle.std.proofs.Common.{◌≡◌, refl, ◌∙◌, subst}
-use Rattle.mx_memo.specs.Memos.{AreHeld}
 use Rattle.mx_state.specs.Model.{model_of}
 use Rattle.mx_suspended.specs.Recorded.{Stays}
 use Rattle.mx_bound.specs.Records.{recorded_in}
 use Rattle.mx_passing.specs.declared.passing.Passed.{Passed}
-use Rattle.mx_passing.specs.Passing.{IsToldThen, Pauses, PassesTo, current_of}
+use Rattle.mx_passing.specs.declared.passing.Stretch.{Stretch}
+use Rattle.mx_passing.specs.Passing.{IsToldThen, Pauses, PassesTo}
 use Rattle.mx_passing.proofs.Passes.{then_passes, own_paused}
 use Rattle.mx_passing.proofs.passing.pass.Goals as goal
 
@@ -17,28 +17,26 @@ loop-init c = record {
 
 pub loop-preserved : goal.loop-preserved
 loop-preserved c = record {
-  node = subst (λ (x : Passed). (current_of x).node ≡ c.loop.running.current.node) c.in-Halts.is c.in_ok-next.ensures.node ∙ c.loop.invariant.node;
-  asks = subst (λ (x : Passed). AreHeld c.args.memo.now.held (current_of x).records.asks) c.in-Halts.is c.in_ok-next.ensures.asks;
+  node = c.in_ok-next.ensures.node ∙ c.loop.invariant.node;
+  asks = c.in_ok-next.ensures.asks;
   halts = λ run h.
-      subst (λ (x : Passed). PassesTo (model_of c.args.world.now) c.args.memo.now run c.args.running.current.records x c.pass_one.new.stack.top × (c.pass_one.new.stack.below ≡ c.args.stack.now.below)) c.in-Halts.is
-      (then_passes (model_of c.args.world.now) c.args.memo.now run c.args.running.current.records c.loop.running c.loop.stack c.pass_one.new.stack c.args.stack.now.below c.in_ok-next.field-0 (c.loop.invariant.halts run h) c.in_ok-next.ensures.passes);
+      subst (λ (x : Passed). PassesTo (model_of c.args.world.now) c.args.memo.now run c.args.running.current.records c.pass_one.new.current x c.pass_one.new.stack.top × (c.pass_one.new.stack.below ≡ c.args.stack.now.below)) c.in-Halts.is
+      (then_passes (model_of c.args.world.now) c.args.memo.now run c.args.running.current.records (record { current = c.loop.current; halt = c.loop.halt }) c.pass_one.new.current c.loop.stack c.pass_one.new.stack c.args.stack.now.below c.in_ok-next.field-0 (c.loop.invariant.halts run h) c.in_ok-next.ensures.passes);
 }
-
-pub returns-in-Pauses-clause-asks : goal.returns-in-Pauses-clause-asks
-returns-in-Pauses-clause-asks c = subst (λ (x : Passed). AreHeld c.args.memo.now.held (current_of x).records.asks) c.in-Pauses.is c.in_ok-next.ensures.asks
 
 pub returns-in-Pauses-clause-told : goal.returns-in-Pauses-clause-told
 returns-in-Pauses-clause-told c = subst (λ (x : Passed). IsToldThen (model_of c.args.world.now) c.args.memo.now x) c.in-Pauses.is c.in_ok-next.ensures.told
 
 pub returns-in-Pauses-clause-passes : goal.returns-in-Pauses-clause-passes
 returns-in-Pauses-clause-passes c = λ run h.
-    subst (λ (x : Passed). PassesTo (model_of c.args.world.now) c.args.memo.now run c.args.running.current.records x c.pass_one.new.stack.top × (c.pass_one.new.stack.below ≡ c.args.stack.now.below)) c.in-Pauses.is
-    (then_passes (model_of c.args.world.now) c.args.memo.now run c.args.running.current.records c.loop.running c.loop.stack c.pass_one.new.stack c.args.stack.now.below c.in_ok-next.field-0 (c.loop.invariant.halts run h) c.in_ok-next.ensures.passes)
+    subst (λ (x : Passed). PassesTo (model_of c.args.world.now) c.args.memo.now run c.args.running.current.records c.pass_one.new.current x c.pass_one.new.stack.top × (c.pass_one.new.stack.below ≡ c.args.stack.now.below)) c.in-Pauses.is
+    (then_passes (model_of c.args.world.now) c.args.memo.now run c.args.running.current.records (record { current = c.loop.current; halt = c.loop.halt }) c.pass_one.new.current c.loop.stack c.pass_one.new.stack c.args.stack.now.below c.in_ok-next.field-0 (c.loop.invariant.halts run h) c.in_ok-next.ensures.passes)
 
 pub returns-in-Pauses-clause-own : goal.returns-in-Pauses-clause-own
 returns-in-Pauses-clause-own c = λ run h own.
-    let p : Pauses (model_of c.args.world.now) c.args.memo.now run c.args.running.current.records c.in-Pauses.stretch c.pass_one.new.stack.top =
-    (subst (λ (x : Passed). PassesTo (model_of c.args.world.now) c.args.memo.now run c.args.running.current.records x c.pass_one.new.stack.top × (c.pass_one.new.stack.below ≡ c.args.stack.now.below)) c.in-Pauses.is
-    (then_passes (model_of c.args.world.now) c.args.memo.now run c.args.running.current.records c.loop.running c.loop.stack c.pass_one.new.stack c.args.stack.now.below c.in_ok-next.field-0 (c.loop.invariant.halts run h) c.in_ok-next.ensures.passes)).0 in
-    own_paused (model_of c.args.world.now) c.args.memo.now run c.args.running.current.records c.args.running.current.node c.in-Pauses.stretch c.pass_one.new.stack.top p
-    (subst (λ (x : Passed). (current_of x).node ≡ c.loop.running.current.node) c.in-Pauses.is c.in_ok-next.ensures.node ∙ c.loop.invariant.node) own
+    let at : Stretch = record { current = c.pass_one.new.current; paused = c.in-Pauses.paused } in
+    let p : Pauses (model_of c.args.world.now) c.args.memo.now run c.args.running.current.records at c.pass_one.new.stack.top =
+    (subst (λ (x : Passed). PassesTo (model_of c.args.world.now) c.args.memo.now run c.args.running.current.records c.pass_one.new.current x c.pass_one.new.stack.top × (c.pass_one.new.stack.below ≡ c.args.stack.now.below)) c.in-Pauses.is
+    (then_passes (model_of c.args.world.now) c.args.memo.now run c.args.running.current.records (record { current = c.loop.current; halt = c.loop.halt }) c.pass_one.new.current c.loop.stack c.pass_one.new.stack c.args.stack.now.below c.in_ok-next.field-0 (c.loop.invariant.halts run h) c.in_ok-next.ensures.passes)).0 in
+    own_paused (model_of c.args.world.now) c.args.memo.now run c.args.running.current.records c.args.running.current.node at c.pass_one.new.stack.top p
+    (c.in_ok-next.ensures.node ∙ c.loop.invariant.node) own

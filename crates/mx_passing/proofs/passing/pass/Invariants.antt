@@ -9,7 +9,7 @@ use Rattle.mx_passing.proofs.passing.pass.Given as goal
 -- whatever run halted first, this one has gone on with it
 abbrev pub invariant-loop : goal.invariant-loop
 invariant-loop l = record {
-  node : l.running.current.node ≡ l.fn.running.current.node;
-  asks : AreHeld l.memo.held l.running.current.records.asks;
-  halts : (run : Run) → HaltsAs l.fn.running.current.node run l.fn.running.halt l.fn.stack.top → HaltsPast (model_of l.world) l.memo run l.fn.running.current.records l.running l.stack.top × (l.stack.below ≡ l.fn.stack.below);
+  node : l.current.node ≡ l.fn.running.current.node;
+  asks : AreHeld l.memo.held l.current.records.asks;
+  halts : (run : Run) → HaltsAs l.fn.running.current.node run l.fn.running.halt l.fn.stack.top → HaltsPast (model_of l.world) l.memo run l.fn.running.current.records (record { current = l.current; halt = l.halt }) l.stack.top × (l.stack.below ≡ l.fn.stack.below);
 }

@@ -7,6 +7,7 @@ use Rattle.mx_vertices.specs.declared.standing.Standing.TheVariants.{Ended}
 use Rattle.mx_vertices.specs.Found.{IsFound, AreBegun, AreDistinct, AreWatched, IsNew}
 use Rattle.mx_vertices.proofs.Begun.{held_from_last}
 use Rattle.mx_vertices.proofs.Table.{found_same, found_last}
+use Rattle.mx_vertices.proofs.Right.{right_same, right_last}
 use Rattle.mx_graph.specs.declared.ids.NodeId.{NodeId}
 use Rattle.mx_vertices.specs.Places.{held_in}
 use Rattle.mx_vertices.specs.Kept.{IsHeld, IsWhole}
@@ -86,6 +87,8 @@ invariant_of-self-2 c =
         nodes = found_last c.node_laws.ensures (look_up node_eq c.self.inside.table.nodes) (look_up node_eq c.end_as.new.table) c.self.inside.graph.nodes c.self.inside.graph.edges c.self.inside.slots.items c.hold_with-held.new.slots.items c.self.inside.order.items c.hold_with-held.new.order.items c.in-Ok-held.id held c.self.invariant.whole.placed.nodes_in
             puts c.in-Ok-held.ensures.order c.in-Ok-held.ensures.node (λ q n. c.hold_with-held.ensures.stays q (λ f. n (sym (c.vertices_of-found.ensures.stays q n) ∙ f)) ∙ c.vertices_of-found.ensures.stays q n)
             (subst (λ (m : Memory). IsNew m.held c.args.body.node) (sym c.self.view_is) c.requires.new) c.self.invariant.found.nodes;
+        right = right_last c.node_laws.ensures (look_up node_eq c.self.inside.table.nodes) (look_up node_eq c.end_as.new.table) c.self.inside.slots.items c.hold_with-held.new.slots.items c.in-Ok-held.id held puts c.in-Ok-held.ensures.node
+            (λ q n. c.hold_with-held.ensures.stays q (λ f. n (sym (c.vertices_of-found.ensures.stays q n) ∙ f)) ∙ c.vertices_of-found.ensures.stays q n) c.self.invariant.found.right;
         keys = held_keys ((goal.at.invariant_of-self-2 c).After-hold_with-held);
       };
       begun = marked.0;
@@ -113,6 +116,7 @@ invariant_of-self c = record {
   found = record {
     nodes = found_same (look_up node_eq c.self.inside.table.nodes) (look_up node_eq c.self.inside.table.nodes) c.self.inside.graph.nodes c.self.inside.slots.items c.vertices_of-found.new.slots.items c.self.inside.order.items c.self.invariant.whole.placed.nodes_in
         (λ n. refl) c.vertices_of-found.ensures.stays c.self.invariant.found.nodes;
+    right = right_same (look_up node_eq c.self.inside.table.nodes) (look_up node_eq c.self.inside.table.nodes) c.self.inside.slots.items c.vertices_of-found.new.slots.items (λ n. refl) c.vertices_of-found.ensures.stays c.self.invariant.found.right;
     keys = c.vertices_of-found.ensures.watched;
   };
   begun = c.self.invariant.begun;
@@ -130,6 +134,8 @@ invariant_of-self-in_default-held c =
         nodes = subst (λ (xs : List (Option NodeId)). IsFound (look_up node_eq c.self.inside.table.nodes) c.hold_with-held.new.slots.items xs) (sym still)
             (found_same (look_up node_eq c.self.inside.table.nodes) (look_up node_eq c.self.inside.table.nodes) c.self.inside.graph.nodes c.self.inside.slots.items c.hold_with-held.new.slots.items c.self.inside.order.items c.self.invariant.whole.placed.nodes_in
             (λ n. refl) (λ q n. c.hold_with-held.ensures.stays q (λ f. n (sym (c.vertices_of-found.ensures.stays q n) ∙ f)) ∙ c.vertices_of-found.ensures.stays q n) c.self.invariant.found.nodes);
+        right = right_same (look_up node_eq c.self.inside.table.nodes) (look_up node_eq c.self.inside.table.nodes) c.self.inside.slots.items c.hold_with-held.new.slots.items (λ n. refl)
+            (λ q n. c.hold_with-held.ensures.stays q (λ f. n (sym (c.vertices_of-found.ensures.stays q n) ∙ f)) ∙ c.vertices_of-found.ensures.stays q n) c.self.invariant.found.right;
         keys = held_keys ((goal.at.invariant_of-self-in_default-held c).After-hold_with-held);
       };
       begun = c.self.invariant.begun;

@@ -9,7 +9,7 @@ use Rattle.mx_vertices.specs.Found.{IsFound}
 use Rattle.mx_memo.specs.Memos.{Memory}
 use Rattle.mx_drops.proofs.Keeping.{entries_length}
 use Rattle.mx_drops.proofs.Settling.{taken}
-use Rattle.mx_drops.proofs.Settled.{entries_alike, entries_taken, alike_found, count_taken, length_taken, order_once, order_there, order_settled, found_taken, watched_alike}
+use Rattle.mx_drops.proofs.Settled.{entries_alike, entries_taken, alike_found, count_taken, length_taken, order_once, order_there, order_settled, found_taken, right_alike, watched_alike}
 use Rattle.mx_edit.specs.Equality.{key_eq}
 use Rattle.mx_memo.proofs.memo.Memo.renumber.Goals as goal
 
@@ -28,6 +28,7 @@ invariant_of-self c =
       found = record {
         nodes = subst (λ (xs : List (Option NodeId)). IsFound (look_up node_eq c.self.inside.table.nodes) c.settle.new.slots.items xs) (sym list)
             (alike_found c.self.inside.slots.items c.settle.new.slots.items settled.alike (look_up node_eq c.self.inside.table.nodes) (taken c.self.inside.order.items) (found_taken (look_up node_eq c.self.inside.table.nodes) c.self.inside.slots.items c.self.inside.order.items c.self.invariant.found.nodes));
+        right = right_alike c.self.inside.slots.items c.settle.new.slots.items settled.alike (look_up node_eq c.self.inside.table.nodes) c.self.invariant.found.right;
         keys = watched_alike c.self.inside.slots.items c.settle.new.slots.items settled.alike (look_up key_eq c.self.inside.table.keys) c.self.invariant.found.keys;
       };
       begun = c.self.invariant.begun;

@@ -1,14 +1,12 @@
-use Rattle.std.proofs.Common.{◌≡◌, ◌∙◌, List, Some, None, true, false, ap, sym, subst}
+use Rattle.std.proofs.Common.{◌≡◌, ◌∙◌, Some, None, true, false, ap, sym, subst}
 use Rattle.std.specs.Prelude.{option_copied}
 use Rattle.std.specs.HashMap.{get as look_up}
-use Rattle.mx_value.specs.declared.node.Node.{Node as Asked}
 use Rattle.mx_value.specs.Equality.{node_eq}
-use Rattle.mx_vertices.specs.declared.slot.Slot.{Slot}
 use Rattle.mx_vertices.specs.declared.standing.Standing.TheVariants.{Ended}
 use Rattle.mx_vertices.specs.Places.{Has}
-use Rattle.mx_vertices.specs.Found.{IsNew, IsNodeAt, IsHeldAs, is_begun}
+use Rattle.mx_vertices.specs.Found.{IsNew, IsHeldAs, is_begun}
 use Rattle.mx_memo.specs.Memos.{Memory}
-use Rattle.mx_vertices.proofs.Table.{new_none, new_other, held_as}
+use Rattle.mx_vertices.proofs.Table.{new_none, held_as}
 use Rattle.mx_memo.proofs.memo.Memo.standing.Goals as goal
 
 pub returns-in_default-clause-none : goal.returns-in_default-clause-none
@@ -19,26 +17,9 @@ returns-in_default-clause-none c =
       λ h. let no : false ≡ true = sym (ap is_begun none) ∙ (c.self.invariant.begun c.args.node.now).1 h in cc,
     )
 
-pub returns-then-holds_node-clause-some : goal.returns-then-holds_node-clause-some
-returns-then-holds_node-clause-some c =
-    let there : IsNodeAt c.self.inside.slots.items c.in-Ended.id.at c.args.node.now
-    = subst (λ (n : Asked). IsNodeAt c.self.inside.slots.items c.in-Ended.id.at n) c.get-2.ensures
-    (subst (λ (xs : List Slot). IsNodeAt xs c.in-Ended.id.at c.get-2.result.now) c.deref.ensures.value (c.holds_node.ensures.yes c.if-holds_node.true)) in
-    subst (λ (m : Memory). IsHeldAs m.held c.in-Ended.id.at c.args.node.now) c.self.view_is
-    (held_as c.self.inside.graph c.self.inside.slots.items c.self.inside.order.items c.self.inside.keys.items c.self.invariant.whole (look_up node_eq c.self.inside.table.nodes) c.self.invariant.found.nodes c.args.node.now c.in-Ended.id.at there)
-
-pub returns-clause-none : goal.returns-clause-none
-returns-clause-none c =
+pub returns-clause-some : goal.returns-clause-some
+returns-clause-some c =
     let some : look_up node_eq c.self.inside.table.nodes c.args.node.now ≡ Some (Ended c.in-Ended.id) = sym c.get.ensures.value ∙ ap option_copied c.in-Some.is ∙ ap Some c.in-Ended.is in
-    let other : IsNodeAt c.self.inside.slots.items c.in-Ended.id.at c.args.node.now → ⊥
-    = λ a.
-    let there : IsNodeAt c.deref.result.now c.in-Ended.id.at c.get-2.result.now
-    = subst (λ (n : Asked). IsNodeAt c.deref.result.now c.in-Ended.id.at n) (sym c.get-2.ensures)
-    (subst (λ (xs : List Slot). IsNodeAt xs c.in-Ended.id.at c.args.node.now) (sym c.deref.ensures.value) a) in
-    let yes : c.holds_node.result ≡ true = c.holds_node.ensures.no there in
-    let no = c.if-holds_node.false in
-    cc in
-    subst (λ (m : Memory). IsNew m.held c.args.node.now × (Has m.begun c.args.node.now → ⊥)) c.self.view_is (
-      new_other c.self.inside.graph c.self.inside.slots.items c.self.inside.order.items c.self.inside.keys.items c.self.invariant.whole (look_up node_eq c.self.inside.table.nodes) c.self.invariant.found.nodes c.args.node.now c.in-Ended.id some other,
-      λ h. let no : false ≡ true = sym (ap is_begun some) ∙ (c.self.invariant.begun c.args.node.now).1 h in cc,
-    )
+    subst (λ (m : Memory). IsHeldAs m.held c.in-Ended.id.at c.args.node.now) c.self.view_is
+    (held_as c.self.inside.graph c.self.inside.slots.items c.self.inside.order.items c.self.inside.keys.items c.self.invariant.whole (look_up node_eq c.self.inside.table.nodes) c.self.invariant.found.nodes c.args.node.now c.in-Ended.id.at
+    (c.self.invariant.found.right c.args.node.now c.in-Ended.id some))
