@@ -17,7 +17,7 @@ use Rattle.mx_suspended.proofs.Steps.{starting, answering_value, wanting_memory}
 use Rattle.mx_state.specs.Model.{model_of}
 use Rattle.mx_state.proofs.Bound.{inputs_end}
 use Rattle.mx_items_first.specs.Laws.{ItemsFirst}
-use Rattle.mx_stack.specs.Flight.{Flight}
+use Rattle.mx_stack.specs.Flight.{Flight, idle}
 use Rattle.mx_entries.specs.Entries.{IsKept, entries_of}
 use Rattle.mx_entries.specs.Laws.{HasGrown}
 use Rattle.mx_entries.proofs.Nodes.{new_is_not_entered}
@@ -37,12 +37,13 @@ module _ (text : ModelRecord) (m : Memory) (n : Node) (kept : IsKept (model_of t
   none_known : IsKnown (model_of text) (nodes_of (entries_of m.held)) n → ⊥
   none_known k = elim k [ inl h ↦ (new_is_not_entered m.held n).0 unknown.new h | inr e ↦ false≢true (sym unknown.own ∙ e) ]
 
-  awaited_first : (limit before : ℕ) (stack : Flight) (frames : List Frame) → 0 < limit → frames ≡ [] → IsAwaited (model_of text) (work_of n m limit before) m stack frames n before
-  awaited_first limit before stack frames room e =
+  awaited_first : (limit before : ℕ) (stack : Flight) (frames : List Frame) → stack.top ≡ idle → 0 < limit → frames ≡ [] → IsAwaited (model_of text) (work_of n m limit before) m stack frames n before
+  awaited_first limit before stack frames none room e =
       subst (λ (ws : List Frame). IsAwaited (model_of text) (work_of n m limit before) m stack ws n before) (sym e)
       (record {
         flight = at_start (evaluation_of n m limit);
         aloft = record { held = refl; counted = omega arith; stand = refl };
+        idle = none;
         way = λ f h. absurd h;
         awaits = starting (model_of text) (evaluation_of n m limit) kept.memo none_known;
         apart = λ h. h;
@@ -51,9 +52,9 @@ module _ (text : ModelRecord) (m : Memory) (n : Node) (kept : IsKept (model_of t
 
   -- what `drive` ensures of each work, of this one
   pub drove_alone : (limit below before : ℕ) (stack : Flight) (frames : List Frame) (new : Memory) (first : Node) (now : ℕ) (result : Result Given EvalRefusal)
-      → ItemsFirst → IsAlone limit below → frames ≡ []
+      → ItemsFirst → IsAlone limit below → stack.top ≡ idle → frames ≡ []
       → ((q : Work) → AsksInOrder (model_of text) → IsWithin q limit below → IsAwaited (model_of text) q m stack frames n before → Drove (model_of text) q new first now result)
       → Drove (model_of text) (work_of n m limit before) new first now result
-  drove_alone limit below before stack frames new first now result items_first alone none drove =
+  drove_alone limit below before stack frames new first now result items_first alone unbegun none drove =
       drove (work_of n m limit before) (asks_in_order items_first text) (record { limit_is = refl; below_is = sym alone.alone })
-      (awaited_first limit before stack frames alone.room none)
+      (awaited_first limit before stack frames unbegun alone.room none)

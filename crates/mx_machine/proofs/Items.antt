@@ -28,7 +28,7 @@ use Rattle.mx_suspended.proofs.Steps.{wanting_memory}
 use Rattle.mx_state.specs.Model.{model_of}
 use Rattle.mx_state.specs.Proper.{address_of}
 use Rattle.mx_state.proofs.Binding.{each_binds_behind, lost_binds_none}
-use Rattle.mx_stack.specs.Flight.{Flight}
+use Rattle.mx_stack.specs.Flight.{Flight, idle}
 use Rattle.mx_reading.specs.Seen.{with_read}
 use Rattle.mx_entries.specs.Entries.{entries_of, IsOrdered}
 use Rattle.mx_entries.specs.Laws.{HasGrown}
@@ -87,12 +87,12 @@ module _ (text : ModelRecord) (n : Node) (in_order : AsksInOrder (model_of text)
     lost = λ s b t. s;
   }
 
-  module _ (room : 1 < limit) (stack : Flight) (m2 : Memory) (later : ℕ) where
+  module _ (room : 1 < limit) (stack : Flight) (unbegun : stack.top ≡ idle) (m2 : Memory) (later : ℕ) where
     within_waiting : (c : Node) (f : IsFor (model_of text) n c) → IsWithin (work c f) limit 1
     within_waiting c f = record { limit_is = refl; below_is = refl }
 
     awaited : (c : Node) (f : IsFor (model_of text) n c) → IsAwaited (model_of text) (work c f) m stack [] i now
-    awaited c f = item_awaited text n in_order on_the_way start m limit before now records i rest (there c f).led c f (there c f).way room stack
+    awaited c f = item_awaited text n in_order on_the_way start m limit before now records i rest (there c f).led c f (there c f).way room stack unbegun
 
     -- it has broken off
     pub broken : (e : EvalRefusal) → ((q : Work) → IsWithin q limit 1 → IsAwaited (model_of text) q m stack [] i now → HasBrokenOff (model_of text) q m2 i later e) → (c : Node) → IsFor (model_of text) n c → HasLostItem (model_of text) n start m2 limit before later c e

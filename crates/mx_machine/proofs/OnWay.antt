@@ -47,7 +47,7 @@ use Rattle.mx_state.proofs.Binding.{each_binds_behind, end_binds_none, bound_wal
 use Rattle.mx_state.proofs.Bound.{inputs_end}
 use Rattle.mx_node_runs.specs.Behind.{behind}
 use Rattle.mx_reading.specs.Seen.{Seen, with_read}
-use Rattle.mx_stack.specs.Flight.{Flight}
+use Rattle.mx_stack.specs.Flight.{Flight, idle}
 use Rattle.mx_runs.proofs.Levels.{Split, leads_split, leads_once, same_value}
 use Rattle.mx_entries.specs.Entries.{entries_of, IsKept, IsOrdered}
 use Rattle.mx_entries.specs.Laws.{HasGrown}
@@ -255,10 +255,11 @@ module _ (text : ModelRecord) (n : Node) where
     ]
 
     -- the item awaits its run, with nothing on a stack of its own
-    pub item_awaited : 1 < limit → (stack : Flight) → IsAwaited (model_of text) work_waiting m stack [] i now
-    item_awaited room stack = record {
+    pub item_awaited : 1 < limit → (stack : Flight) → stack.top ≡ idle → IsAwaited (model_of text) work_waiting m stack [] i now
+    item_awaited room stack none = record {
       flight = flight_waiting;
       aloft = record { held = o.held; counted = o.counted; stand = refl };
+      idle = none;
       way = way_waiting;
       awaits = awaits_item;
       apart = apart_item;

@@ -93,7 +93,6 @@ fn enter(
     ensures frames { runs.new.frames.items ≡ runs.old.frames.items }
 {
     let alloc = runs.alloc;
-    runs.stack.begin(alloc, &[], 0)?;
     let Ok(()) = memo.begin(&node) else {
         return Err(AllocError);
     };

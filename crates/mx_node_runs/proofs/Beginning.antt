@@ -4,20 +4,18 @@ use Rattle.std.specs.Prelude.{IsErrOf, IsTrue, ◌↔◌, Result, Ok, Err}
 use Rattle.std.specs.Prelude.{length}
 use Rattle.mx_value.specs.declared.value.Value.{Value}
 use Rattle.mx_syntax.specs.declared.stmt.Param.{Param}
-use Rattle.mx_syntax.specs.declared.stmt.Stmt.{Stmt}
 use Rattle.mx_syntax.specs.declared.bind.BindRefusal.{BindRefusal}
 use Rattle.mx_syntax.specs.declared.bind.BindRefusal.TheVariants.{WrongCount as BadCount}
 use Rattle.mx_syntax.specs.Binding.{bound, is_wrong_count}
-use Rattle.mx_code.specs.Statements.{size_of}
 use Rattle.mx_code_law.specs.States.{state}
 use Rattle.mx_code_law.specs.Laws.{begun}
-use Rattle.mx_stack.specs.Flight.{Flight, all_of}
-use Rattle.mx_node_runs.specs.Begins.{standing}
+use Rattle.mx_stack.specs.Flight.{Flight, on_top}
+use Rattle.mx_node_runs.specs.Begins.{Enters}
 
--- a run that begins stands at the beginning of its code
-pub stands : (params : List Param) (body : List Stmt) (size : ℕ) (xs full : List Value) (old new : Flight) → new ≡ record { top = state 0 [] (begun size xs); below = all_of old } → size ≡ size_of params body → xs ≡ full → new ≡ standing params body full old
-stands params body size xs full old new e s x =
-    e ∙ ap (λ (k : ℕ). record { top = state 0 [] (begun k xs); below = all_of old }) s ∙ ap (λ (ys : List Value). standing params body ys old) x
+-- a run enters its code, with as many locals and with those first ones that it wants
+pub enters : (size other : ℕ) (xs full : List Value) (old new : Flight) → Enters size xs old new → size ≡ other → xs ≡ full → Enters other full old new
+enters size other xs full old new e s x = λ i.
+    e i ∙ ap (λ (k : ℕ). on_top (state 0 [] (begun k xs)) old) s ∙ ap (λ (ys : List Value). on_top (state 0 [] (begun other ys)) old) x
 
 -- arguments that bind are right in number
 right_count : (wrong : Bool) (r : Result (List Value) BindRefusal) (vs : List Value) → (IsErrOf r BadCount ↔ IsTrue wrong) → r ≡ Ok vs → wrong ≡ false

@@ -1,5 +1,5 @@
 -- The code of a formula begins, and does what is behind the walk of its node.
-use Rattle.std.proofs.Common.{◌≡◌, Bool, true, false, List, length, Option, refl, sym, ap, subst, ◌∙◌}
+use Rattle.std.proofs.Common.{◌≡◌, ℕ, Bool, true, false, List, [], length, Option, refl, sym, ap, subst, ◌∙◌}
 use Rattle.std.specs.Prelude.{if◌then◌else◌}
 use Rattle.mx_value.specs.declared.label.Label.{Label}
 use Rattle.mx_value.specs.declared.value.Value.{Value}
@@ -24,9 +24,10 @@ use Rattle.mx_meaning.specs.Statements.{body_done}
 use Rattle.mx_meaning.specs.Walks.{bound_or_refused}
 use Rattle.mx_code.specs.declared.action.Instr.{Instr}
 use Rattle.mx_code.specs.declared.code.Code.{Code}
-use Rattle.mx_code.specs.Statements.{body_of, code_of}
+use Rattle.mx_code.specs.Statements.{body_of, code_of, size_of}
 use Rattle.mx_code.specs.Told.{told}
 use Rattle.mx_code_law.specs.States as law
+use Rattle.mx_code_law.specs.Laws.{begun}
 use Rattle.mx_code_law.specs.Machine.{Does}
 use Rattle.mx_code_law.proofs.Formulas.{cells_do, items_do}
 use Rattle.mx_reading.specs.Seen.{Seen, with_key}
@@ -37,10 +38,10 @@ use Rattle.mx_names.specs.declared.home.Work.TheVariants as work
 use Rattle.mx_names.specs.Homes.{home_of}
 use Rattle.mx_node_runs.specs.declared.halt.Halt.{Halt}
 use Rattle.mx_node_runs.specs.declared.halt.Halt.TheVariants as halt
-use Rattle.mx_node_runs.specs.Begins.{standing}
+use Rattle.mx_node_runs.specs.Begins.{Enters}
 use Rattle.mx_node_runs.specs.Behind.{behind}
 use Rattle.mx_node_runs.specs.Halts.{HaltsAt, HaltsFrom}
-use Rattle.mx_node_runs.proofs.Halting.{all_below, ends_unbegun, from_look, of_same}
+use Rattle.mx_node_runs.proofs.Halting.{ends_unbegun, from_look, of_same}
 
 -- what binding comes to, by the count
 pub bound_as : (params : List Param) (args : List Value) (go : List Value → Run) (b : Bool) → is_wrong_count params (length args) ≡ b → bound_or_refused params args go ≡ (if b then Ends WrongCount else go (bound params args))
@@ -52,9 +53,9 @@ Proceeds model code h olds news at mid after =
     (run : Run) → Does (told code) (home_of h) mid.top run → HaltsAt model h.node run olds news at after.top
 
 -- the code of a run that begins does it to where it halts
-begun_halts : (model : Model) (params : List Param) (body : List Stmt) (full : List Value) (before mid after : Flight) (code : Code) (h : Home) (run : Run) (olds news : Seen) (at : Halt) → mid ≡ standing params body full before → Does (told code) (home_of h) (standing params body full before).top run → Proceeds model code h olds news at mid after → after.below ≡ mid.below → HaltsFrom model h.node run olds news at before after
-begun_halts model params body full before mid after code h run olds news at e d on b = λ i.
-    (on run (subst (λ (f : Flight). Does (told code) (home_of h) f.top run) (sym e) d), b ∙ ap (λ (f : Flight). f.below) e ∙ all_below before i)
+begun_halts : (model : Model) (size : ℕ) (full : List Value) (before mid after : Flight) (code : Code) (h : Home) (run : Run) (olds news : Seen) (at : Halt) → Enters size full before mid → Does (told code) (home_of h) (law.state 0 [] (begun size full)) run → Proceeds model code h olds news at mid after → after.below ≡ mid.below → HaltsFrom model h.node run olds news at before after
+begun_halts model size full before mid after code h run olds news at e d on b = λ i.
+    (on run (subst (λ (f : Flight). Does (told code) (home_of h) f.top run) (sym (e i)) d), b ∙ ap (λ (f : Flight). f.below) (e i))
 
 -- ---- cells
 
@@ -84,7 +85,7 @@ module _ (look : Key → KeyResult) (n : Node) (ns : Namespace) (name : Label) (
         (ends_unbegun (model_of look) n (cells_found n ns args (look cells_key)) (with_key cells_key olds) ending.WrongCount f (found_as true c)))
 
     pub cells_run : (before mid after : Flight) (own : Node) (home : Home) (mids : Seen) (code : Code) (news : Seen) (at : Halt) → home ≡ record { node = own; space = ns; work = work.Cells allow } → own ≡ n → mids ≡ with_key cells_key olds → is_wrong_count formula.params (length args) ≡ false
-        → mid ≡ standing formula.params formula.body (bound formula.params args) before → told code ≡ code_of formula.params formula.body
+        → Enters (size_of formula.params formula.body) (bound formula.params args) before mid → told code ≡ code_of formula.params formula.body
         → Proceeds (model_of look) code home mids news at mid after → after.below ≡ mid.below → HaltsFrom (model_of look) n cells_look olds news at before after
     cells_run before mid after own home mids code news at w o m c s t on b =
         let h : Home = record { node = n; space = ns; work = work.Cells allow } in
@@ -95,8 +96,8 @@ module _ (look : Key → KeyResult) (n : Node) (ns : Namespace) (name : Label) (
         (subst (λ (x : Home). Proceeds (model_of look) code x mids news at mid after) w on)) in
         from_look (model_of look) n cells_key (cells_found n ns args) olds news at before after
         (of_same (model_of look) n (cells_found n ns args (look cells_key)) run (with_key cells_key olds) news at before after (found_as false c)
-        (begun_halts (model_of look) formula.params formula.body (bound formula.params args) before mid after code h run (with_key cells_key olds) news at s
-        (subst (λ (is : List Instr). Does is (home_of h) (standing formula.params formula.body (bound formula.params args) before).top run) (sym t) (cells_do n ns allow formula.params formula.body args c)) here b))
+        (begun_halts (model_of look) (size_of formula.params formula.body) (bound formula.params args) before mid after code h run (with_key cells_key olds) news at s
+        (subst (λ (is : List Instr). Does is (home_of h) (law.state 0 [] (begun (size_of formula.params formula.body) (bound formula.params args))) run) (sym t) (cells_do n ns allow formula.params formula.body args c)) here b))
 
 -- ---- items
 
@@ -141,20 +142,20 @@ module _ (model : Model) (n : Node) (ns : Namespace) (args : List Value) (params
   item_too_large f full c e h = ends_unbegun model n made_run olds ending.NoSuch f (made_as full c e false h)
 
   pub item_runs : (before mid after : Flight) (own : Node) (home : Home) (full : List Value) (given : Overlay) (code : Code) (news : Seen) (at : Halt) → home ≡ record { node = own; space = ns; work = work.Item full given } → own ≡ n → is_wrong_count params (length args) ≡ false → full ≡ bound params args → is_allowed (item_at ns full) ≡ true → given ≡ arguments_of params full
-      → mid ≡ standing params (body_of body) full before → told code ≡ code_of params (body_of body) → Proceeds model code home olds news at mid after → after.below ≡ mid.below → HaltsFrom model n made_run olds news at before after
+      → Enters (size_of params (body_of body)) full before mid → told code ≡ code_of params (body_of body) → Proceeds model code home olds news at mid after → after.below ≡ mid.below → HaltsFrom model n made_run olds news at before after
   item_runs before mid after own home full given code news at w o c e l g s t on b =
       let h : Home = record { node = n; space = ns; work = work.Item full given } in
       let here : Proceeds model code h olds news at mid after = subst (λ (x : Node). Proceeds model code (record { node = x; space = ns; work = work.Item full given }) olds news at mid after) o
       (subst (λ (x : Home). Proceeds model code x olds news at mid after) w on) in
       let run : Run = item_done body n ns full (arguments_of params full) in
       let at_home : (vs : List Value) (over : Overlay) → law.Home = λ vs over. record { node = n; space = ns; work = law.OfItem vs over } in
-      let d : Does (told code) (home_of h) (standing params (body_of body) full before).top run =
-      subst (λ (is : List Instr). Does is (home_of h) (standing params (body_of body) full before).top run) (sym t)
-      (subst (λ (over : Overlay). Does (code_of params (body_of body)) (at_home full over) (standing params (body_of body) full before).top run) (sym g)
-      (subst (λ (vs : List Value). Does (code_of params (body_of body)) (at_home vs (arguments_of params vs)) (standing params (body_of body) vs before).top (item_done body n ns vs (arguments_of params vs))) (sym e)
+      let d : Does (told code) (home_of h) (law.state 0 [] (begun (size_of params (body_of body)) full)) run =
+      subst (λ (is : List Instr). Does is (home_of h) (law.state 0 [] (begun (size_of params (body_of body)) full)) run) (sym t)
+      (subst (λ (over : Overlay). Does (code_of params (body_of body)) (at_home full over) (law.state 0 [] (begun (size_of params (body_of body)) full)) run) (sym g)
+      (subst (λ (vs : List Value). Does (code_of params (body_of body)) (at_home vs (arguments_of params vs)) (law.state 0 [] (begun (size_of params (body_of body)) vs)) (item_done body n ns vs (arguments_of params vs))) (sym e)
       (items_do n ns params body args c))) in
       of_same model n made_run run olds news at before after (made_as full c e true l)
-      (begun_halts model params (body_of body) full before mid after code h run olds news at s d here b)
+      (begun_halts model (size_of params (body_of body)) full before mid after code h run olds news at s d here b)
 
 -- ---- nodes
 

@@ -1,22 +1,20 @@
 -- Where the run of a node halts.
-use Rattle.std.proofs.Common.{◌≡◌, ◌++◌, List, [], Option, reverse, refl, sym, ap, subst, ◌∙◌}
+use Rattle.std.proofs.Common.{◌≡◌, refl, sym, subst}
 use Rattle.std.specs.Prelude.{IfOk, OnOk, Result, Ok, Err}
-use Rattle.std.proofs.lemmas.List.{append-nil}
-use Rattle.mx_value.specs.declared.value.Value.{Value}
 use Rattle.mx_value.specs.declared.node.Node.{Node}
 use Rattle.mx_edit.specs.declared.key.Key.{Key}
 use Rattle.mx_edit.specs.declared.key.KeyResult.{KeyResult}
 use Rattle.mx_edit.specs.declared.reply.Reply.{Reply}
 use Rattle.mx_runs.specs.Runs.{Model, Run, Ends, Asks, Looks}
-use Rattle.mx_code_law.specs.States.{Slot, State}
+use Rattle.mx_code_law.specs.States.{State}
 use Rattle.mx_reading.specs.Seen.{Seen, with_key}
-use Rattle.mx_stack.specs.Flight.{Flight, all_of}
+use Rattle.mx_stack.specs.Flight.{Flight}
 use Rattle.mx_names.specs.declared.ending.Ending.{Ending}
 use Rattle.mx_names.specs.Endings.{ending_of}
 use Rattle.mx_node_runs.specs.declared.halt.Halt.{Halt}
 use Rattle.mx_node_runs.specs.declared.halt.Halt.TheVariants as halt
 use Rattle.mx_node_runs.specs.declared.halt.Waiting.{Waiting}
-use Rattle.mx_node_runs.specs.Halts.{HaltsAt, HaltsFrom, Resumes, idle}
+use Rattle.mx_node_runs.specs.Halts.{HaltsAt, HaltsFrom, Resumes}
 use Rattle.mx_node_runs.proofs.Going.{goes_to_halt, looked, stays}
 
 -- what follows from what holds of a result
@@ -28,13 +26,6 @@ of_one (Err e) p f = tt
 pub of_both : {X E : Type 0} (r : Result X E) {P Q : X → Type 0} {B : Type 0} → IfOk r P → OnOk r B → ((x : X) → P x → B → Q x) → IfOk r Q
 of_both (Ok x) p b f = f x p b
 of_both (Err e) p b f = tt
-
--- all that is on the stack belongs to the runs below, where no code of the run has begun
-pub all_below : (f : Flight) → f.top ≡ idle → all_of f ≡ f.below
-all_below f i =
-    ap (λ (s : State). record { slots = f.below.slots ++ reverse s.stack; locals = f.below.locals ++ s.locals }) i
-    ∙ ap (λ (xs : List Slot). record { slots = xs; locals = f.below.locals ++ [] }) (append-nil f.below.slots)
-    ∙ ap (λ (ls : List (Option Value)). record { slots = f.below.slots; locals = ls }) (append-nil f.below.locals)
 
 module _ (model : Model) (n : Node) where
   -- the run has ended

@@ -1,5 +1,5 @@
 -- Where the run of a node halts, and how it goes on from there.
-use Rattle.std.specs.Prelude.{◌≡◌, List, []}
+use Rattle.std.specs.Prelude.{◌≡◌, List}
 use Rattle.mx_value.specs.declared.node.Node.{Node}
 use Rattle.mx_edit.specs.Entry.{Entry}
 use Rattle.mx_edit.specs.declared.reply.Reply.{Reply}
@@ -7,10 +7,10 @@ use Rattle.mx_runs.specs.Runs.{Model, Run, Ends, Asks}
 use Rattle.mx_suspended.specs.Recorded.{GoesPast}
 use Rattle.mx_meaning.specs.Walks.{entered, walked_from}
 use Rattle.mx_code.specs.Told.{told}
-use Rattle.mx_code_law.specs.States.{State, state}
+use Rattle.mx_code_law.specs.States.{State}
 use Rattle.mx_code_law.specs.Machine.{Does}
 use Rattle.mx_reading.specs.Seen.{Seen}
-use Rattle.mx_stack.specs.Flight.{Flight}
+use Rattle.mx_stack.specs.Flight.{Flight, idle}
 use Rattle.mx_names.specs.Endings.{ending_of}
 use Rattle.mx_names.specs.Homes.{home_of}
 use Rattle.mx_steps.specs.Runs.{recorded, resumed}
@@ -19,10 +19,6 @@ use Rattle.mx_node_runs.specs.declared.halt.Waiting.{Waiting}
 use Rattle.mx_node_runs.specs.declared.halt.Waiting.TheVariants as waiting
 use Rattle.mx_node_runs.specs.declared.halt.Halt.{Halt}
 use Rattle.mx_node_runs.specs.declared.halt.Halt.TheVariants as halt
-
--- where no code of the run has begun
-abbrev pub idle : State
-idle = state 0 [] []
 
 -- the run of a node goes on with each reply as this says
 abbrev pub Resumes : Node → Waiting → State → (Reply → Run) → Type 0

@@ -15,7 +15,7 @@ use mx_value::label::Label;
 use mx_value::value::Value;
 use std::alloc::{AllocError, Global};
 
-/// Begins the code of a formula on the stack, where the arguments bind. Those that are bound already
+/// The run on top begins the code of a formula, where the arguments bind. Those that are bound already
 /// are not copied to be bound.
 pub fn begin_formula(
     alloc: Global,
@@ -29,12 +29,12 @@ pub fn begin_formula(
     let params = compiled.formula().params.as_slice();
     let size = compiled.code().size;
     if are_bound(params, arguments.as_slice()) {
-        stack.begin(alloc, arguments.as_slice(), size)?;
+        stack.enter(alloc, arguments.as_slice(), size)?;
         return Ok(true);
     }
     match bind(alloc, params, copy_items(alloc, arguments)?) {
         Ok(full) => {
-            stack.begin(alloc, full.as_slice(), size)?;
+            stack.enter(alloc, full.as_slice(), size)?;
             return Ok(true);
         }
         Err(BindRefusal::WrongCount) => return Ok(false),

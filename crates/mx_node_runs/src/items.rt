@@ -72,7 +72,7 @@ fn make_item(
             if !is_allowed(&space.at, &full) {
                 return Ok(Halt::Ends(Ending::NoSuch));
             }
-            stack.begin(alloc, full.as_slice(), compiled.code().size)?;
+            stack.enter(alloc, full.as_slice(), compiled.code().size)?;
             let given = name_arguments(alloc, params, full.as_slice())?;
             let work = Work::Item {
                 arguments: full,

@@ -1,12 +1,12 @@
 //! The run of a node, from its beginning or from an answer up to where it halts.
-ghost use Rattle.std.specs.Prelude.{◌≡◌, IfOk, OnOk};
+ghost use Rattle.std.specs.Prelude.{◌≡◌, IfOk};
 ghost use Rattle.mx_edit.specs.declared.reply.Reply.{Reply as Replies};
 ghost use Rattle.mx_meaning.specs.Nodes.{body};
 ghost use Rattle.mx_runs.specs.Runs.{Run};
 ghost use Rattle.mx_state.specs.Model.{model_of};
 ghost use Rattle.mx_walks.specs.Ways.{leading_run, told};
 ghost use Rattle.mx_node_runs.specs.Behind as behind;
-ghost use Rattle.mx_node_runs.specs.Halts.{HaltsAt, HaltsFrom, Resumes, idle};
+ghost use Rattle.mx_node_runs.specs.Halts.{HaltsAt, HaltsFrom, Resumes};
 
 use crate::arrived::Arrived;
 use crate::cells::enter_cells;
@@ -28,8 +28,8 @@ use mx_walks::walks::{Walked, walk_on};
 use mx_world::world::World;
 use std::alloc::{AllocError, Global};
 
-/// Begins the run of a node, of which nothing is on the stack yet. It is above all that waits there. Near may be any namespace:
-/// mostly a node is asked in the space of its own.
+/// Begins the run of a node, above all that waits on the stack. Near may be any namespace: mostly a node is asked in the
+/// space of its own.
 pub fn start(
     alloc: Global,
     world: &World,
@@ -38,10 +38,9 @@ pub fn start(
     seen: &mut Seen,
     stack: &mut Stack,
 ) -> Result<Halt, AllocError>
-    requires { stack.old.top ≡ idle }
-    ensures halts { IfOk result (λ halt.
-        HaltsAt (model_of world.now) node.now (body node.now) seen.old seen.new halt stack.new.top) }
-    ensures below { OnOk result (stack.new.below ≡ stack.old.below) }
+    ensures { IfOk result (λ halt.
+        HaltsFrom (model_of world.now) node.now (body node.now) seen.old seen.new halt
+        stack.old stack.new) }
 {
     if let Some(value) = find_input(alloc, world, node, seen)? {
         let reply = Reply {

@@ -13,7 +13,7 @@ use Rattle.mx_runs.specs.Runs.{Model, Run, Asks}
 use Rattle.mx_suspended.specs.Recorded.{Recorded, Adds, GoesPast, Stays, PastLook, PastTest, PastNote, PastHeld, PastInput}
 use Rattle.mx_suspended.proofs.Standing.{past_then}
 use Rattle.mx_code_law.specs.States.{State}
-use Rattle.mx_stack.specs.Flight.{Below, Flight}
+use Rattle.mx_stack.specs.Flight.{Flight}
 use Rattle.mx_node_runs.specs.declared.halt.Waiting.{Waiting}
 use Rattle.mx_node_runs.specs.declared.halt.Halt.TheVariants as halt
 use Rattle.mx_node_runs.specs.Halts.{HaltsAs, HaltsAt, Resumes}
@@ -119,7 +119,7 @@ module _ (model : Model) (m : Memory) (run : Run) (olds : Records) where
       }
 
   -- and what belongs to the runs below is kept
-  pub then_passes : (at : Running) (current : Current) (before after : Flight) (first : Below) (to : Passed) → HaltsPast model m run olds at before.top × (before.below ≡ first)
+  pub then_passes : (at : Running) (current : Current) (before after : Flight) (first : List State) (to : Passed) → HaltsPast model m run olds at before.top × (before.below ≡ first)
       → ((rest : Run) → HaltsAs at.current.node rest at.halt before.top → PassesTo model m rest at.current.records current to after.top × (after.below ≡ before.below))
       → PassesTo model m run olds current to after.top × (after.below ≡ first)
   then_passes at current before after first to h on = (passes_on at current before.top after.top to h.0 (λ rest g. (on rest g).0), (on h.0.rest h.0.halts).1 ∙ h.1)

@@ -20,4 +20,6 @@ pub enum Slot {
     Collected(Items<Value>),
     /// The references and the base of a display so far.
     Shown(Items<(Label, Value)>, Option<Box<Value>>),
+    /// A local that is not set.
+    Unset,
 }

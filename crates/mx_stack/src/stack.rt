@@ -1,16 +1,16 @@
 //! The stack of all runs in flight.
-ghost use Rattle.std.specs.Prelude.{◌≡◌, ◌≤◌, ◌++◌, [], length, slice_set, slice_get, option_copied, Some, IfOk, OnOk, MatchOption};
-ghost use Rattle.mx_code_law.specs.States.{state};
+ghost use Rattle.std.specs.Prelude.{◌≡◌, ◌≤◌, ◌∷◌, ◌++◌, [], length, List, OnOk, MatchOption, Some, None, map, slice_get, slice_set};
+ghost use Rattle.mx_code_law.specs.States.{State, state};
 ghost use Rattle.mx_code_law.specs.Laws.{begun};
-ghost use Rattle.mx_stack.specs.Slots.{told};
-ghost use Rattle.mx_stack.specs.Flight.{all_of, at_back, at_next, at_past, no_run, on_top, part_of, with_local, with_slot};
+ghost use Rattle.mx_stack.specs.Slots.{local_slots, told};
+ghost use Rattle.mx_stack.specs.Flight.{at_back, at_next, at_past, idle, local_of, no_run, on_top, with_local, with_slot};
 
 use crate::slot::Slot;
 use mx_value::value::Value;
 use std::alloc::{AllocError, Global};
 use std::marker::Model;
 
-/// Where a run stands: its place in its code, and where its slots and its locals begin.
+/// Where a run stands: its place in its code, where its locals begin, and where what is on its stack does.
 #[derive(Clone, Copy, Debug, PartialEq, Eq)]
 pub struct Place {
     pub pc: usize,
@@ -18,32 +18,41 @@ pub struct Place {
     pub floor: usize,
 }
 
-/// The slots and the locals of all runs in flight, those of the run on top last. Contracts see the
-/// run on top apart from what stands below it.
+/// The locals and the slots of all runs in flight, those of the run on top last. Contracts see each
+/// run apart.
 #[derive(Drop)]
 pub struct Stack {
-    pc: usize,
-    base: usize,
-    floor: usize,
+    at: Place,
+    below: Vec<Place>,
     slots: Vec<Slot>,
-    locals: Vec<Option<Value>>,
 }
 
 impl Model for Stack {
-    ghost use Rattle.std.specs.Prelude.{◌≤◌, length, map};
+    ghost use Rattle.std.specs.Prelude.{◌∷◌, length, map, reverse};
     ghost use Rattle.std.specs.Coded.{codes};
     ghost use Rattle.mx_value.specs.contracts.value.Value as value;
     ghost use Rattle.mx_value.specs.contracts.value.Segment as segment;
     ghost use Rattle.mx_stack.specs.Slots.{told};
-    ghost use Rattle.mx_stack.specs.Flight.{Flight, part_of};
+    ghost use Rattle.mx_stack.specs.Flight.{AreNested, Flight, flight_at};
 
     ghost Value = { Flight };
 
     ghost coded = { Prim.hlevel (codes, value.the_row.coded, segment.the_row.coded) };
 
-    ghost view = { λ s. part_of s.pc s.base s.floor (record { slots = map told s.slots.items; locals = s.locals.items }) };
+    ghost view = { λ s. flight_at s.at (reverse s.below.items) (map told s.slots.items) };
 
-    ghost invariant = { λ s. (s.base ≤ length s.slots.items) × (s.floor ≤ length s.locals.items) };
+    ghost invariant = { λ s. AreNested (s.at ∷ reverse s.below.items) (length s.slots.items) };
+}
+
+/// The place of a run that begins above so many slots.
+const fn place_above(slots: usize) -> Place
+    ensures { result ≡ record { pc = 0; base = slots; floor = slots } }
+{
+    Place {
+        pc: 0,
+        base: slots,
+        floor: slots,
+    }
 }
 
 impl Stack {
@@ -52,11 +61,9 @@ impl Stack {
         ensures { result ≡ no_run }
     {
         Stack {
-            pc: 0,
-            base: 0,
-            floor: 0,
+            at: place_above(0),
+            below: Vec::new(alloc),
             slots: Vec::new(alloc),
-            locals: Vec::new(alloc),
         }
     }
 
@@ -64,11 +71,9 @@ impl Stack {
     pub fn clear(&mut self)
         ensures { self.new ≡ no_run }
     {
-        self.pc = 0;
-        self.base = 0;
-        self.floor = 0;
+        self.at = place_above(0);
+        self.below.clear();
         self.slots.clear();
-        self.locals.clear();
     }
 
     /// The place of the run on top in its code.
@@ -76,7 +81,7 @@ impl Stack {
     pub fn pc(&self) -> usize
         ensures { result ≡ self.now.top.pc }
     {
-        self.pc
+        self.at.pc
     }
 
     /// Takes the topmost slot of the run on top.
@@ -85,7 +90,7 @@ impl Stack {
         ensures { MatchOption result ((self.old.top.stack ≡ []) × (self.new ≡ self.old))
             (λ x. self.old ≡ on_top (with_slot (told x) self.new.top) self.new) }
     {
-        if self.slots.len() <= self.base {
+        if self.slots.len() <= self.at.base {
             return None;
         }
         self.slots.pop()
@@ -115,13 +120,13 @@ impl Stack {
     pub fn pass(&mut self, count: usize) -> Result<(), AllocError>
         ensures { OnOk result (self.new ≡ on_top (at_past count self.old.top) self.old) }
     {
-        let Some(next) = self.pc.checked_add(1) else {
+        let Some(next) = self.at.pc.checked_add(1) else {
             return Err(AllocError);
         };
         let Some(place) = next.checked_add(count) else {
             return Err(AllocError);
         };
-        self.pc = place;
+        self.at.pc = place;
         Ok(())
     }
 
@@ -130,7 +135,7 @@ impl Stack {
     pub fn go_before(&mut self, count: usize)
         ensures { self.new ≡ on_top (at_back count self.old.top) self.old }
     {
-        self.pc = self.pc.saturating_sub(count);
+        self.at.pc = self.at.pc.saturating_sub(count);
     }
 
     /// The run on top goes on behind its instruction.
@@ -138,87 +143,86 @@ impl Stack {
     pub fn advance(&mut self) -> Result<(), AllocError>
         ensures { OnOk result (self.new ≡ on_top (at_next self.old.top) self.old) }
     {
-        let Some(next) = self.pc.checked_add(1) else {
+        let Some(next) = self.at.pc.checked_add(1) else {
             return Err(AllocError);
         };
-        self.pc = next;
+        self.at.pc = next;
         Ok(())
     }
 
-    /// A local of the run on top, which may not be set.
+    /// A local of the run on top, as it stands: it may not be set.
     #[inline(always)]
-    pub fn local(&self, place: usize) -> Option<&Option<Value>>
-        ensures { option_copied result ≡ slice_get self.now.top.locals place }
+    pub fn local(&self, place: usize) -> Option<&Slot>
+        ensures { MatchOption result (slice_get self.now.top.locals place ≡ None)
+            (λ x. slice_get self.now.top.locals place ≡ Some (local_of (told x.now))) }
     {
-        match self.floor.checked_add(place) {
-            Some(at) => self.locals.get(at),
-            None => None,
+        let at = self.at.floor.checked_add(place)?;
+        if self.at.base <= at {
+            return None;
         }
+        let slot = self.slots.get(at)?;
+        Some(slot)
     }
 
     /// Sets a local of the run on top, where it has one at this place.
     pub fn set_local(&mut self, place: usize, value: Value)
         ensures { self.new ≡ on_top (with_local place value self.old.top) self.old }
     {
-        if let Some(at) = self.floor.checked_add(place) {
-            set(&mut self.locals, at, value);
+        let Some(at) = self.at.floor.checked_add(place) else {
+            return;
+        };
+        if at < self.at.base {
+            put(&mut self.slots, at, Slot::Holds(value));
         }
     }
 
-    /// Where the run on top stands, to go on with it once those that begin above it have ended.
-    pub fn place(&self) -> Place
-        ensures same { part_of result.pc result.base result.floor (all_of self.now) ≡ self.now }
-        ensures base { result.base ≤ length (all_of self.now).slots }
-        ensures floor { result.floor ≤ length (all_of self.now).locals }
-    {
-        Place {
-            pc: self.pc,
-            base: self.base,
-            floor: self.floor,
-        }
-    }
-
-    /// A run begins above all others, at the first instruction of its code, with these arguments as
-    /// its first locals and so many in all.
+    /// A run begins above all others, with nothing on its stack.
     #[inline(always)]
-    pub fn begin(
+    pub fn begin(&mut self) -> Result<(), AllocError>
+        ensures { OnOk result
+            (self.new ≡ record { top = idle; below = self.old.top ∷ self.old.below }) }
+    {
+        self.below.push(self.at)?;
+        self.at = place_above(self.slots.len());
+        Ok(())
+    }
+
+    /// The run on top, of which nothing has begun, enters its code with these arguments as its first
+    /// locals and so many in all.
+    #[inline(always)]
+    pub fn enter(
         &mut self,
         alloc: Global,
         arguments: &[Value],
         size: usize,
     ) -> Result<(), AllocError>
-        ensures { OnOk result
-            (self.new
-            ≡ record { top = state 0 [] (begun size arguments.now); below = all_of self.old }) }
+        ensures { OnOk result (self.old.top ≡ idle →
+            self.new ≡ on_top (state 0 [] (begun size arguments.now)) self.old) }
     {
-        let floor = self.locals.len();
-        push_locals(alloc, &mut self.locals, arguments, size)?;
-        self.pc = 0;
-        self.base = self.slots.len();
-        self.floor = floor;
+        push_locals(alloc, &mut self.slots, arguments, size)?;
+        self.at.pc = 0;
+        self.at.base = self.slots.len();
         Ok(())
     }
 
-    /// The run on top is over, and the one at this place, which is within what stands below, goes on.
-    pub fn go_back(&mut self, place: Place)
-        ensures { place.base ≤ length self.old.below.slots →
-            place.floor ≤ length self.old.below.locals →
-            self.new ≡ part_of place.pc place.base place.floor self.old.below }
+    /// The run on top is over, and the one below it goes on.
+    pub fn end(&mut self)
+        ensures { (s : State) (others : List State) → self.old.below ≡ s ∷ others →
+            self.new ≡ record { top = s; below = others } }
     {
-        self.slots.truncate(self.base);
-        self.locals.truncate(self.floor);
-        self.pc = place.pc;
-        self.base = place.base.min(self.base);
-        self.floor = place.floor.min(self.floor);
+        if let Some(place) = self.below.pop() {
+            self.slots.truncate(self.at.floor);
+            self.at = place;
+        }
     }
 }
 
-/// Sets the local at a place, where there is one.
-fn set(locals: &mut Vec<Option<Value>>, at: usize, value: Value)
-    ensures { locals.new.items ≡ slice_set locals.old.items at (Some value) }
+/// Puts a slot in the place of one, where there is one.
+fn put(slots: &mut Vec<Slot>, at: usize, slot: Slot)
+    ensures { slots.new.items ≡ slice_set slots.old.items at slot }
 {
-    if at < locals.len() {
-        locals[at] = Some(value);
+    if at < slots.len() {
+        slots[at] = slot;
     }
 }
 
@@ -226,18 +230,19 @@ fn set(locals: &mut Vec<Option<Value>>, at: usize, value: Value)
 #[inline(always)]
 fn push_locals(
     alloc: Global,
-    locals: &mut Vec<Option<Value>>,
+    slots: &mut Vec<Slot>,
     arguments: &[Value],
     size: usize,
 ) -> Result<(), AllocError>
-    ensures pushed { OnOk result (locals.new.items ≡ locals.old.items ++ begun size arguments.now) }
-    ensures longer { length locals.old.items ≤ length locals.new.items }
+    ensures pushed { OnOk result
+        (map told slots.new.items ≡ map told slots.old.items ++ local_slots size arguments.now) }
+    ensures longer { length slots.old.items ≤ length slots.new.items }
 {
     for argument in arguments {
-        locals.push(Some(argument.copy(alloc)?))?;
+        slots.push(Slot::Holds(argument.copy(alloc)?))?;
     }
     for _ in 0..size.saturating_sub(arguments.len()) {
-        locals.push(None)?;
+        slots.push(Slot::Unset)?;
     }
     Ok(())
 }

@@ -85,7 +85,7 @@ pub fn local(alloc: Global, stack: &mut Stack, place: usize) -> Went
     ensures below { OnSome (done result) (stack.new.below ≡ stack.old.below) }
 {
     let copy = match stack.local(place) {
-        Some(Some(value)) => copy_in_place(value),
+        Some(Slot::Holds(value)) => copy_in_place(value),
         _ => None,
     };
     match copy {
@@ -101,8 +101,8 @@ fn copy_local(alloc: Global, stack: &mut Stack, place: usize) -> Went
     ensures below { OnSome (done result) (stack.new.below ≡ stack.old.below) }
 {
     let value = match stack.local(place) {
-        Some(Some(value)) => value.copy(alloc),
-        Some(None) => return Went::Faults(FaultKind::UnsetLocal),
+        Some(Slot::Holds(value)) => value.copy(alloc),
+        Some(_) => return Went::Faults(FaultKind::UnsetLocal),
         None => return Went::NoMemory,
     };
     let Ok(value) = value else {

@@ -19,7 +19,8 @@ use Rattle.mx_suspended.specs.Flights.{InFlight, IsTop, IsUnderWay, nodes_waitin
 use Rattle.mx_suspended.specs.Ended.{HasEnded, keeps}
 use Rattle.mx_suspended.proofs.Steps.{beginning, passing, answering_fault, answering_no_such, answering_wrong_count, wanting_memory}
 use Rattle.mx_suspended.proofs.Waiting.{none_has_value}
-use Rattle.mx_stack.specs.Flight.{Below, Flight, all_of}
+use Rattle.mx_code_law.specs.States.{State}
+use Rattle.mx_stack.specs.Flight.{Flight}
 use Rattle.mx_names.specs.declared.ending.Ending.TheVariants as ending
 use Rattle.mx_reading.specs.Seen.{Seen, nothing_seen}
 use Rattle.mx_steps.specs.Runs.{recorded}
@@ -99,7 +100,7 @@ module _ (model : Model) (ends : InputsEnd model) (q : Work) where
     begun_broken after first later h t = under_broken after begun _ first later (a.aloft.held ∙ ap entries_of (sym h)) (let z = a.aloft.counted in omega (arith, z, t)) begun_top.under_way
 
     -- it goes on to where it halts
-    pub begun_flies : (after : Memory) (stack2 : Flight) (r : Running) (seen : Seen) (later : ℕ) → after.held ≡ m.held → stack2.below ≡ all_of stack → later ≡ suc now
+    pub begun_flies : (after : Memory) (stack2 : Flight) (r : Running) (seen : Seen) (later : ℕ) → after.held ≡ m.held → stack2.below ≡ stack.below → later ≡ suc now
         → r.current.node ≡ n → r.current.records.seen ≡ seen → r.current.records.asks ≡ [] → HaltsAt model n (model.body n) nothing_seen seen r.halt stack2.top → HasOwnKey n seen.keys → Flies model q after stack2 frames r later
     begun_flies after stack2 r seen later h b t e es ea halts own =
         let past : GoesPast model begun.held (model.body n) nothing halts.rest (recorded seen []) = halts.past begun.held [] in
@@ -110,7 +111,7 @@ module _ (model : Model) (ends : InputsEnd model) (q : Work) where
           aloft = record {
             held = a.aloft.held ∙ ap entries_of (sym h);
             counted = (let z = a.aloft.counted in omega (arith, z, t));
-            stand = subst (λ (ks : List Kept). Stand ks stack2.below (reverse frames) a.flight.waiting q.bottom) (sym h) (subst (λ (x : Below). Stand m.held x (reverse frames) a.flight.waiting q.bottom) (sym b) a.aloft.stand);
+            stand = subst (λ (ks : List Kept). Stand ks stack2.below (reverse frames) a.flight.waiting q.bottom) (sym h) (subst (λ (x : List State). Stand m.held x (reverse frames) a.flight.waiting q.bottom) (sym b) a.aloft.stand);
           };
           way = subst (λ (x : Node). IsOnTheWay model q.bottom (first_of frames x)) (sym e) a.way;
           run = halts.rest;
@@ -127,7 +128,7 @@ module _ (model : Model) (ends : InputsEnd model) (q : Work) where
     aloft = record {
       held = f.aloft.held;
       counted = f.aloft.counted;
-      stand = subst (λ (x : Below). Stand m.held x (reverse frames) f.flight.waiting q.bottom) (sym b) f.aloft.stand;
+      stand = subst (λ (x : List State). Stand m.held x (reverse frames) f.flight.waiting q.bottom) (sym b) f.aloft.stand;
     };
     way = subst (λ (x : Node). IsOnTheWay model q.bottom (first_of frames x)) (sym e) f.way;
     run = p.rest;

@@ -22,7 +22,8 @@ use Rattle.mx_answers.specs.Held.{most_held}
 use Rattle.mx_suspended.specs.Recorded.{Recorded, Adds, GoesPast, as_entry}
 use Rattle.mx_suspended.specs.Flights.{Suspended, InFlight, IsTop, IsDone}
 use Rattle.mx_suspended.proofs.Steps.{giving, handing_down, passing, answering_full}
-use Rattle.mx_stack.specs.Flight.{Below, Flight}
+use Rattle.mx_code_law.specs.States.{State}
+use Rattle.mx_stack.specs.Flight.{Flight}
 use Rattle.mx_names.specs.declared.ending.Ending.TheVariants as ending
 use Rattle.mx_reading.specs.Seen.{Seen, added, with_read}
 use Rattle.mx_steps.specs.Runs.{recorded}
@@ -33,7 +34,7 @@ use Rattle.mx_bound.specs.Records.{recorded_in, with_ask, HasOwnKey}
 use Rattle.mx_bound.specs.declared.records.Records.{Records}
 use Rattle.mx_bound.proofs.Recording.{ask_adds}
 use Rattle.mx_passing.specs.Passing.{IsPausedAt}
-use Rattle.mx_turns.specs.Flights.{Work, Flies, IsGiven, IsPaused, HasBrokenOff, IsOnTheWay, Stand, StandsFor, first_of, part_at}
+use Rattle.mx_turns.specs.Flights.{Work, Flies, IsGiven, IsPaused, HasBrokenOff, IsOnTheWay, Stand, StandsFor, first_of}
 use Rattle.mx_turns.specs.Giving.{IsHandedOver}
 use Rattle.mx_turns.specs.declared.runs.Frame.{Frame}
 use Rattle.mx_passing.specs.declared.current.Running.{Running}
@@ -89,7 +90,7 @@ module _ (model : Model) (ends : InputsEnd model) (q : Work) (now : ℕ) where
         }
 
   -- none waits above the bottom
-  pub handed_to_bottom : (m : Memory) (b : Below) (given : Given) → IsHandedOver model q m b [] given.node given.reply now → IsGiven model q m given now
+  pub handed_to_bottom : (m : Memory) (b : List State) (given : Given) → IsHandedOver model q m b [] given.node given.reply now → IsGiven model q m given now
   handed_to_bottom m b given h = record {
     flight = h.flight;
     held = h.aloft.held;
@@ -98,11 +99,11 @@ module _ (model : Model) (ends : InputsEnd model) (q : Work) (now : ℕ) where
     done = h.done;
   }
 
-  pub handed_broken : (m : Memory) (b : Below) (frames : List Frame) (n first : Node) (reply : Reply) → IsHandedOver model q m b frames n reply now → HasBrokenOff model q m first now refusal.NoMemory
+  pub handed_broken : (m : Memory) (b : List State) (frames : List Frame) (n first : Node) (reply : Reply) → IsHandedOver model q m b frames n reply now → HasBrokenOff model q m first now refusal.NoMemory
   handed_broken m b frames n first reply h = under_broken model ends q m h.flight _ first now h.aloft.held h.aloft.counted h.done.under_way
 
   -- the last frame goes on
-  module _ (m : Memory) (b : Below) (front : List Frame) (w : Frame) (n : Node) (reply : Reply) (h : IsHandedOver model q m b (front ++ w ∷ []) n reply now) where
+  module _ (m : Memory) (b : List State) (front : List Frame) (w : Frame) (n : Node) (reply : Reply) (h : IsHandedOver model q m b (front ++ w ∷ []) n reply now) where
     stood : Stand m.held b (w ∷ reverse front) h.flight.waiting q.bottom
     stood = subst (λ (ws : List Frame). Stand m.held b ws h.flight.waiting q.bottom) (rev_push front w) h.aloft.stand
 
@@ -111,25 +112,22 @@ module _ (model : Model) (ends : InputsEnd model) (q : Work) (now : ℕ) where
       pub asker : Suspended
       pub below : List Suspended
       pub is : h.flight.waiting ≡ asker ∷ below
-      pub stands : StandsFor m.held b w asker
-      pub others : Stand m.held (part_at w.place b).below (reverse front) below q.bottom
+      pub state : State
+      pub states : List State
+      pub on : b ≡ state ∷ states
+      pub stands : StandsFor m.held state w asker
+      pub others : Stand m.held states (reverse front) below q.bottom
 
     popped_from : (fs : List Suspended) → h.flight.waiting ≡ fs → Stand m.held b (w ∷ reverse front) fs q.bottom → Popped
     popped_from [] e s = absurd s
-    popped_from (f ∷ fs) e s = record { asker = f; below = fs; is = e; stands = s.0; others = s.1 }
+    popped_from (f ∷ fs) e s = record { asker = f; below = fs; is = e; state = s.0; states = s.1; on = s.2; stands = s.3; others = s.4 }
 
     pub popped : Popped
     popped = popped_from h.flight.waiting refl stood
 
     -- what it did with the answer
-    pub asker_resumes : Resumes w.current.node w.waiting (part_at w.place b).top popped.asker.go
+    pub asker_resumes : Resumes w.current.node w.waiting popped.state popped.asker.go
     asker_resumes = popped.stands.resumes
-
-    pub asker_base : w.place.base ≤ length b.slots
-    asker_base = popped.stands.base
-
-    pub asker_floor : w.place.floor ≤ length b.locals
-    asker_floor = popped.stands.floor
 
     abbrev popped_flight : InFlight
     popped_flight = record h.flight { waiting = popped.below }
@@ -154,7 +152,7 @@ module _ (model : Model) (ends : InputsEnd model) (q : Work) (now : ℕ) where
           ∙ sym (recorded_as m.held records (with_read (read.Node n) w.current.records.seen) (with_ask id w.current.records.asks) rs ra)
 
       -- it goes on to where it halts
-      pub asker_flies : (stack : Flight) (r : Running) (seen : Seen) → stack.below ≡ (part_at w.place b).below → r.current.node ≡ w.current.node → r.current.records.seen ≡ seen → r.current.records.asks ≡ records.asks
+      pub asker_flies : (stack : Flight) (r : Running) (seen : Seen) → stack.below ≡ popped.states → r.current.node ≡ w.current.node → r.current.records.seen ≡ seen → r.current.records.asks ≡ records.asks
           → HaltsAt model w.current.node (popped.asker.go reply) records.seen seen r.halt stack.top → HasOwnKey w.current.node seen.keys → Flies model q m stack front r now
       asker_flies stack r seen eb en es ea halts own =
           let ids : List Node = nodes_under m.held (map id_at records.asks) in
@@ -167,7 +165,7 @@ module _ (model : Model) (ends : InputsEnd model) (q : Work) (now : ℕ) where
             aloft = record {
               held = h.aloft.held;
               counted = h.aloft.counted;
-              stand = subst (λ (x : Below). Stand m.held x (reverse front) popped.below q.bottom) (sym eb) popped.others;
+              stand = subst (λ (x : List State). Stand m.held x (reverse front) popped.below q.bottom) (sym eb) popped.others;
             };
             way = subst (λ (x : Node). IsOnTheWay model q.bottom x) (first_pushed front w n ∙ ap (first_of front) (sym en)) h.way;
             run = halts.rest;

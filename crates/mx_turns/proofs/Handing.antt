@@ -9,7 +9,8 @@ use Rattle.mx_runs.specs.Lists.{Has, Distinct}
 use Rattle.mx_runs.specs.Runs.{Model, Run}
 use Rattle.mx_runs.specs.Inputs.{InputsEnd}
 use Rattle.mx_suspended.specs.Recorded.{GoesPast}
-use Rattle.mx_stack.specs.Flight.{Below, Flight, part_of}
+use Rattle.mx_code_law.specs.States.{State}
+use Rattle.mx_stack.specs.Flight.{Flight}
 use Rattle.mx_reading.specs.Seen.{Seen, with_read}
 use Rattle.mx_steps.specs.Runs.{recorded}
 use Rattle.mx_node_runs.specs.Halts.{HaltsAt, Resumes}
@@ -19,14 +20,14 @@ use Rattle.mx_bound.specs.declared.records.Records.{Records}
 use Rattle.mx_bound.proofs.Recording.{ask_held}
 use Rattle.mx_passing.specs.declared.current.Running.{Running}
 use Rattle.mx_passing.proofs.Passes.{grows, own_stays}
-use Rattle.mx_turns.specs.Flights.{Work, Flies, IsSound, IsSoundWith, first_of, frame_nodes, part_at}
+use Rattle.mx_turns.specs.Flights.{Work, Flies, IsSound, IsSoundWith, first_of, frame_nodes}
 use Rattle.mx_turns.specs.Giving.{IsAtHand, IsHandedOver}
 use Rattle.mx_turns.specs.declared.runs.Frame.{Frame}
 use Rattle.mx_turns.specs.declared.progress.Given.{Given}
 use Rattle.mx_turns.proofs.Standing.{first_pushed}
 use Rattle.mx_turns.proofs.Flown.{in_front, at_end}
 use Rattle.mx_turns.proofs.Waiting.{nodes_pushed}
-use Rattle.mx_turns.proofs.Gives.{asker_flies, asker_resumes, asker_base, asker_floor, popped}
+use Rattle.mx_turns.proofs.Gives.{Popped, asker_flies, asker_resumes, popped}
 
 module _ (m : Memory) (olds front : List Frame) (w : Frame) (given : Given) (is : olds ≡ front ++ w ∷ []) (at : IsAtHand m olds given)
     (x : Node) (ex : x ≡ given.node) (records : Records) (rs : records.seen ≡ with_read (read.Node x) w.current.records.seen) (ra : records.asks ≡ with_ask given.id w.current.records.asks)
@@ -52,17 +53,20 @@ module _ (m : Memory) (olds front : List Frame) (w : Frame) (given : Given) (is 
       nodes = ap frame_nodes is ∙ nodes_pushed front w ∙ ap (λ (y : Node). frame_nodes front ++ y ∷ []) (sym en)
 
   -- it flies on
-  module _ (model : Model) (ends : InputsEnd model) (q : Work) (now : ℕ) (b : Below) (h : IsHandedOver model q m b olds given.node given.reply now) (stack1 stack2 : Flight)
-      (back : w.place.base ≤ length b.slots → w.place.floor ≤ length b.locals → stack1 ≡ part_of w.place.pc w.place.base w.place.floor b) (reply : Reply) (er : reply ≡ given.reply)
+  module _ (model : Model) (ends : InputsEnd model) (q : Work) (now : ℕ) (b : List State) (h : IsHandedOver model q m b olds given.node given.reply now) (stack1 stack2 : Flight)
+      (back : (s : State) (others : List State) → b ≡ s ∷ others → stack1 ≡ record { top = s; below = others }) (reply : Reply) (er : reply ≡ given.reply)
       (goes : (go : Reply → Run) → Resumes w.current.node w.waiting stack1.top go → HaltsAt model w.current.node (go reply) records.seen r.current.records.seen r.halt stack2.top × (stack2.below ≡ stack1.below)) where
     over : IsHandedOver model q m b (front ++ w ∷ []) given.node given.reply now
     over = subst (λ (ws : List Frame). IsHandedOver model q m b ws given.node given.reply now) is h
 
-    stack_is : stack1 ≡ part_at w.place b
-    stack_is = back (asker_base model ends q now m b front w given.node given.reply over) (asker_floor model ends q now m b front w given.node given.reply over)
+    abbrev was : Popped model ends q now m b front w given.node given.reply over
+    was = popped model ends q now m b front w given.node given.reply over
+
+    stack_is : stack1 ≡ record { top = was.state; below = was.states }
+    stack_is = back was.state was.states was.on
 
     abbrev go_on : Reply → Run
-    go_on = (popped model ends q now m b front w given.node given.reply over).asker.go
+    go_on = was.asker.go
 
     gone : HaltsAt model w.current.node (go_on reply) records.seen r.current.records.seen r.halt stack2.top × (stack2.below ≡ stack1.below)
     gone = goes go_on (subst (λ (f : Flight). Resumes w.current.node w.waiting f.top go_on) (sym stack_is) (asker_resumes model ends q now m b front w given.node given.reply over))

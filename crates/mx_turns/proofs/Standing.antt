@@ -5,12 +5,12 @@ use Rattle.mx_value.specs.declared.node.Node.{Node}
 use Rattle.mx_vertices.specs.Kept.{Kept}
 use Rattle.mx_runs.specs.Lists.{Has}
 use Rattle.mx_suspended.specs.Flights.{Suspended, nodes_waiting}
-use Rattle.mx_stack.specs.Flight.{Below}
+use Rattle.mx_code_law.specs.States.{State}
 use Rattle.mx_memo.specs.Memos.{AreHeld}
 use Rattle.mx_bound.specs.Records.{recorded_in}
 use Rattle.mx_bound.specs.declared.records.Records.{Records}
 use Rattle.mx_bound.proofs.Recording.{all_grown}
-use Rattle.mx_turns.specs.Flights.{Stand, frame_nodes, part_at, first_of}
+use Rattle.mx_turns.specs.Flights.{Stand, frame_nodes, first_of}
 use Rattle.mx_turns.specs.declared.runs.Frame.{Frame}
 
 pub rev_push : {X : Type 0} (xs : List X) (x : X) → reverse (xs ++ x ∷ []) ≡ x ∷ reverse xs
@@ -24,32 +24,33 @@ pub recorded_grown : (held more : List Kept) (n : Node) (r : Records) → AreHel
 recorded_grown held more n r asks = ap (λ (ns : List Node). record { keys = r.seen.keys; asks = ns; reads = r.seen.reads }) (all_grown held more r.asks asks)
 
 -- so do the runs that frames stand for
-pub stand_grown : (held more : List Kept) (b : Below) (ws : List Frame) (fs bottom : List Suspended) → ((w : Frame) → Has ws w → AreHeld held w.current.records.asks) → Stand held b ws fs bottom → Stand (held ++ more) b ws fs bottom
+pub stand_grown : (held more : List Kept) (b : List State) (ws : List Frame) (fs bottom : List Suspended) → ((w : Frame) → Has ws w → AreHeld held w.current.records.asks) → Stand held b ws fs bottom → Stand (held ++ more) b ws fs bottom
 stand_grown held more b [] fs bottom fit s = s
 stand_grown held more b (w ∷ ws) [] bottom fit s = s
 stand_grown held more b (w ∷ ws) (f ∷ fs) bottom fit s = (
+  s.0,
+  s.1,
+  s.2,
   record {
-    node = s.0.node;
-    so_far = s.0.so_far ∙ sym (recorded_grown held more w.current.node w.current.records (fit w (inl refl)));
-    base = s.0.base;
-    floor = s.0.floor;
-    resumes = s.0.resumes;
-    own = s.0.own;
+    node = s.3.node;
+    so_far = s.3.so_far ∙ sym (recorded_grown held more w.current.node w.current.records (fit w (inl refl)));
+    resumes = s.3.resumes;
+    own = s.3.own;
   },
-  stand_grown held more (part_at w.place b).below ws fs bottom (λ x h. fit x (inr h)) s.1,
+  stand_grown held more s.1 ws fs bottom (λ x h. fit x (inr h)) s.4,
 )
 
 -- the nodes that wait are those of the frames and of the bottom
-pub stand_nodes : (held : List Kept) (b : Below) (ws : List Frame) (fs bottom : List Suspended) → Stand held b ws fs bottom → nodes_waiting fs ≡ frame_nodes ws ++ nodes_waiting bottom
+pub stand_nodes : (held : List Kept) (b : List State) (ws : List Frame) (fs bottom : List Suspended) → Stand held b ws fs bottom → nodes_waiting fs ≡ frame_nodes ws ++ nodes_waiting bottom
 stand_nodes held b [] fs bottom s = ap nodes_waiting s
 stand_nodes held b (w ∷ ws) [] bottom s = absurd s
 stand_nodes held b (w ∷ ws) (f ∷ fs) bottom s =
-    ap (λ (n : Node). n ∷ nodes_waiting fs) s.0.node ∙ ap (λ (ns : List Node). w.current.node ∷ ns) (stand_nodes held (part_at w.place b).below ws fs bottom s.1)
+    ap (λ (n : Node). n ∷ nodes_waiting fs) s.3.node ∙ ap (λ (ns : List Node). w.current.node ∷ ns) (stand_nodes held s.1 ws fs bottom s.4)
 
-pub stand_long : (held : List Kept) (b : Below) (ws : List Frame) (fs bottom : List Suspended) → Stand held b ws fs bottom → length fs ≡ length ws + length bottom
+pub stand_long : (held : List Kept) (b : List State) (ws : List Frame) (fs bottom : List Suspended) → Stand held b ws fs bottom → length fs ≡ length ws + length bottom
 stand_long held b [] fs bottom s = omega (arith, ap length s)
 stand_long held b (w ∷ ws) [] bottom s = absurd s
-stand_long held b (w ∷ ws) (f ∷ fs) bottom s = let i = stand_long held (part_at w.place b).below ws fs bottom s.1 in omega (arith, i)
+stand_long held b (w ∷ ws) (f ∷ fs) bottom s = let i = stand_long held s.1 ws fs bottom s.4 in omega (arith, i)
 
 pub map_reverse : {X Y : Type 0} (f : X → Y) (xs : List X) → map f (reverse xs) ≡ reverse (map f xs)
 map_reverse f [] = refl

@@ -16,12 +16,11 @@ use Rattle.mx_suspended.proofs.Steps.{asking, answering_ring, answering_too_deep
 use Rattle.mx_suspended.proofs.Growing.{asked_recorded}
 use Rattle.mx_suspended.proofs.Deep.{on_ring}
 use Rattle.mx_items_first.specs.Laws.{PassesThrough, address_of}
-use Rattle.mx_stack.specs.Flight.{Flight, all_of}
-use Rattle.mx_stack.specs.declared.stack.Place.{Place}
+use Rattle.mx_code_law.specs.States.{State}
+use Rattle.mx_stack.specs.Flight.{Flight, idle}
 use Rattle.mx_entries.specs.Entries.{entries_of}
 use Rattle.mx_bound.specs.Records.{recorded_in}
-use Rattle.mx_node_runs.specs.Halts.{Resumes}
-use Rattle.mx_turns.specs.Flights.{AsksInOrder, Work, IsAloft, IsAwaited, IsPaused, HasBrokenOff, IsOnTheWay, IsItemBefore, Stand, first_of, frame_nodes, part_at}
+use Rattle.mx_turns.specs.Flights.{AsksInOrder, Work, IsAloft, IsAwaited, IsPaused, HasBrokenOff, IsOnTheWay, IsItemBefore, Stand, first_of, frame_nodes}
 use Rattle.mx_turns.specs.declared.runs.Frame.{Frame}
 use Rattle.mx_passing.specs.declared.current.Current.{Current}
 use Rattle.mx_passing.specs.declared.passing.Asked.{Asked}
@@ -30,9 +29,9 @@ use Rattle.mx_turns.proofs.Standing.{stand_nodes, stand_long, map_reverse, rev_p
 use Rattle.mx_turns.proofs.Flown.{is_flying, kept_end, unkept_end, under_broken}
 
 -- the last of those that wait asks the node
-pub record IsAsking (model : Model) (q : Work) (m : Memory) (stack : Flight) (frames : List Frame) (n first : Node) (now : ℕ) : Type 0 where
+pub record IsAsking (model : Model) (q : Work) (m : Memory) (b : List State) (frames : List Frame) (n first : Node) (now : ℕ) : Type 0 where
   pub flight : InFlight
-  pub aloft : IsAloft q m (all_of stack) frames now flight
+  pub aloft : IsAloft q m b frames now flight
   pub way : IsOnTheWay model q.bottom first
   pub awaits : Awaits model q.ev flight n
   pub flying : Has (nodes_waiting flight.waiting) first
@@ -59,12 +58,15 @@ has_behind (z ∷ xs) x ys = inr (has_behind xs x ys)
 
 module _ (model : Model) (ends : InputsEnd model) (q : Work) (m : Memory) (now : ℕ) where
   -- the run on top, with its frame
-  module _ (stack : Flight) (frames : List Frame) (current : Current) (a : Asked) (place : Place)
+  module _ (stack : Flight) (frames : List Frame) (current : Current) (a : Asked)
       (p : IsPaused model q m stack frames (record { current = current; paused = paused.Asks a }) now)
-      (unheld : Has (nodes_of (entries_of m.held)) a.node → ⊥) (own : is_input model a.node ≡ false)
-      (same : part_at place (all_of stack) ≡ stack) (base : place.base ≤ length (all_of stack).slots) (floor : place.floor ≤ length (all_of stack).locals) where
+      (unheld : Has (nodes_of (entries_of m.held)) a.node → ⊥) (own : is_input model a.node ≡ false) where
     abbrev frame : Frame
-    frame = record { current = current; waiting = a.waiting; place = place }
+    frame = record { current = current; waiting = a.waiting }
+
+    -- the states of the runs that wait
+    abbrev states : List State
+    states = stack.top ∷ stack.below
 
     abbrev waiter : Suspended
     waiter = record { node = current.node; so_far = recorded_in m.held current.records; go = p.pauses.0 }
@@ -75,22 +77,23 @@ module _ (model : Model) (ends : InputsEnd model) (q : Work) (m : Memory) (now :
     unknown : IsKnown model (nodes_of p.flight.held) a.node → ⊥
     unknown k = elim k [ inl h ↦ unheld (subst (λ (x : List Node). Has x a.node) (ap nodes_of p.aloft.held) h) | inr i ↦ (let j : true ≡ false = sym i ∙ own in absurd (cc)) ]
 
-    pub asks : IsAsking model q m stack (frames ++ frame ∷ []) a.node (first_of frames current.node) now
+    pub asks : IsAsking model q m states (frames ++ frame ∷ []) a.node (first_of frames current.node) now
     asks = record {
       flight = record p.flight { waiting = waiter ∷ p.flight.waiting };
       aloft = record {
         held = p.aloft.held;
         counted = p.aloft.counted;
-        stand = subst (λ (ws : List Frame). Stand m.held (all_of stack) ws (waiter ∷ p.flight.waiting) q.bottom) (sym (rev_push frames frame)) (
+        stand = subst (λ (ws : List Frame). Stand m.held states ws (waiter ∷ p.flight.waiting) q.bottom) (sym (rev_push frames frame)) (
+          stack.top,
+          stack.below,
+          refl,
           record {
             node = refl;
             so_far = refl;
-            base = base;
-            floor = floor;
-            resumes = subst (λ (x : Flight). Resumes current.node a.waiting x.top p.pauses.0) (sym same) p.pauses.2;
+            resumes = p.pauses.2;
             own = p.own;
           },
-          subst (λ (x : Flight). Stand m.held x.below (reverse frames) p.flight.waiting q.bottom) (sym same) p.aloft.stand,
+          p.aloft.stand,
         );
       };
       way = p.way;
@@ -112,39 +115,40 @@ module _ (model : Model) (ends : InputsEnd model) (q : Work) (m : Memory) (now :
             p.top.apart.unknown (first_of frames current.node) (is_flying model ends q m stack frames _ now p (first_of frames current.node) refl) (inl (subst (λ (x : Node). Has (nodes_of p.flight.held) x) (sym i.is) held))
 
   -- the node has its turn
-  module _ (stack : Flight) (frames : List Frame) (n first : Node) (a : IsAsking model q m stack frames n first now) where
+  module _ (b : List State) (frames : List Frame) (n first : Node) (a : IsAsking model q m b frames n first now) where
     nodes_are : nodes_waiting a.flight.waiting ≡ frame_nodes (reverse frames) ++ nodes_waiting q.bottom
-    nodes_are = stand_nodes m.held (all_of stack) (reverse frames) a.flight.waiting q.bottom a.aloft.stand
+    nodes_are = stand_nodes m.held b (reverse frames) a.flight.waiting q.bottom a.aloft.stand
 
     long : length a.flight.waiting ≡ length frames + length q.bottom
-    long = (let i = stand_long m.held (all_of stack) (reverse frames) a.flight.waiting q.bottom a.aloft.stand in let j = length-reverse frames in omega (arith, i, j))
+    long = (let i = stand_long m.held b (reverse frames) a.flight.waiting q.bottom a.aloft.stand in let j = length-reverse frames in omega (arith, i, j))
 
     pub asking_broken : HasBrokenOff model q m first now refusal.NoMemory
     asking_broken = under_broken model ends q m a.flight _ first now a.aloft.held a.aloft.counted a.awaits.under_way
 
     -- neither a frame nor the bottom has it
     apart : (Has (frame_nodes frames) n → ⊥) → (Has (nodes_waiting q.bottom) n → ⊥) → Has (nodes_waiting a.flight.waiting) n → ⊥
-    apart f b h = elim (has_cases (frame_nodes (reverse frames)) (nodes_waiting q.bottom) n (subst (λ (ns : List Node). Has ns n) nodes_are h)) [
+    apart f below h = elim (has_cases (frame_nodes (reverse frames)) (nodes_waiting q.bottom) n (subst (λ (ns : List Node). Has ns n) nodes_are h)) [
       | inl i ↦ f (has_turned (frame_nodes frames) n (subst (λ (ns : List Node). Has ns n) (map_reverse (λ (w : Frame). w.current.node) frames) i))
-      | inr i ↦ b i
+      | inr i ↦ below i
     ]
 
-    pub awaited : (Has (frame_nodes frames) n → ⊥) → (Has (nodes_waiting q.bottom) n → ⊥) → length frames + length q.bottom < q.ev.limit → first_of frames n ≡ first → IsAwaited model q m stack frames n now
-    awaited f b room e = record {
+    pub awaited : (stack : Flight) → stack.below ≡ b → stack.top ≡ idle → (Has (frame_nodes frames) n → ⊥) → (Has (nodes_waiting q.bottom) n → ⊥) → length frames + length q.bottom < q.ev.limit → first_of frames n ≡ first → IsAwaited model q m stack frames n now
+    awaited stack on none f below room e = record {
       flight = a.flight;
-      aloft = a.aloft;
+      aloft = subst (λ (x : List State). IsAloft q m x frames now a.flight) (sym on) a.aloft;
+      idle = none;
       way = subst (λ (x : Node). IsOnTheWay model q.bottom x) (sym e) a.way;
       awaits = a.awaits;
-      apart = apart f b;
+      apart = apart f below;
       room = (let i = long in omega (arith, i, room));
     }
 
     pub asked_too_deep : (to : Node) → to ≡ n → (Has (frame_nodes frames) n → ⊥) → (Has (nodes_waiting q.bottom) n → ⊥) → q.ev.limit ≤ length frames + length q.bottom → HasBrokenOff model q m first now (refusal.TooDeep to)
-    asked_too_deep to e f b deep = subst (λ (x : Node). HasBrokenOff model q m first now (refusal.TooDeep x)) (sym e) (record {
+    asked_too_deep to e f below deep = subst (λ (x : Node). HasBrokenOff model q m first now (refusal.TooDeep x)) (sym e) (record {
       ticks = a.flight.ticks;
       counted = a.aloft.counted;
       ended = unkept_end model ends q m a.flight _ (refusal.TooDeep n) refl a.aloft.held a.awaits.under_way
-          (answering_too_deep model q.ev a.flight n a.flight.ticks ends a.awaits (apart f b) (let i = long in omega (arith, i, deep)));
+          (answering_too_deep model q.ev a.flight n a.flight.ticks ends a.awaits (apart f below) (let i = long in omega (arith, i, deep)));
       lost = λ z. absurd z;
     })
 

@@ -18,8 +18,8 @@ use Rattle.mx_answers.specs.Answers.{Evaluation, IsSettled}
 use Rattle.mx_suspended.specs.Flights.{Suspended, InFlight, IsTop, Awaits, IsDone, nodes_waiting}
 use Rattle.mx_suspended.specs.Ended.{HasEnded}
 use Rattle.mx_items_first.specs.Laws.{PassesThrough, address_of}
-use Rattle.mx_stack.specs.Flight.{Below, Flight, all_of, part_of}
-use Rattle.mx_stack.specs.declared.stack.Place.{Place}
+use Rattle.mx_code_law.specs.States.{State}
+use Rattle.mx_stack.specs.Flight.{Flight, idle}
 use Rattle.mx_node_runs.specs.Halts.{HaltsAs, Resumes}
 use Rattle.mx_entries.specs.Entries.{entries_of, IsOrdered}
 use Rattle.mx_entries.specs.Laws.{HeldOnce}
@@ -60,23 +60,18 @@ pub record IsSoundWith (m : Memory) (frames : List Frame) (r : Running) : Type 0
 
 -- ---- what holds of the evaluation
 
-abbrev pub part_at : Place → Below → Flight
-part_at p b = part_of p.pc p.base p.floor b
-
--- A frame stands for a suspended run: with the answer it goes on with what that does.
-pub record StandsFor (held : List Kept) (b : Below) (w : Frame) (f : Suspended) : Type 0 where
+-- A frame stands for a suspended run, at this state: with the answer it goes on with what that does.
+pub record StandsFor (held : List Kept) (s : State) (w : Frame) (f : Suspended) : Type 0 where
   pub node : f.node ≡ w.current.node
   pub so_far : f.so_far ≡ recorded_in held w.current.records
-  pub base : w.place.base ≤ length b.slots
-  pub floor : w.place.floor ≤ length b.locals
-  pub resumes : Resumes w.current.node w.waiting (part_at w.place b).top f.go
+  pub resumes : Resumes w.current.node w.waiting s f.go
   pub own : HasOwnKey w.current.node w.current.records.seen.keys
 
--- frames, the last first, stand for these runs, over what is on the stack; below them wait those of the bottom
-abbrev pub Stand : List Kept → Below → List Frame → List Suspended → List Suspended → Type 0
+-- frames, the last first, stand for these runs, at the states on the stack; below them wait those of the bottom
+abbrev pub Stand : List Kept → List State → List Frame → List Suspended → List Suspended → Type 0
 Stand held b [] fs bottom = fs ≡ bottom
 Stand held b (w ∷ ws) [] bottom = ⊥
-Stand held b (w ∷ ws) (f ∷ fs) bottom = StandsFor held b w f × Stand held (part_at w.place b).below ws fs bottom
+Stand held b (w ∷ ws) (f ∷ fs) bottom = (s : State) × (others : List State) × (b ≡ s ∷ others) × StandsFor held s w f × Stand held others ws fs bottom
 
 -- what the machine is at: an evaluation, the runs that wait below all of its own, and how many runs had begun before
 pub record Work : Type 0 where
@@ -108,7 +103,7 @@ pub record AsksInOrder (model : Model) : Type 0 where
   pub bound : (n m : Node) → DoesAsk model n m → BindsTo model m m
 
 -- the flight is that of this memo and these frames
-pub record IsAloft (q : Work) (m : Memory) (b : Below) (frames : List Frame) (now : ℕ) (flight : InFlight) : Type 0 where
+pub record IsAloft (q : Work) (m : Memory) (b : List State) (frames : List Frame) (now : ℕ) (flight : InFlight) : Type 0 where
   pub held : flight.held ≡ entries_of m.held
   pub counted : q.before + flight.ticks ≡ now
   pub stand : Stand m.held b (reverse frames) flight.waiting q.bottom
@@ -123,10 +118,11 @@ pub record Flies (model : Model) (q : Work) (m : Memory) (stack : Flight) (frame
   pub own : HasOwnKey r.current.node r.current.records.seen.keys
   pub top : IsTop model q.ev flight r.current.node (recorded_in m.held r.current.records) run
 
--- the node is to be run: all that is on the stack belongs to those that wait, none of which is its, and there is room
+-- the node is to be run: none of its code has begun on top of the stack, none of those that wait is its, and there is room
 pub record IsAwaited (model : Model) (q : Work) (m : Memory) (stack : Flight) (frames : List Frame) (n : Node) (now : ℕ) : Type 0 where
   pub flight : InFlight
-  pub aloft : IsAloft q m (all_of stack) frames now flight
+  pub aloft : IsAloft q m stack.below frames now flight
+  pub idle : stack.top ≡ idle
   pub way : IsOnTheWay model q.bottom (first_of frames n)
   pub awaits : Awaits model q.ev flight n
   pub apart : Has (nodes_waiting flight.waiting) n → ⊥

@@ -13,7 +13,8 @@ use Rattle.mx_runs.specs.Lists.{Has}
 use Rattle.mx_runs.specs.Runs.{Model}
 use Rattle.mx_answers.specs.Held.{most_held}
 use Rattle.mx_suspended.specs.Flights.{InFlight, IsDone}
-use Rattle.mx_stack.specs.Flight.{Below, Flight}
+use Rattle.mx_code_law.specs.States.{State}
+use Rattle.mx_stack.specs.Flight.{Flight}
 use Rattle.mx_entries.specs.Entries.{IsOrdered, entries_of, entry_held, own_keys}
 use Rattle.mx_entries.specs.Laws.{HeldOnce, HasGrown}
 use Rattle.mx_bound.specs.Records.{HasOwnKey}
@@ -63,7 +64,7 @@ IsHeldThen old new refusal.Full = HoldsSame old new × (most_held ≤ length old
 IsHeldThen old new refusal.NoMemory = HoldsSame old new
 
 -- the node has given its reply and is held; the frames stand for those that wait
-pub record IsHandedOver (model : Model) (q : Work) (m : Memory) (b : Below) (frames : List Frame) (n : Node) (reply : Reply) (now : ℕ) : Type 0 where
+pub record IsHandedOver (model : Model) (q : Work) (m : Memory) (b : List State) (frames : List Frame) (n : Node) (reply : Reply) (now : ℕ) : Type 0 where
   pub flight : InFlight
   pub aloft : IsAloft q m b frames now flight
   pub way : IsOnTheWay model q.bottom (first_of frames n)

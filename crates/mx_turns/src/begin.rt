@@ -41,9 +41,6 @@ pub fn begin<L: Ledger>(
     ensures ticks { steps.old ≤ steps.new }
 {
     let alloc = runs.alloc;
-    let Ok(()) = runs.stack.begin(alloc, &[], 0) else {
-        return Err(EvalRefusal::NoMemory);
-    };
     let Ok(()) = memo.begin(&node) else {
         return Err(EvalRefusal::NoMemory);
     };

@@ -36,10 +36,9 @@ pub fn hand_down(
     let Frame {
         mut current,
         waiting,
-        place,
     } = frame;
     current.records.ask(&given.node, given.id)?;
-    runs.stack.go_back(place);
+    runs.stack.end();
     let resumed = Resumed {
         waiting,
         reply: given.reply.get(),

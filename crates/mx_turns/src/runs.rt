@@ -4,15 +4,15 @@ ghost use Rattle.mx_stack.specs.Flight.{no_run};
 
 use mx_node_runs::halt::Waiting;
 use mx_passing::current::Current;
-use mx_stack::stack::{Place, Stack};
+use mx_stack::stack::Stack;
 use std::alloc::Global;
 
-/// A run that waits for the answer of a node that it asked: how it goes on with that, and where it stands on the stack.
+/// A run that waits for the answer of a node that it asked, and how it goes on with that. It stands on the stack below those
+/// that began after it.
 #[derive(Drop)]
 pub struct Frame {
     pub current: Current,
     pub waiting: Waiting,
-    pub place: Place,
 }
 
 /// The runs that wait, the longest first, and the values and locals of all.

@@ -15,7 +15,7 @@ use mx_value::refusal::EvalRefusal;
 use std::alloc::{AllocError, Global};
 
 /// The run on top waits for a node that it asks and that is not known: a ring where that is in flight, too deep where the
-/// chain would be longer than the limit.
+/// chain would be longer than the limit. Where the node is to be run, its run is on top then.
 pub fn wait(
     alloc: Global,
     setting: &Setting<'_>,
@@ -35,19 +35,13 @@ pub fn wait(
     ensures frames { IfOk result
         (λ n. length runs.new.frames.items + setting.now.below < setting.now.limit) }
     ensures pushed { OnOk result (IsPushed current runs.old.frames.items runs.new.frames.items) }
-    ensures stack { runs.new.stack ≡ runs.old.stack }
 {
     let Asked {
         node,
         waiting,
         is_begun,
     } = asked;
-    let place = runs.stack.place();
-    let frame = Frame {
-        current,
-        waiting,
-        place,
-    };
+    let frame = Frame { current, waiting };
     push_frame(&mut runs.frames, frame)?;
     if is_begun {
         return Err(EvalRefusal::Ring(nodes_of(alloc, frames_from(&runs.frames, node.get()))?));
@@ -55,6 +49,7 @@ pub fn wait(
     if setting.limit.saturating_sub(setting.below) <= runs.frames.len() {
         return Err(EvalRefusal::TooDeep(node.get().copy(alloc)?));
     }
+    runs.stack.begin()?;
     Ok(node)
 }
 
