@@ -10,6 +10,7 @@ use crate::spaces::Spaces;
 use mx_c3::lists::{BaseLists, Order};
 use mx_c3::space::SpaceId;
 use mx_list::list::List;
+use mx_list::shared::Shared;
 use mx_members::keys::Keys;
 use mx_value::node::Path;
 use std::alloc::{AllocError, Global};
@@ -22,8 +23,48 @@ pub(crate) struct Kept<'a> {
     pub lists: &'a BaseLists,
 }
 
+/// The paths of spaces and the bases of each by its place, to be shared.
+#[derive(Drop)]
+pub(crate) struct Index {
+    pub paths: Shared<Keys<Path>>,
+    pub lists: Shared<BaseLists>,
+}
+
+/// The same index, shared.
+pub(crate) fn copy_index(
+    paths: &Shared<Keys<Path>>,
+    lists: &Shared<BaseLists>,
+) -> Result<Index, AllocError>
+    ensures paths { IfOk result (λ i. i.paths ≡ paths.now) }
+    ensures lists { IfOk result (λ i. i.lists ≡ lists.now) }
+{
+    let paths = paths.copy()?;
+    let lists = lists.copy()?;
+    Ok(Index { paths, lists })
+}
+
+/// The index of spaces, from what is kept of others.
+pub(crate) fn index_of(alloc: Global, kept: &Kept<'_>, spaces: &Spaces) -> Result<Index, AllocError>
+    requires kept { AreBeside kept.now.paths.now kept.now.lists.now kept.now.spaces.now }
+    requires once { Distinct (map (λ (s : SpaceRecord). s.path) spaces.now) }
+    requires few { length spaces.now < 2 ^ 32 }
+    ensures { IfOk result (λ i. AreBeside i.paths i.lists spaces.now) }
+{
+    let (paths, lists) = beside(alloc, kept, spaces)?;
+    shared_index(alloc, paths, lists)
+}
+
+fn shared_index(alloc: Global, paths: Keys<Path>, lists: BaseLists) -> Result<Index, AllocError>
+    ensures paths { IfOk result (λ i. i.paths ≡ paths) }
+    ensures lists { IfOk result (λ i. i.lists ≡ lists) }
+{
+    let paths = Shared::new(alloc, paths)?;
+    let lists = Shared::new(alloc, lists)?;
+    Ok(Index { paths, lists })
+}
+
 /// The paths of spaces and the bases of each, from what is kept of other spaces where they begin with the paths of these.
-pub(crate) fn beside(
+fn beside(
     alloc: Global,
     kept: &Kept<'_>,
     spaces: &Spaces,

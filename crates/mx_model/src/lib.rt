@@ -3,6 +3,7 @@
 
 pub mod address;
 mod beside;
+mod held;
 pub mod keys;
 pub mod kind;
 pub mod laws;

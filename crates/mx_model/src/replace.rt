@@ -1,12 +1,12 @@
 //! Texts that differ from another in one kind of their parts, and share the others with it.
-ghost use Rattle.std.specs.Prelude.{◌≡◌, ◌<◌, length, Some, IfOk};
+ghost use Rattle.std.specs.Prelude.{◌≡◌, ◌<◌, length, slice_set, Some, IfOk};
 ghost use Rattle.mx_model.specs.Records.{Path as SpacePath, SpaceRecord};
 ghost use Rattle.mx_model.specs.Layers.{id_of, space_of};
 ghost use Rattle.mx_model.specs.Change.{at_space};
 ghost use Rattle.mx_model.specs.Kept.{StaysInPlace};
 ghost use Rattle.mx_model.specs.Indexed.{Tells, ArePlaced};
 
-use crate::beside::{Kept, beside};
+use crate::beside::{Kept, index_of};
 use crate::kind::Kind;
 use crate::space::Space;
 use crate::spaces::Spaces;
@@ -40,25 +40,9 @@ impl ModelText {
             ((old : SpaceRecord) → space_of self.now s ≡ Some old → space ≡ change old) →
             IfOk result (λ t. t ≡ at_space self.now path change) }
     {
-        let space = Shared::new(alloc, space)?;
-        let paths = self.paths.copy()?;
-        let lists = self.lists.copy()?;
-        let globals = self.globals.copy()?;
-        let inputs = self.inputs.copy()?;
-        let tables = self.tables.copy()?;
-        let mut all_kinds = self.kinds.copy(alloc)?;
-        all_kinds.set(alloc, s.0 as usize, kinds)?;
-        let mut spaces = self.spaces.copy(alloc)?;
-        spaces.set(alloc, s.0 as usize, space)?;
-        Ok(ModelText {
-            paths,
-            spaces,
-            kinds: all_kinds,
-            lists,
-            globals,
-            inputs,
-            tables,
-        })
+        let spaces = self.spaces.with(alloc, s.0 as usize, space)?;
+        let kinds = tables_with(alloc, &self.kinds, s, kinds)?;
+        self.with_spaces_in_place(spaces, kinds)
     }
 
     /// The text with these spaces, each with its table of kinds.
@@ -76,16 +60,8 @@ impl ModelText {
             spaces: &self.spaces,
             lists: self.lists.get(),
         };
-        let (paths, lists) = beside(alloc, &kept, &spaces)?;
-        Ok(ModelText {
-            paths: Shared::new(alloc, paths)?,
-            spaces,
-            kinds,
-            lists: Shared::new(alloc, lists)?,
-            globals: self.globals.copy()?,
-            inputs: self.inputs.copy()?,
-            tables: self.tables.copy()?,
-        })
+        let index = index_of(alloc, &kept, &spaces)?;
+        self.with_index(index, spaces, kinds)
     }
 
     /// The text with these references of the model.
@@ -126,4 +102,19 @@ impl ModelText {
         let text = self.copy(alloc)?;
         Ok(ModelText { inputs, ..text })
     }
+}
+
+/// The tables of kinds with another one in the place of one.
+fn tables_with(
+    alloc: Global,
+    all: &Chunks<Shared<Members<Label, Kind>>>,
+    s: SpaceId,
+    kinds: Shared<Members<Label, Kind>>,
+) -> Result<Chunks<Shared<Members<Label, Kind>>>, AllocError>
+    requires { s.0 < length all.now }
+    ensures { IfOk result (λ tables. tables ≡ slice_set all.now s.0 kinds) }
+{
+    let mut tables = all.copy(alloc)?;
+    tables.set(alloc, s.0 as usize, kinds)?;
+    Ok(tables)
 }

@@ -104,6 +104,27 @@ impl Spaces {
         Ok(())
     }
 
+    /// The spaces with another one at a place.
+    pub fn with(&self, alloc: Global, at: usize, space: Space) -> Result<Spaces, AllocError>
+        requires { at < length self.now }
+        ensures { IfOk result (λ s. s ≡ slice_set self.now at space) }
+    {
+        let space = Shared::new(alloc, space)?;
+        let mut spaces = self.copy(alloc)?;
+        spaces.set(alloc, at, space)?;
+        Ok(spaces)
+    }
+
+    /// The spaces with one more behind them.
+    pub fn with_more(&self, alloc: Global, space: Space) -> Result<Spaces, AllocError>
+        ensures { IfOk result (λ s. s ≡ self.now ++ space ∷ []) }
+    {
+        let space = Shared::new(alloc, space)?;
+        let mut spaces = self.copy(alloc)?;
+        spaces.push(alloc, space)?;
+        Ok(spaces)
+    }
+
     /// Adds a space behind the others.
     pub fn push(&mut self, alloc: Global, space: Shared<Space>) -> Result<(), AllocError>
         ensures ok { OnOk result (self.new ≡ self.old ++ space ∷ []) }

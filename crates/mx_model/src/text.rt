@@ -3,12 +3,14 @@ ghost use Rattle.std.specs.Prelude.{◌≡◌, ◌<◌, ◌∷◌, [], codes, So
 ghost use Rattle.std.specs.Map.{lookup};
 ghost use Rattle.mx_value.specs.Name.{same_name};
 ghost use Rattle.mx_model.specs.Records.{beginning, empty_space};
-ghost use Rattle.mx_model.specs.Layers.{id_of, space_of, base_lists};
+ghost use Rattle.mx_model.specs.Layers.{id_of, space_of, paths_of, base_lists};
 ghost use Rattle.mx_model.specs.Keys.{input_of};
 ghost use Rattle.mx_model.specs.Lookup.{kind_in};
 ghost use Rattle.mx_model.specs.Indexed.{TellsAt, ArePlaced};
 ghost use Rattle.mx_model.specs.Readers.{path_in, cells_in, formula_in, allows_in, reference_in, params_in, name_at, cells_at, reference_at};
 
+use crate::beside::{Index, copy_index};
+use crate::held::copy_held;
 use crate::kind::Kind;
 use crate::space::{Cells, Space};
 use crate::spaces::Spaces;
@@ -341,15 +343,45 @@ impl ModelText {
     {
         let spaces = self.spaces.copy(alloc)?;
         let kinds = self.kinds.copy(alloc)?;
-        let inputs = self.inputs.copy()?;
+        self.with_spaces_in_place(spaces, kinds)
+    }
+
+    /// The text with spaces of the same paths and bases in the places of its own.
+    pub(crate) fn with_spaces_in_place(
+        &self,
+        spaces: Spaces,
+        kinds: Chunks<Shared<Members<Label, Kind>>>,
+    ) -> Result<ModelText, AllocError>
+        requires placed { ArePlaced kinds (record self.now { spaces = spaces }) }
+        requires paths { paths_of (record self.now { spaces = spaces }) ≡ paths_of self.now }
+        requires bases { base_lists (record self.now { spaces = spaces }) ≡ base_lists self.now }
+        ensures { IfOk result (λ t. t ≡ record self.now { spaces = spaces }) }
+    {
+        let index = copy_index(&self.paths, &self.lists)?;
+        self.with_index(index, spaces, kinds)
+    }
+
+    /// The text with these spaces, and what tells of them by their places.
+    pub(crate) fn with_index(
+        &self,
+        index: Index,
+        spaces: Spaces,
+        kinds: Chunks<Shared<Members<Label, Kind>>>,
+    ) -> Result<ModelText, AllocError>
+        requires paths { index.paths ≡ paths_of (record self.now { spaces = spaces }) }
+        requires lists { index.lists ≡ base_lists (record self.now { spaces = spaces }) }
+        requires placed { ArePlaced kinds (record self.now { spaces = spaces }) }
+        ensures { IfOk result (λ t. t ≡ record self.now { spaces = spaces }) }
+    {
+        let held = copy_held(&self.globals, &self.inputs, &self.tables)?;
         Ok(ModelText {
-            paths: self.paths.copy()?,
+            paths: index.paths,
             spaces,
             kinds,
-            lists: self.lists.copy()?,
-            globals: self.globals.copy()?,
-            inputs,
-            tables: self.tables.copy()?,
+            lists: index.lists,
+            globals: held.globals,
+            inputs: held.inputs,
+            tables: held.tables,
         })
     }
 }

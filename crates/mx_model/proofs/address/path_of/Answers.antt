@@ -1,4 +1,4 @@
-use Rattle.std.proofs.Common.{◌≡◌, ◌∙◌, ◌<◌, List, Some, None, [], ◌∷◌, ◌++◌, length, get_or, sym, ap, subst, rules}
+use Rattle.std.proofs.Common.{◌≡◌, ◌∙◌, ◌<◌, List, Option, Some, None, [], ◌∷◌, ◌++◌, length, get_or, sym, ap, subst, rules}
 use Rattle.mx_value.specs.declared.value.Segment.{Segment, out-Segment}
 use Rattle.mx_value.specs.declared.value.Segment.TheFolds.{the_lemmas}
 use Rattle.mx_model.specs.Records.{Name, Path}
@@ -16,8 +16,9 @@ loop-segment-preserved c =
     let P : List Segment → Type 0 = λ xs. i < length xs in
     let tell = c.in-Name.is in
     let s : name_in (out-Segment segment) ≡ Some name = search (the_lemmas, rules, tell) in
-    path_more at i c.loop-segment.names.items segment name (subst P same c.loop-segment-test.true) c.loop-segment.invariant (c.segment-item.is ∙ ap (λ (xs : List Segment). get_or xs i segment) same) s ∙
-    ap (λ (ns : Path). Some ns) (sym (c.in_ok-push-in-Name.ensures.items ∙ ap (λ (n : Name). c.loop-segment.names.items ++ n ∷ []) c.in_ok-copy-in-Name.ensures))
+    let more = path_more at i c.loop-segment.names.items segment name (subst P same c.loop-segment-test.true) c.loop-segment.invariant (c.segment-item.is ∙ ap (λ (xs : List Segment). get_or xs i segment) same) s in
+    let pushed = ◌∙◌ {A = Path} c.in_ok-push-in-Name.ensures.items (ap (λ (n : Name). c.loop-segment.names.items ++ n ∷ []) c.in_ok-copy-in-Name.ensures) in
+    ◌∙◌ {A = Option Path} more (ap (λ (ns : Path). Some ns) (sym pushed))
 
 pub returns-in-Item : goal.returns-in-Item
 returns-in-Item c =

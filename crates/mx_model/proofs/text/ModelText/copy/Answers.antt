@@ -1,10 +1,18 @@
-use Rattle.std.proofs.Common.{◌∙◌}
-use Rattle.mx_model.proofs.SpaceLemmas.{same_index}
+use Rattle.std.proofs.Common.{◌∙◌, List, ap, subst}
+use Rattle.mx_model.specs.Records.{SpaceRecord, ModelRecord}
+use Rattle.mx_model.specs.Layers.{paths_of, base_lists}
+use Rattle.mx_model.specs.Indexed.{ArePlaced}
+use Rattle.mx_model.proofs.SpaceLemmas.{placed_same}
 use Rattle.mx_model.proofs.text.ModelText.copy.Goals as goal
 
-pub invariant_of-result-2 : goal.invariant_of-result-2
-invariant_of-result-2 c = c.kinds.invariant
-
-pub invariant_of-result-3 : goal.invariant_of-result-3
-invariant_of-result-3 c =
-    same_index _ _ _ _ _ _ _ _ c.in_ok-copy.ensures c.in_ok-copy-2.ensures (c.kinds.view_is ∙ c.in_ok-kinds.ensures) (c.spaces.view_is ∙ c.in_ok-spaces.ensures) c.self.invariant
+pub with_spaces_in_place-requires : goal.with_spaces_in_place-requires
+with_spaces_in_place-requires c =
+    let text = c.args.self.now in
+    let made : ModelRecord = record text { spaces = c.in_ok-spaces.spaces } in
+    let P : ModelRecord → Type 0 = λ t. ArePlaced c.self.inside.kinds t in
+    let spaces = c.in_ok-spaces.ensures ∙ ap (λ (t : ModelRecord). t.spaces) c.self.view_is in
+    record {
+      placed = placed_same _ _ text made c.in_ok-kinds.ensures spaces (subst P c.self.view_is c.self.invariant.placed);
+      paths = ap (λ (ss : List SpaceRecord). paths_of (record text { spaces = ss })) spaces;
+      bases = ap (λ (ss : List SpaceRecord). base_lists (record text { spaces = ss })) spaces;
+    }
