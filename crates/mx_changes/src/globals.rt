@@ -4,6 +4,7 @@ ghost use Rattle.mx_value.specs.Name.{same_name};
 ghost use Rattle.mx_edit.specs.declared.edit.Edit.TheVariants as edit;
 ghost use Rattle.mx_model.specs.Change.{change, define, without};
 
+use crate::defined::with_copy;
 use mx_edit::reference::RefValue;
 use mx_edit::table::Table;
 use mx_model::text::ModelText;
@@ -20,8 +21,7 @@ pub fn with_global(
     ensures { let globals = define same_name text.now.globals name.now value.now in
         IfOk result (λ t. t ≡ record text.now { globals = globals }) }
 {
-    let mut globals = text.globals().copy(alloc)?;
-    globals.define(name.copy()?, value.copy()?)?;
+    let globals = with_copy(alloc, text.globals(), name, value)?;
     text.with_globals(alloc, globals)
 }
 
@@ -47,7 +47,6 @@ pub fn with_table(
 ) -> Result<ModelText, AllocError>
     ensures { IfOk result (λ t. t ≡ change text.now (edit.SetTable name.now table.now)) }
 {
-    let mut tables = text.tables().copy(alloc)?;
-    tables.define(name.copy()?, table.copy()?)?;
+    let tables = with_copy(alloc, text.tables(), name, table)?;
     text.with_tables(alloc, tables)
 }

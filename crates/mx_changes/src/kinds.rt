@@ -10,6 +10,7 @@ ghost use Rattle.mx_model.specs.Change.{define, without};
 ghost use Rattle.mx_model.specs.Indexed.{Tells};
 ghost use Rattle.mx_changes.specs.Kept.{KeepsOthers};
 
+use crate::defined::with_made;
 use mx_c3::space::SpaceId;
 use mx_list::shared::Shared;
 use mx_members::members::Members;
@@ -81,8 +82,7 @@ pub fn define_kind(
     if kinds.get().get(name) == Some(&kind) {
         return kinds.copy();
     }
-    let mut defined = kinds.get().copy(alloc)?;
-    defined.define(name.copy()?, kind)?;
+    let defined = with_made(alloc, kinds.get(), name, kind)?;
     return Shared::new(alloc, defined);
 }
 

@@ -1,6 +1,7 @@
 //! The texts that edits of a model text make.
 #![tactic(auto)]
 
+mod defined;
 pub mod globals;
 pub mod inputs;
 mod kinds;

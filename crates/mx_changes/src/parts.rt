@@ -4,6 +4,7 @@ ghost use Rattle.std.specs.Map.{lookup};
 ghost use Rattle.mx_value.specs.Name.{same_name};
 ghost use Rattle.mx_model.specs.Change.{define, without, define_cells, set_allow};
 
+use crate::defined::{with_copy, with_made};
 use mx_code::compiled::{Compiled, CompiledParams};
 use mx_edit::copies::{copy_formula, copy_params};
 use mx_edit::reference::RefValue;
@@ -26,6 +27,46 @@ fn share_params(params: &Option<CompiledParams>) -> Result<Option<CompiledParams
     }
 }
 
+/// The path, the bases and the parameters of a space.
+#[derive(Drop)]
+struct Head {
+    path: Path,
+    bases: List<Path>,
+    params: Option<CompiledParams>,
+}
+
+/// Those of a space.
+fn copy_head(space: &Space) -> Result<Head, AllocError>
+    ensures path { IfOk result (λ h. h.path ≡ space.now.path) }
+    ensures bases { IfOk result (λ h. h.bases ≡ space.now.bases) }
+    ensures params { IfOk result (λ h. h.params ≡ space.now.params) }
+{
+    let params = share_params(&space.params)?;
+    let path = space.path.copy()?;
+    let bases = space.bases.copy()?;
+    Ok(Head {
+        path,
+        bases,
+        params,
+    })
+}
+
+/// The same space.
+fn copy_space(space: &Space) -> Result<Space, AllocError>
+    ensures { IfOk result (λ s. s ≡ space.now) }
+{
+    let head = copy_head(space)?;
+    let cells = space.cells.copy()?;
+    let references = space.references.copy()?;
+    Ok(Space {
+        path: head.path,
+        bases: head.bases,
+        params: head.params,
+        cells,
+        references,
+    })
+}
+
 /// The space with these cells in place of its own.
 fn with_all_cells(
     alloc: Global,
@@ -34,13 +75,9 @@ fn with_all_cells(
 ) -> Result<Space, AllocError>
     ensures { IfOk result (λ s. s ≡ record space.now { cells = cells }) }
 {
-    Ok(Space {
-        path: space.path.copy()?,
-        bases: space.bases.copy()?,
-        params: share_params(&space.params)?,
-        cells: Shared::new(alloc, cells)?,
-        references: space.references.copy()?,
-    })
+    let cells = Shared::new(alloc, cells)?;
+    let made = copy_space(space)?;
+    Ok(Space { cells, ..made })
 }
 
 /// The space with these references in place of its own.
@@ -51,13 +88,9 @@ fn with_all_references(
 ) -> Result<Space, AllocError>
     ensures { IfOk result (λ s. s ≡ record space.now { references = references }) }
 {
-    Ok(Space {
-        path: space.path.copy()?,
-        bases: space.bases.copy()?,
-        params: share_params(&space.params)?,
-        cells: space.cells.copy()?,
-        references: Shared::new(alloc, references)?,
-    })
+    let references = Shared::new(alloc, references)?;
+    let made = copy_space(space)?;
+    Ok(Space { references, ..made })
 }
 
 /// The space with cells of a name. Cells that are there keep their place and setting.
@@ -71,14 +104,21 @@ pub fn with_cells(
         IfOk result (λ s. s ≡ record space.now { cells = cells }) }
 {
     let allow_none = space.allows_none(name);
-    let formula = Compiled::new(alloc, copy_formula(formula)?)?;
-    let mut cells = space.cells.get().copy(alloc)?;
+    let formula = compile_formula(alloc, formula)?;
     let made = Cells {
         formula,
         allow_none,
     };
-    cells.define(name.copy()?, made)?;
+    let cells = with_made(alloc, space.cells.get(), name, made)?;
     with_all_cells(alloc, space, cells)
+}
+
+/// A formula with its code.
+fn compile_formula(alloc: Global, formula: &Formula) -> Result<Compiled, AllocError>
+    ensures { IfOk result (λ compiled. compiled ≡ formula.now) }
+{
+    let formula = copy_formula(formula)?;
+    Compiled::new(alloc, formula)
 }
 
 /// The space without the cells of a name.
@@ -104,12 +144,12 @@ pub fn with_setting(
     let Some(old) = space.cells(name) else {
         unreachable!()
     };
+    let formula = old.formula.copy()?;
     let made = Cells {
-        formula: old.formula.copy()?,
+        formula,
         allow_none,
     };
-    let mut cells = space.cells.get().copy(alloc)?;
-    cells.define(name.copy()?, made)?;
+    let cells = with_made(alloc, space.cells.get(), name, made)?;
     with_all_cells(alloc, space, cells)
 }
 
@@ -123,8 +163,7 @@ pub fn with_reference(
     ensures { let references = define same_name space.now.references name.now value.now in
         IfOk result (λ s. s ≡ record space.now { references = references }) }
 {
-    let mut references = space.references.get().copy(alloc)?;
-    references.define(name.copy()?, value.copy()?)?;
+    let references = with_copy(alloc, space.references.get(), name, value)?;
     with_all_references(alloc, space, references)
 }
 
@@ -145,26 +184,18 @@ pub fn with_params(
 ) -> Result<Space, AllocError>
     ensures { IfOk result (λ s. s ≡ record space.now { params = params.now }) }
 {
-    Ok(Space {
-        path: space.path.copy()?,
-        bases: space.bases.copy()?,
-        params: compile_params(alloc, params)?,
-        cells: space.cells.copy()?,
-        references: space.references.copy()?,
-    })
+    let params = compile_params(alloc, params)?;
+    let made = copy_space(space)?;
+    Ok(Space { params, ..made })
 }
 
 /// The space with these bases.
 pub fn with_bases(space: &Space, bases: &List<Path>) -> Result<Space, AllocError>
     ensures { IfOk result (λ s. s ≡ record space.now { bases = bases.now }) }
 {
-    Ok(Space {
-        path: space.path.copy()?,
-        bases: bases.copy()?,
-        params: share_params(&space.params)?,
-        cells: space.cells.copy()?,
-        references: space.references.copy()?,
-    })
+    let bases = bases.copy()?;
+    let made = copy_space(space)?;
+    Ok(Space { bases, ..made })
 }
 
 /// Parameters with their code, where there are any.
@@ -175,7 +206,15 @@ fn compile_params(
     ensures { IfOk result (λ compiled. compiled ≡ params.now) }
 {
     match params {
-        Some(params) => Ok(Some(CompiledParams::new(alloc, copy_params(params)?)?)),
+        Some(params) => Ok(Some(compile_list(alloc, params)?)),
         None => Ok(None),
     }
+}
+
+/// A list of parameters with its code.
+fn compile_list(alloc: Global, params: &Params) -> Result<CompiledParams, AllocError>
+    ensures { IfOk result (λ compiled. compiled ≡ params.now) }
+{
+    let params = copy_params(params)?;
+    CompiledParams::new(alloc, params)
 }

@@ -1,7 +1,7 @@
 //! The changes that edits of spaces make.
-ghost use Rattle.std.specs.Prelude.{◌≡◌, ◌∷◌, [], ◌++◌, false, IfOk, IsTrue, MatchOption};
+ghost use Rattle.std.specs.Prelude.{◌≡◌, ◌∷◌, [], ◌++◌, false, IfOk, OnOk, IsTrue, MatchOption};
 ghost use Rattle.mx_edit.specs.declared.edit.Edit.TheVariants as edit;
-ghost use Rattle.mx_model.specs.Records.{Name};
+ghost use Rattle.mx_model.specs.Records.{Name, empty_space};
 ghost use Rattle.mx_model.specs.Paths.{is_defined};
 ghost use Rattle.mx_model.specs.Refused.{is_holder, name_taken};
 ghost use Rattle.mx_model.specs.Change.{change, is_within};
@@ -37,8 +37,7 @@ pub fn with_bases(
         unreachable!()
     };
     let space = parts::with_bases(text.space(s), bases)?;
-    let mut spaces = text.spaces().copy(alloc)?;
-    spaces.set(alloc, s.0 as usize, Shared::new(alloc, space)?)?;
+    let spaces = text.spaces().with(alloc, s.0 as usize, space)?;
     let kinds = text.kinds().copy(alloc)?;
     text.with_spaces(alloc, spaces, kinds)
 }
@@ -85,13 +84,41 @@ pub fn with_new_space(
     if text.spaces().len() >= u32::MAX as usize {
         return Err(AllocError);
     }
-    let path = path_below(alloc, parent.as_slice(), name)?;
-    let space = Space::new(alloc, path, List::empty(alloc)?)?;
-    let mut spaces = text.spaces().copy(alloc)?;
-    spaces.push(alloc, Shared::new(alloc, space)?)?;
-    let mut kinds = kinds_with_child(alloc, text, text.kinds(), parent, name)?;
-    kinds.push(alloc, Shared::new(alloc, Members::new(alloc)?)?)?;
+    let space = new_space(alloc, parent, name)?;
+    let spaces = text.spaces().with_more(alloc, space)?;
+    let before = kinds_with_child(alloc, text, text.kinds(), parent, name)?;
+    let kinds = with_table(alloc, before)?;
     text.with_spaces(alloc, spaces, kinds)
+}
+
+/// A space without members and bases, below a path.
+fn new_space(alloc: Global, parent: &Path, name: &Label) -> Result<Space, AllocError>
+    ensures { IfOk result (λ space. space ≡ empty_space (parent.now ++ name.now ∷ [])) }
+{
+    let path = path_below(alloc, parent.as_slice(), name)?;
+    let bases = List::empty(alloc)?;
+    Space::new(alloc, path, bases)
+}
+
+/// These tables of kinds, and that of a space without members behind them.
+fn with_table(
+    alloc: Global,
+    tables: Chunks<Shared<Members<Label, Kind>>>,
+) -> Result<Chunks<Shared<Members<Label, Kind>>>, AllocError>
+    ensures { IfOk result (λ all. all ≡ tables ++ [] ∷ []) }
+{
+    let mut tables = tables;
+    let table = no_kinds(alloc)?;
+    tables.push(alloc, table)?;
+    Ok(tables)
+}
+
+/// The kinds of a space without members.
+fn no_kinds(alloc: Global) -> Result<Shared<Members<Label, Kind>>, AllocError>
+    ensures { IfOk result (λ kinds. kinds ≡ []) }
+{
+    let kinds = Members::new(alloc)?;
+    Shared::new(alloc, kinds)
 }
 
 /// The text without a space and all defined spaces below it.
@@ -111,11 +138,27 @@ pub fn without_space(alloc: Global, text: &ModelText, path: &Path) -> Result<Mod
         };
         let at = space.get().path();
         if !is_within(path, at) {
-            spaces.push(alloc, space.copy()?)?;
-            kinds.push(alloc, kinds_left(alloc, table, at, path)?)?;
+            let left = kinds_left(alloc, table, at, path)?;
+            push_left(alloc, &mut spaces, &mut kinds, space, left)?;
         }
     }
     text.with_spaces(alloc, spaces, kinds)
+}
+
+/// Adds a space, which is shared, and its kinds behind the others.
+fn push_left(
+    alloc: Global,
+    spaces: &mut Spaces,
+    tables: &mut Chunks<Shared<Members<Label, Kind>>>,
+    space: &Shared<Space>,
+    kinds: Shared<Members<Label, Kind>>,
+) -> Result<(), AllocError>
+    ensures spaces { OnOk result (spaces.new ≡ spaces.old ++ space.now ∷ []) }
+    ensures tables { OnOk result (tables.new ≡ tables.old ++ kinds ∷ []) }
+{
+    let space = space.copy()?;
+    spaces.push(alloc, space)?;
+    tables.push(alloc, kinds)
 }
 
 /// Whether a path is another one or leads on from it.

@@ -6,13 +6,11 @@ use Rattle.mx_changes.proofs.spaces.with_bases.Goals as goal
 pub with_spaces-requires : goal.with_spaces-requires
 with_spaces-requires c =
     let text = c.args.text.now in
-    let spaces = c.in_ok-spaces.ensures ∙ c.spaces.ensures in
-    bases_placed text _ c.kinds.result.now c.in_ok-kinds.kinds c.in_ok-spaces.spaces c.in-Some.s c.space.result.now c.in_ok-new.field-0 c.args.bases.now c.kinds.ensures c.in_ok-kinds.ensures spaces c.space.ensures (c.in_ok-new.ensures ∙ c.in_ok-space.ensures) (ap (λ (zs : List SpaceRecord). record text { spaces = zs }) c.in_ok-set.ensures.ok)
+    bases_placed text _ c.kinds.result.now c.in_ok-kinds.kinds c.spaces.result.now c.in-Some.s c.space.result.now c.in_ok-space.space c.args.bases.now c.kinds.ensures c.in_ok-kinds.ensures c.spaces.ensures c.space.ensures c.in_ok-space.ensures (ap (λ (zs : List SpaceRecord). record text { spaces = zs }) c.in_ok-spaces.ensures)
 
 pub returns : goal.returns
 returns c =
     let text = c.args.text.now in
-    let spaces = c.in_ok-spaces.ensures ∙ c.spaces.ensures in
-    let made = bases_changed text c.args.path.now c.in_ok-spaces.spaces c.in-Some.s c.space.result.now c.in_ok-new.field-0 c.args.bases.now c.kinds.ensures.once (sym c.in-Some.ensures) spaces c.space.ensures (c.in_ok-new.ensures ∙ c.in_ok-space.ensures) in
+    let made = bases_changed text c.args.path.now c.spaces.result.now c.in-Some.s c.space.result.now c.in_ok-space.space c.args.bases.now c.kinds.ensures.once (sym c.in-Some.ensures) c.spaces.ensures c.space.ensures c.in_ok-space.ensures in
     let Q : ModelRecord → Type 0 = λ z. IfOk c.with_spaces.result (λ (t : ModelRecord). t ≡ z) in
-    subst Q (ap (λ (zs : List SpaceRecord). record text { spaces = zs }) c.in_ok-set.ensures.ok ∙ made) c.with_spaces.ensures
+    subst Q (ap (λ (zs : List SpaceRecord). record text { spaces = zs }) c.in_ok-spaces.ensures ∙ made) c.with_spaces.ensures

@@ -7,7 +7,7 @@ use Rattle.mx_model.proofs.KindLemmas.{table_there, tells_at}
 use Rattle.mx_changes.specs.Kept.{IsLeft}
 use Rattle.mx_changes.proofs.GoneSpaces.{AreLeft, cut_built, left_kept, left_passed}
 use Rattle.mx_changes.proofs.spaces.without_space.Goals as goal
-use Rattle.mx_changes.proofs.spaces.without_space.Goals.{then-not-is_within+in_ok-copy+in_ok-push+in_ok-kinds_left+in_ok-push-2, else-not-is_within}
+use Rattle.mx_changes.proofs.spaces.without_space.Goals.{then-not-is_within+in_ok-left+in_ok-push_left, else-not-is_within}
 
 pub unreachable-requires-in_default-get : goal.unreachable-requires-in_default-get
 unreachable-requires-in_default-get c =
@@ -29,12 +29,13 @@ loop-place-preserved c =
     let place = c.path-at.ensures ∙ ap (λ (z : SpaceRecord). z.path) c.get-in-loop-place-2.ensures in
     let tested = c.is_within.ensures ∙ ap (is_within path) place in
     elim c.if-not-is_within.branch [
-      | then-not-is_within+in_ok-copy+in_ok-push+in_ok-kinds_left+in_ok-push-2 w ↦
+      | then-not-is_within+in_ok-left+in_ok-push_left w ↦
           let kinds = c.in-Some-get.table.now in
-          let rest = w.in_ok-kinds_left.field-0 in
+          let rest = w.in_ok-left.left in
           let tells = tells_at text text.spaces tables n s kinds c.kinds-tables.ensures.kinds at (sym c.in-Some-get.ensures) in
           let Q : Path → Type 0 = λ p. IsLeft path p kinds rest in
-          left_kept text path n s w.in_ok-copy.field-0 kinds rest c.loop-place.spaces c.if-not-is_within.spaces c.loop-place.kinds c.if-not-is_within.kinds at w.in_ok-copy.ensures tells (subst Q place w.in_ok-kinds_left.ensures) (sym tested ∙ w.if-not-is_within.true) (w.spaces-is ∙ w.in_ok-push.ensures.ok) (w.kinds-is ∙ w.in_ok-push-2.ensures.ok) c.loop-place.invariant
+          let pushed = w.in_ok-push_left.ensures in
+          left_kept text path n s s kinds rest c.loop-place.spaces c.if-not-is_within.spaces c.loop-place.kinds c.if-not-is_within.kinds at refl tells (subst Q place w.in_ok-left.ensures) (sym tested ∙ w.if-not-is_within.true) (w.spaces-is ∙ pushed.spaces) (w.kinds-is ∙ pushed.tables) c.loop-place.invariant
       | else-not-is_within w ↦
           let passed = left_passed text path n s c.loop-place.spaces c.loop-place.kinds at (sym tested ∙ w.if-not-is_within.false) c.loop-place.invariant in
           let S : List SpaceRecord → Type 0 = λ zs. AreLeft text path (n + 1) zs c.loop-place.kinds in
