@@ -6,10 +6,10 @@ ghost use Rattle.mx_model.specs.Refused.{is_holder, record_trouble};
 ghost use Rattle.mx_apply.specs.Made.{IsMade};
 ghost use Rattle.mx_apply.specs.Chain.{IsRingless, MakesNoRing, CanGoOn, GoesOn};
 
-use crate::bound::bound_args;
+use crate::bound::bound_node;
 use crate::refusals::record_trouble;
 use mx_changes::globals::{with_global, with_table, without_global};
-use mx_changes::inputs::{node_of, with_input, without_input};
+use mx_changes::inputs::{with_input, without_input};
 use mx_changes::members::{
     with_cells, with_own_reference, with_params, with_setting, without_cells, without_own_reference,
 };
@@ -81,12 +81,12 @@ fn changed(alloc: Global, text: &ModelText, edit: &Edit) -> Result<ModelText, Al
             args,
             value,
         } => {
-            let full = bound_args(alloc, text, space, name, args)?;
-            return with_input(alloc, text, node_of(space, name, full)?, value);
+            let node = bound_node(alloc, text, space, name, args)?;
+            return with_input(alloc, text, node, value);
         }
         Edit::DelInput { space, name, args } => {
-            let full = bound_args(alloc, text, space, name, args)?;
-            return without_input(alloc, text, &node_of(space, name, full)?);
+            let node = bound_node(alloc, text, space, name, args)?;
+            return without_input(alloc, text, &node);
         }
         Edit::SetTable { name, table } => return with_table(alloc, text, name, table),
     }

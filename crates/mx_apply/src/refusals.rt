@@ -8,7 +8,7 @@ ghost use Rattle.mx_model.specs.Sound.{IsSound};
 ghost use Rattle.mx_model.specs.Inputs.{cells_params, path_of};
 ghost use Rattle.mx_model.specs.Refused.{bad_name, no_such_space, no_such_member, name_taken, wrong_count, do_not_bind, item_address, bad_value, first_user, uses, in_use, record_trouble};
 
-use crate::bound::bound_args;
+use crate::bound::bound_node;
 use crate::displays::shows_item;
 use crate::own::{
     has_cells, has_child, has_params, has_reference, holds_reference, is_defined, is_holder,
@@ -17,7 +17,6 @@ use crate::statics::{cells_formula, is_target, lacks_cells, lacks_path};
 use crate::values::{
     has_double, is_long_input, is_long_list, is_long_value, is_nothing, is_one_unfit, is_unfit,
 };
-use mx_changes::inputs::node_of;
 use mx_changes::spaces::is_within;
 use mx_edit::edit::Edit;
 use mx_edit::reference::RefValue;
@@ -282,16 +281,14 @@ fn bad_value(alloc: Global, text: &ModelText, edit: &Edit) -> Result<bool, Alloc
             args,
             value,
         } => {
-            let args_bound = bound_args(alloc, text, space, name, args)?;
-            let node = node_of(space, name, args_bound)?;
+            let node = bound_node(alloc, text, space, name, args)?;
             let is_long = is_long_input(&node, value);
             return Ok(
                 is_nothing(value) || is_one_unfit(args.as_slice()) || is_unfit(value) || is_long,
             );
         }
         Edit::DelInput { space, name, args } => {
-            let args_bound = bound_args(alloc, text, space, name, args)?;
-            let node = node_of(space, name, args_bound)?;
+            let node = bound_node(alloc, text, space, name, args)?;
             return Ok(is_one_unfit(args.as_slice()) || text.input(&node).is_none());
         }
         _ => return Ok(false),
