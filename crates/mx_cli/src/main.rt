@@ -1,19 +1,9 @@
 //! The program `mx`: reads a script of edits and evaluations, and answers each command.
 #![tactic(auto)]
 
-#[cfg(test)]
-mod guide;
 mod host;
-#[cfg(test)]
-mod limits;
-#[cfg(test)]
-mod models;
 mod sure;
-#[cfg(test)]
-mod tests;
 mod top;
-#[cfg(test)]
-mod worked;
 
 use host::{HostSink, HostSource};
 use std::alloc::AllocError;

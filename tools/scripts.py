@@ -1,0 +1,201 @@
+#!/usr/bin/env python3
+"""Runs scripts through `mx run`, and compares what it writes with their answers, byte for byte.
+
+    tools/scripts.py [PROGRAM]      the program is crates/mx_cli/out/mx_cli, if no other is named
+
+The scripts are the examples of docs/USER-GUIDE.md, the files of examples/ and of tests/scripts/, and those that are made here: they
+come to a limit, end by a fault outside, or are long. In a page a script is a block marked `mx`, with the block marked `answer` behind
+it. The answer to NAME.txt stands in NAME.answer. No answer is taken from the program: they are worked by hand from the rules.
+"""
+import os
+import pathlib
+import re
+import resource
+import string
+import subprocess
+import sys
+import tempfile
+import tty
+
+TOP = pathlib.Path(__file__).resolve().parent.parent
+PROGRAM = TOP / "crates" / "mx_cli" / "out" / "mx_cli"
+EXAMPLE = re.compile(rb"^```mx\n(.*?)^```\n\s*^```answer\n(.*?)^```$", re.M | re.S)
+USAGE = b"usage: mx MODE ARGUMENTS\n"
+SECONDS = 60  # what a script takes at most
+
+
+def of_page(page):
+    text = page.read_bytes()
+    found = EXAMPLE.findall(text)
+    if not found or len(found) != text.count(b"```mx\n"):
+        sys.exit(f"{page}: a script without its answer")
+    return [(f"{page.relative_to(TOP)}, script {at}", script, answer) for at, (script, answer) in enumerate(found, start=1)]
+
+
+def of_files(folder):
+    scripts = sorted(folder.glob("*.txt"))
+    if not scripts:
+        sys.exit(f"{folder}: no script")
+    return [(str(path.relative_to(TOP)), path.read_bytes(), path.with_suffix(".answer").read_bytes()) for path in scripts]
+
+
+def accepted(edits, behind=""):
+    return "ok\n" * edits + behind
+
+
+def deep_spaces(names):
+    """Spaces A, A.A and so on, up to a path of so many names."""
+    return "".join(f"space {'.'.join('A' * depth)}\n" for depth in range(1, names + 1))
+
+
+def chain_of_bases(spaces):
+    """So many spaces, each with the one before as its base."""
+    made = "".join(f"space s{at}\nbases s{at}: s{at - 1}\n" for at in range(1, spaces))
+    return f"space s0\n{made}"
+
+
+def doubled_paths():
+    """Spaces of which each has two children with the space before as their base, and so twice as many paths. The last has one such
+    child."""
+    lines = ["space A"]
+    for base, space in zip(string.ascii_uppercase, string.ascii_uppercase[1:14]):
+        lines.append(f"space {space}")
+        for child in "X" if space == "N" else "XY":
+            lines += [f"space {space}.{child}", f"bases {space}.{child}: {base}"]
+    return "\n".join([*lines, "order N.X", ""])
+
+
+def in_parentheses(depth):
+    return f"cells c() = {'(' * depth}1{')' * depth}\neval c()\n"
+
+
+def edits_beside(edits):
+    """A long projection, then so many edits that nothing of it rests on, and the projection again."""
+    projection = "limit 100000\nspace S\nparams S(x)\ncells S.f(t) = x if t == 0 else f(t - 1)\neval S[1].f(99990)\n"
+    return projection + "".join(f"cells z() = {2 + at % 2}\n" for at in range(edits)) + "held\neval S[1].f(99990)\n"
+
+
+CHAIN = "cells f(n) = 0 if n == 0 else f(n - 1)\neval f(5000)\nlimit 100001\nlimit 100000\neval f(99999)\neval f(150000)\n"
+CHAIN_ANSWER = "ok\ntoo deep at Main.f(0)\nrefused: BadLimit\nok\n= 0 runs 100000\n= 0 runs 50001\n"
+
+
+def made():
+    """Scripts at the limits of a model, of a formula and of chains, and long ones."""
+    comments = f"{'#' * 40_000}\n" * 2
+    scripts = (
+        ("a path has 64 names at most", deep_spaces(65), accepted(64, "refused: TooMany Depth\n")),
+        ("a space has 64 layers at most", chain_of_bases(65), accepted(128, "refused: TooMany Layers\n")),
+        ("a model has 20,000 static paths at most", doubled_paths(), accepted(63, "refused: TooMany Paths\norder N.X\n")),
+        ("a name has 64 bytes at most", f"space {'a' * 64}\nspace {'a' * 65}", "ok\nrefused: BadName\n"),
+        ("64 parentheses may be open", in_parentheses(64), "ok\n= 1 runs 1\n"),
+        ("65 parentheses are too many", in_parentheses(65), "line 1: formula: too nested at 69\nno such node\n"),
+        ("a formula with all its lines has 65,536 bytes at most", f"cells c() = 1\n{comments}", "line 1: formula: too long\n"),
+        # A recursion over the stack of the program ends here without an answer.
+        ("a chain of 100,000 nodes is answered", CHAIN, CHAIN_ANSWER),
+        # An edit that looks at everything that is held takes far too long here.
+        ("10,000 edits beside a long projection touch nothing of it", edits_beside(10_000),
+         accepted(4, "= 1 runs 99992\n") + accepted(10_000, "held 99992\n= 1 runs 0\n")),
+    )
+    return [(name, script.encode(), answer.encode()) for name, script, answer in scripts]
+
+
+FIB, FIB_ANSWER = of_page(TOP / "tests" / "scripts" / "first.md")[0][1:]
+
+
+def run(program, *words, **streams):
+    done = subprocess.run([program, *words], timeout=SECONDS, **streams)
+    return done.returncode, done.stdout
+
+
+def on_bytes(*words, script=FIB):
+    return lambda program: run(program, *words, input=script, stdout=subprocess.PIPE)
+
+
+def cut_off(script):
+    """A run whose first read gives the script, and whose next one fails: the other side of a terminal is closed."""
+    def ended(program):
+        here, there = os.openpty()
+        tty.setraw(there)
+        os.write(there, script)
+        os.close(there)
+        try:
+            return run(program, "run", stdin=here, stdout=subprocess.PIPE)
+        finally:
+            os.close(here)
+    return ended
+
+
+def unreadable(program):
+    """A run whose first read fails: its input is a folder."""
+    folder = os.open(TOP, os.O_RDONLY)
+    try:
+        return run(program, "run", stdin=folder, stdout=subprocess.PIPE)
+    finally:
+        os.close(folder)
+
+
+def with_room(size):
+    """A run whose output takes so many bytes, and then fails."""
+    def limited():
+        resource.setrlimit(resource.RLIMIT_FSIZE, (size, size))
+
+    def ended(program):
+        with tempfile.TemporaryFile() as out:
+            status, _ = run(program, "run", input=FIB, stdout=out, preexec_fn=limited, restore_signals=False)
+            out.seek(0)
+            return status, out.read()
+    return ended
+
+
+def ends():
+    """Runs with their status and what they write: other words, limits of a line and of a script, and faults outside."""
+    line = f"eval f(1)\n{' ' * 65_527}eval f(1)".encode()
+    longer = line.replace(b"\n", b"\n ")
+    script = f"{'#' * 65_535}\n".encode() * 256
+    missing = b"no such node\n"
+    return (
+        ("no word", on_bytes(), 2, USAGE),
+        ("a word too many", on_bytes("run", "now"), 2, USAGE),
+        ("another word", on_bytes("--help"), 2, USAGE),
+        ("a line up to its limit", on_bytes("run", script=line), 0, missing * 2),
+        ("a line past its limit", on_bytes("run", script=longer), 6, missing),
+        ("a script up to its limit", on_bytes("run", script=script), 0, b""),
+        ("a script past its limit", on_bytes("run", script=script + b"\n"), 6, b""),
+        ("the second read fails", cut_off(FIB), 3, FIB_ANSWER),
+        ("the second read fails within a line", cut_off(b"cells f(n) = n"), 3, b""),
+        ("the first read fails", unreadable, 3, b""),
+        ("the first write fails", with_room(0), 4, b""),
+        ("the second write fails", with_room(3), 4, b"ok\n"),
+        ("a write takes a part, and the next one fails", with_room(4), 4, b"ok\n="),
+    )
+
+
+def first_difference(written, answer):
+    lines = list(zip(written.splitlines() + [None], answer.splitlines() + [None]))
+    at = next((at for at, (line, wanted) in enumerate(lines) if line != wanted), 0)
+    return f"line {at + 1} of what it writes is {lines[at][0]}, and not {lines[at][1]}"
+
+
+def main():
+    program = pathlib.Path(sys.argv[1]).resolve() if sys.argv[1:] else PROGRAM
+    groups = {
+        "the guide": of_page(TOP / "docs" / "USER-GUIDE.md"),
+        "examples": of_files(TOP / "examples"),
+        "tests/scripts": [script for page in sorted((TOP / "tests" / "scripts").glob("*.md")) for script in of_page(page)]
+        + of_files(TOP / "tests" / "scripts"),
+        "limits": made(),
+    }
+    rows = [(name, on_bytes("run", script=script), 0, answer) for scripts in groups.values() for name, script, answer in scripts]
+    faults = 0
+    for name, ended, status, answer in (*rows, *ends()):
+        found, written = ended(program)
+        if found != status or written != answer:
+            faults += 1
+            print(f"scripts: {name}: status {found}, wanted {status}; {first_difference(written, answer)}", file=sys.stderr)
+    told = ", ".join(f"{len(scripts)} of {group}" for group, scripts in groups.items())
+    print(f"scripts: {told}, {len(ends())} ends of runs; {faults} answered otherwise")
+    return 1 if faults else 0
+
+
+if __name__ == "__main__":
+    sys.exit(main())
