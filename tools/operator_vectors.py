@@ -1,24 +1,23 @@
 #!/usr/bin/env python3
-"""Writes the tables of crates/mx_ops_tests: operators, their operands and what they give.
+"""Rows of operators: compares what `mx run` answers with what Python computes.
 
 Nothing here stands on the engine: what is wanted comes from Python's own `int`, `fractions` and
 `decimal`, and from its comparisons, `in`, subscripts, `min`, `max`, `range` and `round`. Each row
 names which. A decimal number is a `Fraction` of 10^9, kept in range by hand.
 
-    tools/operator_vectors.py            writes the tables
-    tools/operator_vectors.py --check    ends with 1 where the files are not what it would write
+    tools/operator_vectors.py [PROGRAM]      the program is crates/mx_cli/out/mx_cli, if no other is named
 """
 import math
 import pathlib
+import subprocess
 import sys
 from decimal import ROUND_HALF_EVEN, Decimal, getcontext
 from fractions import Fraction
 
 getcontext().prec = 120
 UNIT = 10**9
-WIDTH = 60  # the widest row that the layout leaves on one line
 LEAST, MOST = -(2**63), 2**63 - 1
-FOLDER = pathlib.Path(__file__).resolve().parent.parent / "crates" / "mx_ops_tests" / "src"
+PROGRAM = pathlib.Path(__file__).resolve().parent.parent / "crates" / "mx_cli" / "out" / "mx_cli"
 
 
 class Fault(Exception):
@@ -335,7 +334,7 @@ def tables():
     picked = [(op, (1, (d("1.0"), 2)), py) for op in ("In", "NotIn")]
     picked += [("In", (a, t), py) for a in (1, "a", None, (1,)) for t in ((), (1, "a"), (True,), (None, (d("1.0"),)))]
     picked += [("Index", (t, i), py) for t in ((10, "x", None), "abc", (), "") for i in (0, 2, 3, -1, -3, -4, True, MOST, LEAST)]
-    picked += [("Index", (t, i), py) for t in ((1,), 5, None) for i in (d("0.0"), "a", None)]
+    picked += [("Index", ((1,), i), py) for i in (d("0.0"), "a", None)]
     best = [(op, (t,), py) for op in ("Min", "Max") for t in (
         (3, 1, 2), (1, True, d("1.0")), (d("1.0"), 1), ("b", "a", "ab"), (), (None,), (1, "a"), ((1, 2), (1,)), (2, d("2.5"), 2), 5)]
     best += [(op, t, py) for op in ("Min", "Max") for t in ((1, 2), (2, d("1.5"), 7), ("b", "a"), (1, "a"), (True, 1), (None, None))]
@@ -349,60 +348,70 @@ def tables():
         (0, 5, 0), (0, 0, 0), (10**12,), (0, 10**6), (0, -(10**6), -1), (LEAST, MOST), (MOST, LEAST, LEAST), (LEAST, MOST, MOST), (MOST - 1, MOST),
         (LEAST, LEAST + 2), (True,), (True, 3), (d("3.0"),), ("a", 2), (1, 2, None), (0, 10, d("2.0")))]
     joined = crossed(py, ("Add",), ("ab", (1, 2), (), "", 1), ("c", "", (3,), None, ()))
-    return {
-        "whole": [("WHOLE", "Whole numbers.", whole_rows)],
-        "decimal": [("MIXED", "Decimal numbers.", mixed), ("POWERS", "Powers.", powers), ("SIGNS", "One number.", signs),
-                    ("PLACES", "Numbers at so many decimals.", places), ("ROOTS", "Roots.", roots)],
-        "kinds": [("COMPARED", "Comparisons.", compared), ("PICKED", "Items and subscripts.", picked),
-                  ("BEST", "Tuples as a whole.", best), ("RANGES", "Ranges.", ranges), ("JOINED", "What is put together.", joined)],
-    }
+    return {"whole numbers": whole_rows, "decimal numbers": mixed, "powers": powers, "one number": signs, "numbers at so many decimals": places,
+            "roots": roots, "comparisons": compared, "items and subscripts": picked, "tuples as a whole": best, "ranges": ranges,
+            "what is put together": joined}
 
 
-def quoted(s):
-    return '"' + s.replace("\\", "\\\\").replace('"', '\\"') + '"'
+SIGNS = {"Add": "+", "Sub": "-", "Mul": "*", "Div": "/", "FloorDiv": "//", "Rem": "%", "Pow": "**", "Eq": "==", "Ne": "!=", "Lt": "<",
+         "Le": "<=", "Gt": ">", "Ge": ">=", "In": "in", "NotIn": "not in"}
+FRONTS = {"Neg": "-", "Plus": "+", "Not": "not "}
 
 
-SOURCES = {"fractions": "FR", "decimal": "DE", "int": "IT", "python": "PY"}
+def formula(op, names):
+    """What applies an operator or a builtin to these names."""
+    if op in SIGNS:
+        return f" {SIGNS[op]} ".join(names)
+    if op in FRONTS:
+        return f"{FRONTS[op]}{names[0]}"
+    if op == "Index":
+        return f"{names[0]}[{names[1]}]"
+    return f"{op.lower()}({', '.join(names)})"
 
 
-def line(row):
-    op, *texts, source = row
-    parts = [f"Op::{op}", *(quoted(s) for s in texts), SOURCES[source]]
-    inside = ", ".join(parts)
-    if len(inside) <= WIDTH:
-        return f"    ({inside}),"
-    return "    (\n" + "".join(f"        {part},\n" for part in parts) + "    ),"
+def commands(rows):
+    """Commands with what each answers. The operands are a reference, since an argument that is whole is no decimal number."""
+    defined = set()
+    for op, operands, _ in rows:
+        cells = f"{op}{len(operands)}"
+        yield f"ref x = {text(tuple(operands))}", "ok"
+        if cells not in defined:
+            defined.add(cells)
+            yield f"cells {cells}() = {formula(op, [f'x[{at}]' for at in range(len(operands))])}", "ok"
+            yield f"allow {cells}", "ok"
+        want = wanted(op, operands)
+        yield f"eval {cells}()", f"{want} at Main.{cells}() line 1" if want.startswith("fault ") else f"= {want} runs 1"
 
 
-def module(arrays):
-    sources = sorted({SOURCES[source] for _, _, rows in arrays for _, _, source in rows})
-    named = ", ".join([*sources, "Row"])
-    out = ["//! Written by tools/operator_vectors.py.",
-           f"use crate::rows::{{{named}}};" , "use mx_op::op::Op;", ""]
-    for name, title, rows in arrays:
-        seen = []
-        for op, operands, source in rows:
-            row = (op, text(tuple(operands)), wanted(op, operands), source)
-            if row not in seen:
-                seen.append(row)
-        out.append(f"/// {title}")
-        out.append(f"pub const {name}: [Row; {len(seen)}] = [")
-        out += [line(row) for row in seen]
-        out += ["];", ""]
-    return "\n".join(out[:-1]) + "\n"
+def without_repeats(rows):
+    """The rows, each once by what it is written as."""
+    return list({(op, text(tuple(operands))): (op, operands, source) for op, operands, source in reversed(rows)}.values())[::-1]
+
+
+def compare(program, name, rows):
+    """How many of these rows the program answers otherwise."""
+    asked = list(commands(rows))
+    script = "".join(f"{command}\n" for command, _ in asked)
+    run = subprocess.run([program, "run"], input=script, capture_output=True, text=True, timeout=60)
+    answers = run.stdout.splitlines()
+    if run.returncode != 0 or len(answers) != len(asked):
+        print(f"{name}: status {run.returncode}, {len(answers)} answers to {len(asked)} commands", file=sys.stderr)
+        return 1
+    wrong = [(command, answer, want) for (command, want), answer in zip(asked, answers) if answer != want]
+    for command, answer, want in wrong:
+        print(f"{name}: {command}\nwanted: {want}\ntold:   {answer}", file=sys.stderr)
+    return len(wrong)
 
 
 def main():
-    count, stale = 0, False
-    for name, arrays in tables().items():
-        path, written_ = FOLDER / f"{name}.rt", module(arrays)
-        count += written_.count("Op::")
-        if "--check" in sys.argv[1:]:
-            stale |= path.read_text() != written_
-        else:
-            path.write_text(written_)
-    print(f"{count} rows" + (", stale" if stale else ""))
-    return 1 if stale else 0
+    program = pathlib.Path(sys.argv[1]).resolve() if sys.argv[1:] else PROGRAM
+    count = wrong = 0
+    for name, rows in tables().items():
+        rows = without_repeats(rows)
+        count += len(rows)
+        wrong += compare(program, name, rows)
+    print(f"operators: {count} rows, {wrong} answered otherwise")
+    return 1 if wrong else 0
 
 
 if __name__ == "__main__":

@@ -69,6 +69,20 @@ def in_parentheses(depth):
     return f"cells c() = {'(' * depth}1{')' * depth}\neval c()\n"
 
 
+def tuples(depth):
+    """None in so many tuples of one item."""
+    return f"{'(' * depth}None{',)' * depth}"
+
+
+def reference(literal):
+    return f"ref k = {literal}\ncells c() = k\nallow c\neval c()\n"
+
+
+def blocks(depth, line):
+    """A definition with so many blocks in one another, each opened by this line, and `pass` on the line of the last."""
+    return "def f():\n" + "\n".join(f"{' ' * level}{line}" for level in range(1, depth + 1)) + " pass\n"
+
+
 def edits_beside(edits):
     """A long projection, then so many edits that nothing of it rests on, and the projection again."""
     projection = "limit 100000\nspace S\nparams S(x)\ncells S.f(t) = x if t == 0 else f(t - 1)\neval S[1].f(99990)\n"
@@ -90,6 +104,18 @@ def made():
         ("64 parentheses may be open", in_parentheses(64), "ok\n= 1 runs 1\n"),
         ("65 parentheses are too many", in_parentheses(65), "line 1: formula: too nested at 69\nno such node\n"),
         ("a formula with all its lines has 65,536 bytes at most", f"cells c() = 1\n{comments}", "line 1: formula: too long\n"),
+        ("a literal opens 64 brackets", reference(tuples(64)), f"ok\nok\nok\n= {tuples(64)} runs 1\n"),
+        ("a literal of 65 brackets", f"ref k = {tuples(65)}", "line 1: formula: too nested at 64\n"),
+        ("8 loops in one another", blocks(8, "for i in t:"), "ok\n"),
+        ("9 loops in one another", blocks(9, "for i in t:"), "line 1: formula: too many loops\n"),
+        ("what a loop goes over is outside it", blocks(8, "for i in f(x for x in t):"), "ok\n"),
+        ("63 blocks are printed in 64", blocks(63, "if a:"), "ok\n"),
+        ("64 blocks are printed in too many", blocks(64, "if a:"), "line 1: formula: prints too long\n"),
+        ("each sign is printed with two spaces", f"cells f()=a{'+a' * 17_000}\n", "line 1: formula: prints too long\n"),
+        ("an address has 63 brackets inside it", f"clear space A[{'(' * 63}", "line 1: bad form at 77\n"),
+        ("an address has 64 brackets inside it", f"clear space A[{'(' * 64}", "line 1: formula: too nested at 77\n"),
+        ("65 brackets behind cells", f"clear cells x {'(' * 65}", "line 1: formula: too nested at 78\n"),
+        ("no bracket is counted behind a path", f"space {'(' * 65}", "line 1: bad form at 6\n"),
         # A recursion over the stack of the program ends here without an answer.
         ("a chain of 100,000 nodes is answered", CHAIN, CHAIN_ANSWER),
         # An edit that looks at everything that is held takes far too long here.
