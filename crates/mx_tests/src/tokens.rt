@@ -1,38 +1,9 @@
 //! Sources with their tokens, or with their first trouble. A token is written as its kind, its place and `+` its length,
 //! where that is not 0.
 
-use mx_lex::{LexRefusal, Tokens, front_of, lex};
-use std::alloc::{AllocError, Global};
-use std::process::Abort;
+use crate::said::{Reader, compare, is};
+use crate::sources::push_tokens;
 use std::test::Fail;
-
-fn shown(alloc: Global, outcome: Result<Tokens, LexRefusal>) -> Result<String, AllocError> {
-    let tokens = match outcome {
-        Ok(tokens) => tokens,
-        Err(LexRefusal::BadByte(at)) => return format!(in alloc; "BadByte {at}"),
-        Err(LexRefusal::BadNumber(at)) => return format!(in alloc; "BadNumber {at}"),
-        Err(LexRefusal::BadText(at)) => return format!(in alloc; "BadText {at}"),
-        Err(LexRefusal::BadIndent(line)) => return format!(in alloc; "BadIndent {line}"),
-        Err(LexRefusal::TooLong) => return format!(in alloc; "TooLong"),
-        Err(LexRefusal::NoMemory) => return format!(in alloc; "NoMemory"),
-    };
-    let mut text = String::new(alloc);
-    for token in tokens.as_slice() {
-        if !text.is_empty() {
-            text.push(' ')?;
-        }
-        let kind = token.kind;
-        let at = token.at;
-        let len = token.len;
-        let one = if len == 0 {
-            format!(in alloc; "{kind:?} {at}")?
-        } else {
-            format!(in alloc; "{kind:?} {at}+{len}")?
-        };
-        text.push_str(one.as_str())?;
-    }
-    Ok(text)
-}
 
 const BLANK_LINES_COMMENTS: [(&[u8], &str); 16] = [
     (b"", "End 0"),
@@ -63,9 +34,9 @@ const BLANK_LINES_COMMENTS: [(&[u8], &str); 16] = [
 ];
 
 const INDENTS: [(&[u8], &str); 21] = [
-    (b" x", "BadIndent 1"),
-    (b"\n\n x", "BadIndent 3"),
-    (b"# c\n  x", "BadIndent 2"),
+    (b" x", "bad indent at line 1"),
+    (b"\n\n x", "bad indent at line 3"),
+    (b"# c\n  x", "bad indent at line 2"),
     (
         b"a:\n  b\nc",
         "Name 0+1 Mark 1+1 Newline 2 Indent 5 Name 5+1 Newline 6 Dedent 7 Name 7+1 Newline 8 End 8",
@@ -90,9 +61,9 @@ const INDENTS: [(&[u8], &str); 21] = [
         b"a\n  b\n    c\n  d",
         "Name 0+1 Newline 1 Indent 4 Name 4+1 Newline 5 Indent 10 Name 10+1 Newline 11 Dedent 14 Name 14+1 Newline 15 Dedent 15 End 15",
     ),
-    (b"a\n  b\n    c\n   d", "BadIndent 4"),
-    (b"a\n  b\n c", "BadIndent 3"),
-    (b"a\n    b\n\n  \n  c", "BadIndent 5"),
+    (b"a\n  b\n    c\n   d", "bad indent at line 4"),
+    (b"a\n  b\n c", "bad indent at line 3"),
+    (b"a\n    b\n\n  \n  c", "bad indent at line 5"),
     (
         b"a\n b\n  c",
         "Name 0+1 Newline 1 Indent 3 Name 3+1 Newline 4 Indent 7 Name 7+1 Newline 8 Dedent 8 Dedent 8 End 8",
@@ -105,12 +76,12 @@ const INDENTS: [(&[u8], &str); 21] = [
         b"a\n  b\n# c\n  d",
         "Name 0+1 Newline 1 Indent 4 Name 4+1 Newline 5 Name 12+1 Newline 13 Dedent 13 End 13",
     ),
-    (b"a\n  b\n   $", "BadByte 9"),
-    (b"a\n  b\n $", "BadIndent 3"),
-    (b" $", "BadIndent 1"),
-    (b"\tx", "BadByte 0"),
-    (b"a\n \tx", "BadByte 3"),
-    (b"a\n  b\n \tx", "BadIndent 3"),
+    (b"a\n  b\n   $", "bad byte at 9"),
+    (b"a\n  b\n $", "bad indent at line 3"),
+    (b" $", "bad indent at line 1"),
+    (b"\x09x", "bad byte at 0"),
+    (b"a\n \x09x", "bad byte at 3"),
+    (b"a\n  b\n \x09x", "bad indent at line 3"),
 ];
 
 const BRACKETS: [(&[u8], &str); 13] = [
@@ -141,7 +112,7 @@ const BRACKETS: [(&[u8], &str); 13] = [
         "Name 0+1 Newline 1 Indent 4 Mark 4+1 Newline 5 Dedent 5 End 5",
     ),
     (b"(#\n)#", "Mark 0+1 Mark 3+1 Newline 4 End 5"),
-    (b"(\n\t)", "BadByte 2"),
+    (b"(\n\x09)", "bad byte at 2"),
 ];
 
 const NAMES_AND_KEYWORDS: [(&[u8], &str); 8] = [
@@ -169,39 +140,39 @@ const NAMES_AND_KEYWORDS: [(&[u8], &str); 8] = [
 
 const NUMBERS: [(&[u8], &str); 37] = [
     (b"0", "Int 0+1 Newline 1 End 1"),
-    (b"00", "BadNumber 0"),
-    (b"01", "BadNumber 0"),
+    (b"00", "bad number at 0"),
+    (b"01", "bad number at 0"),
     (b"0.0", "Fix 0+3 Newline 3 End 3"),
-    (b"00.5", "BadNumber 0"),
+    (b"00.5", "bad number at 0"),
     (b"9223372036854775808", "Int 0+19 Newline 19 End 19"),
-    (b"9223372036854775809", "BadNumber 0"),
-    (b"10000000000000000000", "BadNumber 0"),
-    (b"x = 18446744073709551617", "BadNumber 4"),
+    (b"9223372036854775809", "bad number at 0"),
+    (b"10000000000000000000", "bad number at 0"),
+    (b"x = 18446744073709551617", "bad number at 4"),
     (b"10000000000", "Int 0+11 Newline 11 End 11"),
     (b"10000000000.0", "Fix 0+13 Newline 13 End 13"),
     (b"10000000000.000000000", "Fix 0+21 Newline 21 End 21"),
-    (b"10000000000.000000001", "BadNumber 0"),
+    (b"10000000000.000000001", "bad number at 0"),
     (b"9999999999.999999999", "Fix 0+20 Newline 20 End 20"),
-    (b"10000000001.0", "BadNumber 0"),
-    (b"99999999999.5", "BadNumber 0"),
+    (b"10000000001.0", "bad number at 0"),
+    (b"99999999999.5", "bad number at 0"),
     (b"1.123456789", "Fix 0+11 Newline 11 End 11"),
-    (b"1.1234567890", "BadNumber 0"),
-    (b"1.", "BadNumber 0"),
-    (b"1.x", "BadNumber 0"),
-    (b"1.2.3", "BadNumber 0"),
-    (b"1..2", "BadNumber 0"),
-    (b"1_", "BadNumber 0"),
-    (b"1_000", "BadNumber 0"),
-    (b"1a", "BadNumber 0"),
-    (b"1.5e3", "BadNumber 0"),
-    (b"0x10", "BadNumber 0"),
-    (b"1if x", "BadNumber 0"),
-    (b".5", "BadNumber 0"),
-    (b"1 .5", "BadNumber 2"),
-    (b"a.1", "BadNumber 1"),
-    (b"x[0].5", "BadNumber 4"),
-    (b"..5", "BadNumber 1"),
-    (b"f(.5)", "BadNumber 2"),
+    (b"1.1234567890", "bad number at 0"),
+    (b"1.", "bad number at 0"),
+    (b"1.x", "bad number at 0"),
+    (b"1.2.3", "bad number at 0"),
+    (b"1..2", "bad number at 0"),
+    (b"1_", "bad number at 0"),
+    (b"1_000", "bad number at 0"),
+    (b"1a", "bad number at 0"),
+    (b"1.5e3", "bad number at 0"),
+    (b"0x10", "bad number at 0"),
+    (b"1if x", "bad number at 0"),
+    (b".5", "bad number at 0"),
+    (b"1 .5", "bad number at 2"),
+    (b"a.1", "bad number at 1"),
+    (b"x[0].5", "bad number at 4"),
+    (b"..5", "bad number at 1"),
+    (b"f(.5)", "bad number at 2"),
     (b"-5", "Mark 0+1 Int 1+1 Newline 2 End 2"),
     (b"12.50-3", "Fix 0+5 Mark 5+1 Int 6+1 Newline 7 End 7"),
     (b"1 2", "Int 0+1 Int 2+1 Newline 3 End 3"),
@@ -216,22 +187,22 @@ const TEXTS: [(&[u8], &str); 24] = [
     (b"'\\\"'", "Text 0+4 Newline 4 End 4"),
     (b"'# no comment'", "Text 0+14 Newline 14 End 14"),
     (b"'a''b'", "Text 0+3 Text 3+3 Newline 6 End 6"),
-    (b"'a", "BadText 0"),
-    (b"x = 'a\nb'", "BadText 4"),
-    (b"'\\", "BadText 0"),
-    (b"'\\\n'", "BadText 0"),
-    (b"'\\n'", "BadText 0"),
-    (b"'\\x41'", "BadText 0"),
-    (b"'\\'", "BadText 0"),
-    (b"'''", "BadText 2"),
-    (b"('a\n')", "BadText 1"),
-    (b"'a\tb'", "BadByte 2"),
-    (b"'\\\t'", "BadByte 2"),
-    (b"'\x7f'", "BadByte 1"),
-    (b"'\xc3\xa9'", "BadByte 1"),
-    (b"'\\q\t'", "BadText 0"),
-    (b"'\t", "BadByte 1"),
-    (b"'\n\t", "BadText 0"),
+    (b"'a", "bad text at 0"),
+    (b"x = 'a\nb'", "bad text at 4"),
+    (b"'\\", "bad text at 0"),
+    (b"'\\\n'", "bad text at 0"),
+    (b"'\\n'", "bad text at 0"),
+    (b"'\\x41'", "bad text at 0"),
+    (b"'\\'", "bad text at 0"),
+    (b"'''", "bad text at 2"),
+    (b"('a\n')", "bad text at 1"),
+    (b"'a\x09b'", "bad byte at 2"),
+    (b"'\\\x09'", "bad byte at 2"),
+    (b"'\x7f'", "bad byte at 1"),
+    (b"'\xc3\xa9'", "bad byte at 1"),
+    (b"'\\q\x09'", "bad text at 0"),
+    (b"'\x09", "bad byte at 1"),
+    (b"'\n\x09", "bad text at 0"),
 ];
 
 const MARKS: [(&[u8], &str); 25] = [
@@ -251,72 +222,37 @@ const MARKS: [(&[u8], &str); 25] = [
         b"{}[](),:.",
         "Mark 0+1 Mark 1+1 Mark 2+1 Mark 3+1 Mark 4+1 Mark 5+1 Mark 6+1 Mark 7+1 Mark 8+1 Newline 9 End 9",
     ),
-    (b"!", "BadByte 0"),
-    (b"a ! = b", "BadByte 2"),
-    (b"x @ y", "BadByte 2"),
-    (b"a\\\nb", "BadByte 1"),
-    (b"a;b", "BadByte 1"),
-    (b"~x", "BadByte 0"),
-    (b"a&b", "BadByte 1"),
-    (b"`a", "BadByte 0"),
-    (b"a?", "BadByte 1"),
-    (b"^", "BadByte 0"),
-    (b"|", "BadByte 0"),
-    (b"$", "BadByte 0"),
+    (b"!", "bad byte at 0"),
+    (b"a ! = b", "bad byte at 2"),
+    (b"x @ y", "bad byte at 2"),
+    (b"a\\\nb", "bad byte at 1"),
+    (b"a;b", "bad byte at 1"),
+    (b"~x", "bad byte at 0"),
+    (b"a&b", "bad byte at 1"),
+    (b"`a", "bad byte at 0"),
+    (b"a?", "bad byte at 1"),
+    (b"^", "bad byte at 0"),
+    (b"|", "bad byte at 0"),
+    (b"$", "bad byte at 0"),
 ];
 
 const BYTES_THAT_ARE_NOT_PRINTABLE: [(&[u8], &str); 8] = [
-    (b"x\r\n", "BadByte 1"),
-    (b"x # caf\xc3\xa9", "BadByte 7"),
-    (b"# \t", "BadByte 2"),
-    (b"#\x00", "BadByte 1"),
-    (b"\x00", "BadByte 0"),
-    (b"\xff", "BadByte 0"),
-    (b"a\n  # \x7f", "BadByte 6"),
-    (b"(# \t\n)", "BadByte 3"),
+    (b"x\r\n", "bad byte at 1"),
+    (b"x # caf\xc3\xa9", "bad byte at 7"),
+    (b"# \x09", "bad byte at 2"),
+    (b"#\x00", "bad byte at 1"),
+    (b"\x00", "bad byte at 0"),
+    (b"\xff", "bad byte at 0"),
+    (b"a\n  # \x7f", "bad byte at 6"),
+    (b"(# \x09\n)", "bad byte at 3"),
 ];
 
 const THE_FIRST_TROUBLE: [(&[u8], &str); 4] = [
-    (b"01 $", "BadNumber 0"),
-    (b"$ 01", "BadByte 0"),
-    (b"a\n b\n01\n", "BadNumber 5"),
-    (b"'a' 'b", "BadText 4"),
+    (b"01 $", "bad number at 0"),
+    (b"$ 01", "bad byte at 0"),
+    (b"a\n b\n01\n", "bad number at 5"),
+    (b"'a' 'b", "bad text at 4"),
 ];
-
-fn is_shown(rt: &impl Abort, alloc: Global, table: &[(&[u8], &str)]) -> Result<(), Fail> {
-    for (source, want) in table {
-        let got = shown(alloc, lex(alloc, source))?;
-        assert_eq!(rt; got.as_str(), *want, "of {source:?}");
-    }
-    Ok(())
-}
-
-#[test]
-fn sources_give_their_tokens_or_their_first_trouble(rt: HostRuntime) -> Result<(), Fail> {
-    is_shown(&rt, rt.alloc(), &BLANK_LINES_COMMENTS)?;
-    is_shown(&rt, rt.alloc(), &INDENTS)?;
-    is_shown(&rt, rt.alloc(), &BRACKETS)?;
-    is_shown(&rt, rt.alloc(), &NAMES_AND_KEYWORDS)?;
-    is_shown(&rt, rt.alloc(), &NUMBERS)?;
-    is_shown(&rt, rt.alloc(), &TEXTS)?;
-    is_shown(&rt, rt.alloc(), &MARKS)?;
-    is_shown(&rt, rt.alloc(), &BYTES_THAT_ARE_NOT_PRINTABLE)?;
-    is_shown(&rt, rt.alloc(), &THE_FIRST_TROUBLE)?;
-    Ok(())
-}
-
-#[test]
-fn a_source_has_at_most_65536_bytes(rt: HostRuntime) -> Result<(), Fail> {
-    let longest = vec![in rt.alloc(); b'x'; 65_536]?;
-    let tokens = lex(rt.alloc(), longest.as_slice())?;
-    let text = shown(rt.alloc(), Ok(tokens))?;
-    assert_eq!(rt; text.as_str(), "Name 0+65536 Newline 65536 End 65536");
-    // Too long comes before any other trouble.
-    let longer = vec![in rt.alloc(); b'$'; 65_537]?;
-    let text = shown(rt.alloc(), lex(rt.alloc(), longer.as_slice()))?;
-    assert_eq!(rt; text.as_str(), "TooLong");
-    Ok(())
-}
 
 /// Sources with the place of their first token `=`, or with their first trouble in front of it.
 const FRONTS: [(&[u8], &str); 8] = [
@@ -325,23 +261,49 @@ const FRONTS: [(&[u8], &str); 8] = [
     (b"k == 1", "6"),
     (b"k", "1"),
     (b"k = 'a", "2"),
-    (b"k $ = 1", "BadByte 2"),
+    (b"k $ = 1", "bad byte at 2"),
     (b"k '=' = 01", "6"),
     (b"k *= 1 = 2", "7"),
 ];
 
-fn fronts_end(rt: &impl Abort, alloc: Global, table: &[(&[u8], &str)]) -> Result<(), Fail> {
-    for (source, want) in table {
-        let got = match front_of(alloc, source, b'=') {
-            Ok(place) => format!(in alloc; "{place}")?,
-            Err(refusal) => shown(alloc, Err(refusal))?,
-        };
-        assert_eq!(rt; got.as_str(), *want, "of {source:?}");
-    }
-    Ok(())
+#[test]
+fn sources_give_their_tokens_or_their_first_trouble(rt: HostRuntime) -> Result<(), Fail> {
+    compare(&rt, rt.alloc(), Reader::Tokens, &BLANK_LINES_COMMENTS)?;
+    compare(&rt, rt.alloc(), Reader::Tokens, &INDENTS)?;
+    compare(&rt, rt.alloc(), Reader::Tokens, &BRACKETS)?;
+    compare(&rt, rt.alloc(), Reader::Tokens, &NAMES_AND_KEYWORDS)?;
+    compare(&rt, rt.alloc(), Reader::Tokens, &NUMBERS)?;
+    compare(&rt, rt.alloc(), Reader::Tokens, &TEXTS)?;
+    compare(&rt, rt.alloc(), Reader::Tokens, &MARKS)?;
+    compare(
+        &rt,
+        rt.alloc(),
+        Reader::Tokens,
+        &BYTES_THAT_ARE_NOT_PRINTABLE,
+    )?;
+    compare(&rt, rt.alloc(), Reader::Tokens, &THE_FIRST_TROUBLE)
 }
 
 #[test]
 fn a_front_ends_at_its_mark_whatever_stands_behind(rt: HostRuntime) -> Result<(), Fail> {
-    fronts_end(&rt, rt.alloc(), &FRONTS)
+    compare(&rt, rt.alloc(), Reader::Front, &FRONTS)
+}
+
+#[test]
+fn a_source_has_at_most_65536_bytes(rt: HostRuntime) -> Result<(), Fail> {
+    let longest = vec![in rt.alloc(); b'x'; 65_536]?;
+    let mut out = Vec::new(rt.alloc());
+    push_tokens(rt.alloc(), &mut out, &longest)?;
+    is(&rt, &out, "Name 0+65536 Newline 65536 End 65536");
+    Ok(())
+}
+
+// Too long comes before any other trouble.
+#[test]
+fn a_longer_source_is_too_long(rt: HostRuntime) -> Result<(), Fail> {
+    let longer = vec![in rt.alloc(); b'$'; 65_537]?;
+    let mut out = Vec::new(rt.alloc());
+    push_tokens(rt.alloc(), &mut out, &longer)?;
+    is(&rt, &out, "too long");
+    Ok(())
 }

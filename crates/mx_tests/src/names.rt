@@ -1,3 +1,4 @@
+//! Names of files.
 use mx_outside::is_file_name;
 
 const NAMES: [&str; 10] = [

@@ -1,5 +1,0 @@
-//! Tests of tables and keys.
-#![tactic(auto)]
-
-#[cfg(test)]
-mod tables;

@@ -1,5 +1,0 @@
-//! Tests of the generated model.
-#![tactic(auto)]
-
-#[cfg(test)]
-mod vectors;

@@ -1,9 +1,0 @@
-//! Tests of sources, sinks and files.
-#![tactic(auto)]
-
-#[cfg(test)]
-mod files;
-#[cfg(test)]
-mod names;
-#[cfg(test)]
-mod streams;

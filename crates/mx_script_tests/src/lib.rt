@@ -1,5 +1,0 @@
-//! Tests of the calls that read commands.
-#![tactic(auto)]
-
-#[cfg(test)]
-mod commands;
