@@ -1,8 +1,9 @@
 //! The texts of commands with what they say, or with their refusals, worked out by hand from the rules. A command is shown in one
 //! spacing, with the path of its space and its printed formula; a reference of the model has no path.
 
-use crate::said::{Reader, compare};
-use mx_script::{FormRefusal, read_command};
+use crate::said::{Reader, compare, is};
+use crate::shown::push_command_by;
+use mx_print::append::push;
 use mx_words::table::{CommandWord, takes_lines};
 use std::test::Fail;
 
@@ -324,13 +325,13 @@ fn a_formula_is_refused_at_its_first_trouble(rt: HostRuntime) -> Result<(), Fail
 const EVAL_AND_DEF: [CommandWord; 2] = [CommandWord::Eval, CommandWord::Def];
 
 #[test]
-fn a_reader_takes_its_own_words_alone(rt: HostRuntime) {
-    assert!(rt; read_command(rt.alloc(), &EVAL_AND_DEF, b"def f(x) = x").is_ok());
-    let refused = matches!(
-        read_command(rt.alloc(), &EVAL_AND_DEF, b"cells f(x) = x"),
-        Err(FormRefusal::UnknownWord)
-    );
-    assert!(rt; refused);
+fn a_reader_takes_its_own_words_alone(rt: HostRuntime) -> Result<(), Fail> {
+    let mut out = Vec::new(rt.alloc());
+    push_command_by(rt.alloc(), &mut out, &EVAL_AND_DEF, b"def f(x) = x")?;
+    push(&mut out, b"; ")?;
+    push_command_by(rt.alloc(), &mut out, &EVAL_AND_DEF, b"cells f(x) = x")?;
+    is(&rt, &out, "cells Main.f(x) = x; unknown word");
+    Ok(())
 }
 
 #[test]

@@ -2,12 +2,13 @@
 
 use crate::said::is;
 use mx_outside::{Files, Found, MemFiles, ReadFailure, SureFiles, WriteFailure};
+use mx_print::append::push;
 use std::alloc::{AllocError, Global};
 use std::test::Fail;
 
-fn push(out: &mut Vec<u8>, line: &[u8]) -> Result<(), AllocError> {
-    out.extend_from_slice(line)?;
-    out.extend_from_slice(b"\n")
+fn push_line(out: &mut Vec<u8>, line: &[u8]) -> Result<(), AllocError> {
+    push(out, line)?;
+    push(out, b"\n")
 }
 
 fn push_read<F: Files>(
@@ -18,10 +19,10 @@ fn push_read<F: Files>(
     limit: u64,
 ) -> Result<(), AllocError> {
     match files.read(alloc, name, limit) {
-        Ok(Found::Bytes(bytes)) => push(out, &bytes),
-        Ok(Found::Missing) => push(out, b"missing"),
-        Ok(Found::TooBig) => push(out, b"too big"),
-        Err(ReadFailure::Failed) => push(out, b"failed"),
+        Ok(Found::Bytes(bytes)) => push_line(out, &bytes),
+        Ok(Found::Missing) => push_line(out, b"missing"),
+        Ok(Found::TooBig) => push_line(out, b"too big"),
+        Err(ReadFailure::Failed) => push_line(out, b"failed"),
         Err(ReadFailure::NoMemory) => Err(AllocError),
     }
 }
@@ -34,16 +35,16 @@ fn push_write<F: Files>(
     bytes: &[u8],
 ) -> Result<(), AllocError> {
     match files.write(alloc, name, bytes) {
-        Ok(()) => push(out, b"written"),
-        Err(WriteFailure::Failed) => push(out, b"failed"),
+        Ok(()) => push_line(out, b"written"),
+        Err(WriteFailure::Failed) => push_line(out, b"failed"),
         Err(WriteFailure::NoMemory) => Err(AllocError),
     }
 }
 
 fn push_held(out: &mut Vec<u8>, bytes: Option<&[u8]>) -> Result<(), AllocError> {
     match bytes {
-        Some(bytes) => push(out, bytes),
-        None => push(out, b"none"),
+        Some(bytes) => push_line(out, bytes),
+        None => push_line(out, b"none"),
     }
 }
 

@@ -4,8 +4,8 @@
 use crate::said::{Reader, compare};
 use std::test::Fail;
 
-/// Formulas of cells.
-const FORMULAS: [(&[u8], &str); 76] = [
+/// Formulas of cells, with parameters of all kinds.
+const HEADS: [(&[u8], &str); 18] = [
     (b"() = 1", "() = 1\n"),
     (b"(t) = t", "(t) = t\n"),
     (b"(t,) = t", "(t) = t\n"),
@@ -24,6 +24,10 @@ const FORMULAS: [(&[u8], &str); 76] = [
     (b"() =\n1", "unexpected at 4"),
     (b"() = x.", "unexpected at 7"),
     (b"() = a < b = c", "unexpected at 11"),
+];
+
+/// Formulas that return one expression.
+const ONE_LINE: [(&[u8], &str); 25] = [
     (b"() = a < b == c", "() = a < b == c\n"),
     (b"() = -2 ** 2", "() = -2 ** 2\n"),
     (b"() = (-2) ** 2", "() = (-2) ** 2\n"),
@@ -55,6 +59,10 @@ const FORMULAS: [(&[u8], &str); 76] = [
     (b"() = a is 1", "unexpected at 10"),
     (b"() = x[]", "unexpected at 7"),
     (b"() = (a,,)", "unexpected at 8"),
+];
+
+/// Formulas of statements.
+const BLOCKS: [(&[u8], &str); 33] = [
     (b"(): return 1", "() = 1\n"),
     (b"():\n  return 1", "() = 1\n"),
     (b"(): return", "():\n    return\n"),
@@ -202,7 +210,13 @@ const EXPRESSIONS: [(&[u8], &str); 3] = [
 
 #[test]
 fn reads_formulas_or_tells_the_first_trouble(rt: HostRuntime) -> Result<(), Fail> {
-    compare(&rt, rt.alloc(), Reader::Formula, &FORMULAS)
+    compare(&rt, rt.alloc(), Reader::Formula, &HEADS)?;
+    compare(&rt, rt.alloc(), Reader::Formula, &ONE_LINE)
+}
+
+#[test]
+fn reads_statements_or_tells_the_first_trouble(rt: HostRuntime) -> Result<(), Fail> {
+    compare(&rt, rt.alloc(), Reader::Formula, &BLOCKS)
 }
 
 #[test]

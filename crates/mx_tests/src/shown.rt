@@ -15,7 +15,7 @@ use mx_text::form::push_form_refusal;
 use mx_value::label::Label;
 use mx_value::node::{Node, Path};
 use mx_value::value::{Addr, Value};
-use mx_words::table::WORDS;
+use mx_words::table::{CommandWord, WORDS};
 use std::alloc::{AllocError, Global};
 
 /// A word and a path.
@@ -221,14 +221,24 @@ fn push_command(alloc: Global, out: &mut Vec<u8>, command: &Command) -> Result<(
     }
 }
 
+/// The command that a text says to a reader of these words.
+pub(crate) fn push_command_by(
+    alloc: Global,
+    out: &mut Vec<u8>,
+    words: &[CommandWord],
+    text: &[u8],
+) -> Result<(), AllocError> {
+    match read_command(alloc, words, text) {
+        Ok(command) => push_command(alloc, out, &command),
+        Err(refusal) => push_form_refusal(out, refusal),
+    }
+}
+
 /// The command that a text says.
 pub(crate) fn push_command_of(
     alloc: Global,
     out: &mut Vec<u8>,
     text: &[u8],
 ) -> Result<(), AllocError> {
-    match read_command(alloc, &WORDS, text) {
-        Ok(command) => push_command(alloc, out, &command),
-        Err(refusal) => push_form_refusal(out, refusal),
-    }
+    push_command_by(alloc, out, &WORDS, text)
 }

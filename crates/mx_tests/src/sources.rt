@@ -13,23 +13,23 @@ use mx_text::address::push_address;
 use mx_text::parsing::{push_lex_refusal, push_parse_refusal};
 use std::alloc::{AllocError, Global};
 
-fn kind_name(kind: TokenKind) -> &'static str {
+fn push_kind(out: &mut Vec<u8>, kind: TokenKind) -> Result<(), AllocError> {
     match kind {
-        TokenKind::Name => "Name ",
-        TokenKind::Keyword => "Keyword ",
-        TokenKind::Int => "Int ",
-        TokenKind::Fix => "Fix ",
-        TokenKind::Text => "Text ",
-        TokenKind::Mark => "Mark ",
-        TokenKind::Newline => "Newline ",
-        TokenKind::Indent => "Indent ",
-        TokenKind::Dedent => "Dedent ",
-        TokenKind::End => "End ",
+        TokenKind::Name => push(out, b"Name "),
+        TokenKind::Keyword => push(out, b"Keyword "),
+        TokenKind::Int => push(out, b"Int "),
+        TokenKind::Fix => push(out, b"Fix "),
+        TokenKind::Text => push(out, b"Text "),
+        TokenKind::Mark => push(out, b"Mark "),
+        TokenKind::Newline => push(out, b"Newline "),
+        TokenKind::Indent => push(out, b"Indent "),
+        TokenKind::Dedent => push(out, b"Dedent "),
+        TokenKind::End => push(out, b"End "),
     }
 }
 
 fn push_token(out: &mut Vec<u8>, token: Token) -> Result<(), AllocError> {
-    push(out, kind_name(token.kind).as_bytes())?;
+    push_kind(out, token.kind)?;
     push_number(out, u64::from(token.at))?;
     if token.len > 0 {
         push(out, b"+")?;

@@ -4,12 +4,9 @@ use crate::said::is;
 use mx_outside::{
     MemSink, MemSource, Sink, Source, SureSink, SureSource, WriteFailure, write_whole,
 };
+use mx_print::append::push;
 use std::alloc::AllocError;
 use std::test::Fail;
-
-fn push(out: &mut Vec<u8>, bytes: &[u8]) -> Result<(), AllocError> {
-    out.extend_from_slice(bytes)
-}
 
 fn push_read<S: Source>(
     out: &mut Vec<u8>,

@@ -267,13 +267,27 @@ const FRONTS: [(&[u8], &str); 8] = [
 ];
 
 #[test]
-fn sources_give_their_tokens_or_their_first_trouble(rt: HostRuntime) -> Result<(), Fail> {
+fn lines_indents_and_brackets_give_their_tokens(rt: HostRuntime) -> Result<(), Fail> {
     compare(&rt, rt.alloc(), Reader::Tokens, &BLANK_LINES_COMMENTS)?;
     compare(&rt, rt.alloc(), Reader::Tokens, &INDENTS)?;
-    compare(&rt, rt.alloc(), Reader::Tokens, &BRACKETS)?;
+    compare(&rt, rt.alloc(), Reader::Tokens, &BRACKETS)
+}
+
+#[test]
+fn names_and_numbers_give_their_tokens(rt: HostRuntime) -> Result<(), Fail> {
     compare(&rt, rt.alloc(), Reader::Tokens, &NAMES_AND_KEYWORDS)?;
-    compare(&rt, rt.alloc(), Reader::Tokens, &NUMBERS)?;
-    compare(&rt, rt.alloc(), Reader::Tokens, &TEXTS)?;
+    compare(&rt, rt.alloc(), Reader::Tokens, &NUMBERS)
+}
+
+#[test]
+fn texts_give_their_tokens(rt: HostRuntime) -> Result<(), Fail> {
+    compare(&rt, rt.alloc(), Reader::Tokens, &TEXTS)
+}
+
+#[test]
+fn marks_and_other_bytes_give_their_tokens_or_the_first_trouble(
+    rt: HostRuntime,
+) -> Result<(), Fail> {
     compare(&rt, rt.alloc(), Reader::Tokens, &MARKS)?;
     compare(
         &rt,

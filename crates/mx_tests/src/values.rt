@@ -3,8 +3,8 @@
 use crate::said::{Reader, compare};
 use std::test::Fail;
 
-/// Literals.
-const LITERALS: [(&[u8], &str); 63] = [
+/// Numbers.
+const NUMBERS: [(&[u8], &str); 20] = [
     (b"1", "1"),
     (b"0", "0"),
     (b"-1", "-1"),
@@ -25,6 +25,10 @@ const LITERALS: [(&[u8], &str); 63] = [
     (b"12.345", "12.345"),
     (b"1.", "bad number at 0"),
     (b"1 .5", "bad number at 2"),
+];
+
+/// Other literals.
+const LITERALS: [(&[u8], &str); 21] = [
     (b"\"a\"", "\"a\""),
     (b"'a'", "\"a\""),
     (b"\"\"", "\"\""),
@@ -46,6 +50,10 @@ const LITERALS: [(&[u8], &str); 63] = [
     (b"(,)", "unexpected at 1"),
     (b"(1,,)", "unexpected at 3"),
     (b"(1 2)", "unexpected at 3"),
+];
+
+/// What is no literal, and what may stand around one.
+const BAD_LITERALS: [(&[u8], &str); 22] = [
     (b"(1, 2", "unexpected at 5"),
     (b"(", "unexpected at 1"),
     (b")", "unexpected at 0"),
@@ -134,7 +142,13 @@ const NODES: [(&[u8], &str); 30] = [
 
 #[test]
 fn reads_literals_or_tells_the_first_trouble(rt: HostRuntime) -> Result<(), Fail> {
+    compare(&rt, rt.alloc(), Reader::Literal, &NUMBERS)?;
     compare(&rt, rt.alloc(), Reader::Literal, &LITERALS)
+}
+
+#[test]
+fn tells_the_first_trouble_of_what_is_no_literal(rt: HostRuntime) -> Result<(), Fail> {
+    compare(&rt, rt.alloc(), Reader::Literal, &BAD_LITERALS)
 }
 
 #[test]
