@@ -5,9 +5,11 @@ Nothing here stands on the engine: what is wanted comes from Python's own `int`,
 `decimal`, and from its comparisons, `in`, subscripts, `min`, `max`, `range` and `round`. Each row
 names which. A decimal number is a `Fraction` of 10^9, kept in range by hand.
 
-    tools/operator_vectors.py [PROGRAM]      the program is crates/mx_cli/out/mx_cli, if no other is named
+    tools/operator_vectors.py [--mx PATH]      through the program, which is crates/mx_cli/out/mx_cli as `rt ci` builds it, or another one
 """
+import argparse
 import math
+import os
 import pathlib
 import subprocess
 import sys
@@ -404,7 +406,12 @@ def compare(program, name, rows):
 
 
 def main():
-    program = pathlib.Path(sys.argv[1]).resolve() if sys.argv[1:] else PROGRAM
+    asked = argparse.ArgumentParser()
+    asked.add_argument("--mx", default=PROGRAM)
+    program = asked.parse_args().mx
+    if not os.access(program, os.X_OK):
+        print(f"{program} is not built", file=sys.stderr)
+        return 1
     count = wrong = 0
     for name, rows in tables().items():
         rows = without_repeats(rows)

@@ -1,12 +1,13 @@
 #!/usr/bin/env python3
 """Runs scripts through `mx run`, and compares what it writes with their answers, byte for byte.
 
-    tools/scripts.py [PROGRAM]      the program is crates/mx_cli/out/mx_cli, if no other is named
+    tools/scripts.py [--mx PATH]      through the program, which is crates/mx_cli/out/mx_cli as `rt ci` builds it, or another one
 
 The scripts are the examples of docs/USER-GUIDE.md, the files of examples/ and of tests/scripts/, and those that are made here: they
 come to a limit, end by a fault outside, or are long. In a page a script is a block marked `mx`, with the block marked `answer` behind
 it. The answer to NAME.txt stands in NAME.answer. No answer is taken from the program: they are worked by hand from the rules.
 """
+import argparse
 import os
 import pathlib
 import re
@@ -203,7 +204,12 @@ def first_difference(written, answer):
 
 
 def main():
-    program = pathlib.Path(sys.argv[1]).resolve() if sys.argv[1:] else PROGRAM
+    asked = argparse.ArgumentParser()
+    asked.add_argument("--mx", default=PROGRAM)
+    program = asked.parse_args().mx
+    if not os.access(program, os.X_OK):
+        print(f"{program} is not built", file=sys.stderr)
+        return 1
     groups = {
         "the guide": of_page(TOP / "docs" / "USER-GUIDE.md"),
         "examples": of_files(TOP / "examples"),
