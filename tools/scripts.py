@@ -12,11 +12,11 @@ import os
 import pathlib
 import re
 import resource
+import socket
 import string
 import subprocess
 import sys
 import tempfile
-import tty
 
 TOP = pathlib.Path(__file__).resolve().parent.parent
 PROGRAM = TOP / "crates" / "mx_cli" / "out" / "mx_cli"
@@ -139,16 +139,14 @@ def on_bytes(*words, script=FIB):
 
 
 def cut_off(script):
-    """A run whose first read gives the script, and whose next one fails: the other side of a terminal is closed."""
+    """A run whose first read gives the script, and whose next one fails: the other side went away with a byte unread."""
     def ended(program):
-        here, there = os.openpty()
-        tty.setraw(there)
-        os.write(there, script)
-        os.close(there)
-        try:
+        here, there = socket.socketpair()
+        with here:
+            with there:
+                there.sendall(script)
+                here.sendall(b"?")
             return run(program, "run", stdin=here, stdout=subprocess.PIPE)
-        finally:
-            os.close(here)
     return ended
 
 
