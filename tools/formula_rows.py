@@ -1,5 +1,5 @@
 #!/usr/bin/env python3
-"""Formulas, and what Python gives for them, for the rows that tools/engine_rows.py writes.
+"""Formulas, and what Python gives for them, for the rows that tools/rows.py runs.
 
 Nothing here stands on the engine: each formula is run by Python itself, as the same text, with its values kept by
 name and arguments, so that the number of runs is told too. Formulas have whole numbers, flags, texts and tuples alone,

@@ -1,5 +1,5 @@
-"""Whole models, and what Python gives for them, for the rows that tools/engine_rows.py writes: the two sample products, and
-generated models of many spaces.
+"""Whole models, and what Python gives for them, for rows: the two sample products, which
+read tables (tools/engine_rows.py), and generated models of many spaces (tools/rows.py).
 
 Nothing here stands on the engine. A formula is read by Python's own parser, its operators are those of
 tools/operator_vectors.py, and each value is kept by its address, name and arguments, so that the number of runs is told too.
@@ -215,18 +215,24 @@ def generated(count, seed):
     return rows
 
 
-def groups():
-    """The name of each group, and its rows."""
+def products():
+    """The name of each group of rows that read tables, and its rows."""
     return [
         ("the term product gives what Python gives", product("term_s", "Term", [(40, 10, 200000, 1), (35, 2, 50000, 1)])),
         ("the savings product gives what Python gives", product("savings_s", "Savings", [(50, 3, 300000, 280000, 1)])),
+    ]
+
+
+def groups():
+    """The name of each group of rows of scripts, and its rows."""
+    return [
         ("a generated model of one space gives what Python gives", generated(1, 0)),
         ("a generated model of two hundred spaces gives what Python gives", generated(200, 7)),
     ]
 
 
 if __name__ == "__main__":
-    for name, rows in groups():
+    for name, rows in products() + groups():
         print("#", name)
         for row in rows[-30:]:
             print(*row, sep=" | ")

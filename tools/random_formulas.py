@@ -1,4 +1,4 @@
-"""Random formulas of one space, and what tools/reference.py gives for them, for the rows that tools/engine_rows.py writes.
+"""Random formulas of one space, and what tools/reference.py gives for them, for the rows that tools/rows.py runs.
 
 Each has every kind of value, operator, builtin and statement to draw from, with parentheses only where they are needed, and is run on
 two arguments. So the rows show precedence, the order in which parts are computed, each fault and its line.

@@ -1,4 +1,4 @@
-"""Random scripts, and what tools/reference.py gives for them, for the rows that tools/engine_rows.py writes.
+"""Random scripts, and what tools/reference.py gives for them, for the rows that tools/rows.py runs.
 
 A script makes a small model whose names meet often (a child, cells and a reference of one name, parameters over references) and then
 edits, evaluates and clears it in turn. Every call of a formula counts down or has arguments from a few, so that each evaluation ends.
@@ -6,14 +6,12 @@ A script that the reference would run too deep for Python is left out.
 
     tools/random_rows.py [SCRIPTS [SEED]]      runs so many others through `mx run`, the built program, and compares
 """
-import pathlib
 import random
-import subprocess
 import sys
 
+from row_runner import difference
 from reference import Cells, CellsAt, Engine, Formula, Item, NoOrder, Node, Record, Refused, Space, Target, key, literal, text
 
-PROGRAM = pathlib.Path(__file__).resolve().parent.parent / "crates" / "mx_cli" / "out" / "mx_cli"
 TOPS, CHILDREN, PARAMETERS = ("A", "B", "C", "D"), ("x", "y", "A", "f"), ("n", "m")
 CELLS, REFERENCES = ("f", "g", "h", "x", "p"), ("p", "q", "r", "f", "x")
 LITERALS = ("0", "1", "2", "3", "-1", "True", "None", '"s"', "1.0", "1.5", "(1, 2)", "()")
@@ -454,24 +452,12 @@ def groups():
     return [(f"a random script, the {number}th", rows) for number, rows in enumerate(scripts(24, 90, 2026), 1)]
 
 
-def differs(rows):
-    """The first row that the program answers otherwise, with its answer. None where it answers all alike."""
-    script = "".join(f"{command}\n" for command, _ in rows)
-    told = subprocess.run([PROGRAM, "run"], input=script, capture_output=True, text=True, check=True).stdout.splitlines()
-    for command, wanted in rows:
-        lines = ["ok" if line.startswith("ok ") else line for line in wanted.split("; ")]
-        if told[:len(lines)] != lines:
-            return f"{script}\n{command}\nwanted: {wanted}\ntold:   {told[:len(lines)]}"
-        told = told[len(lines):]
-    return None
-
-
 def main():
     """Runs other scripts through the program."""
     count, seed = (int(word) for word in (sys.argv[1:] + ["100", "1"][len(sys.argv) - 1:])[:2])
     made = scripts(count, 120, seed)
     for rows in made:
-        why = differs(rows)
+        why = difference(rows)
         if why is not None:
             print(why)
             return 1

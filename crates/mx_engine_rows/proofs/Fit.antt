@@ -17,8 +17,8 @@ use Rattle.mx_engine_rows.specs.Rows.{IsFitCommand}
 -- a command that a text says
 pub fit_command : EditsAreRead → CommandsAreProper → (text : List ℕ) (k : Command) → ReadsAs every_word text (Ok k) → IsFitCommand k
 fit_command read proper text (command.Edit e) h = record { read = read every_word text e h; small = proper every_word text (command.Edit e) h }
-fit_command read proper text (command.Eval n) h = proper every_word text (command.Eval n) h
-fit_command read proper text (command.Precedents n) h = proper every_word text (command.Precedents n) h
+fit_command read proper text (command.Eval n) h = tt
+fit_command read proper text (command.Precedents n) h = tt
 fit_command read proper text (command.Succs n) h = tt
 fit_command read proper text (command.Held n) h = tt
 fit_command read proper text (command.Clear scope) h = tt

@@ -1,29 +1,28 @@
 //! What rows are carried out on.
-ghost use Rattle.mx_engine_rows.specs.Rows.{IsFit, IsFitCommand};
+ghost use Rattle.std.specs.Prelude.{IfOk};
+ghost use Rattle.mx_proper.specs.Texts.{IsSmallText};
+ghost use Rattle.mx_engine_rows.specs.Rows.{IsFitEdit};
 
-use crate::apart::Apart;
-use crate::changes::{change, change_apart, clear, replace, set_limit};
-use crate::evaluations::{evaluate, precedents, ticks};
-use crate::reading::{Deed, NoRow, read_row};
-use crate::telling::{bound, held, key, only, order, spaces, successors};
+use crate::reading::{NoRow, edit, first_word, node};
+use crate::table::table;
+use mx_edit::edit::Edit;
 use mx_engine::engine::Engine;
+use mx_prepare::prepare::{commit, prepare};
 use mx_print::append::push;
-use mx_script::Command;
-use mx_text::form::push_form_refusal;
+use mx_print::value::push_node;
+use mx_text::blocks::{push_accepted, push_refused_edit};
 use mx_turns::steps::Steps;
+use mx_value::node::Node;
+use mx_world::world::World;
 use std::alloc::{AllocError, Global};
 use std::sync::ledger::Ledger;
 
-/// The limit of a new engine.
-const FIRST_LIMIT: u32 = 5_000;
-
-/// An engine with its limit, and a world that stands apart from it.
+/// An engine, and the block that answers the row at hand.
 #[derive(Drop)]
 pub struct Bench {
     pub alloc: Global,
     pub engine: Engine,
-    pub limit: u32,
-    pub apart: Apart,
+    pub block: Vec<u8>,
 }
 
 impl Bench {
@@ -31,66 +30,98 @@ impl Bench {
         Ok(Bench {
             alloc,
             engine: Engine::new(alloc)?,
-            limit: FIRST_LIMIT,
-            apart: Apart::new(alloc)?,
+            block: Vec::new(alloc),
         })
     }
 }
 
-/// Does what a row says, and adds the answer.
+/// Does what a row says, and puts its block in the place of the last.
 pub fn carry_out<L: Ledger>(
     bench: &mut Bench,
     row: &[u8],
     steps: &mut Steps<L>,
-    out: &mut Vec<u8>,
 ) -> Result<(), AllocError> {
-    match read_row(bench.alloc, row) {
-        Ok(deed) => act(bench, deed, steps, out),
-        Err(NoRow::Form(refusal)) => {
-            push_form_refusal(out, refusal)?;
-            push(out, b"\n")
-        }
-        Err(NoRow::Part) => push(out, b"no row\n"),
+    let (word, rest) = first_word(row);
+    bench.block.clear();
+    if word == b"table".as_slice() {
+        return told(set(bench, rest), &mut bench.block);
+    }
+    if word == b"bound".as_slice() {
+        return told(bound(bench, rest), &mut bench.block);
+    }
+    if word == b"replace".as_slice() {
+        return told(replace(bench, rest), &mut bench.block);
+    }
+    mx_commands::answer(
+        bench.alloc,
+        &mut bench.engine,
+        &mut bench.block,
+        1,
+        row,
+        steps,
+    )
+}
+
+/// Tells of a row that says nothing.
+fn told(outcome: Result<(), NoRow>, block: &mut Vec<u8>) -> Result<(), AllocError> {
+    match outcome {
+        Ok(()) => Ok(()),
+        Err(NoRow::Part) => push(block, b"no row\n"),
         Err(NoRow::NoMemory) => Err(AllocError),
     }
 }
 
-fn act<L: Ledger>(
-    bench: &mut Bench,
-    deed: Deed,
-    steps: &mut Steps<L>,
-    out: &mut Vec<u8>,
-) -> Result<(), AllocError>
-    requires { IsFit deed }
+/// `table NAME ..`: sets a table.
+fn set(bench: &mut Bench, text: &[u8]) -> Result<(), NoRow> {
+    let edit = table(bench.alloc, text)?;
+    Ok(change(&mut bench.engine, &edit, &mut bench.block)?)
+}
+
+/// Makes an edit.
+fn change(engine: &mut Engine, edit: &Edit, block: &mut Vec<u8>) -> Result<(), AllocError>
+    requires { IsFitEdit edit.now }
 {
-    match deed {
-        Deed::Command(command) => obey(bench, command, steps, out),
-        Deed::Ticks(node) => ticks(bench, &node, steps, out),
-        Deed::Bound(node) => bound(&bench.engine, &node, out),
-        Deed::Only(nodes) => only(&bench.engine, &nodes, out),
-        Deed::Apart(edit) => change_apart(bench.alloc, &mut bench.apart, &edit, out),
-        Deed::Replace => replace(bench, out),
-        Deed::Spaces => spaces(&bench.engine, out),
-        Deed::Key(of) => key(bench.alloc, &bench.engine, &of, out),
+    match engine.edit(edit) {
+        Ok(_) => push_accepted(block),
+        Err(refusal) => push_refused_edit(block, &refusal),
     }
 }
 
-fn obey<L: Ledger>(
-    bench: &mut Bench,
-    command: Command,
-    steps: &mut Steps<L>,
-    out: &mut Vec<u8>,
-) -> Result<(), AllocError>
-    requires { IsFitCommand command }
+/// `bound NODE`: tells the bound form of a node.
+fn bound(bench: &mut Bench, text: &[u8]) -> Result<(), NoRow> {
+    let node = node(bench.alloc, text)?;
+    let form = bench.engine.bound(&node)?;
+    Ok(push_form(&form, &mut bench.block)?)
+}
+
+fn push_form(form: &Option<Node>, block: &mut Vec<u8>) -> Result<(), AllocError> {
+    match form {
+        Some(form) => push_node(block, form)?,
+        None => push(block, b"none")?,
+    }
+    push(block, b"\n")
+}
+
+/// `replace EDIT`: puts another world in, the new model with one edit made.
+fn replace(bench: &mut Bench, text: &[u8]) -> Result<(), NoRow> {
+    let edit = edit(bench.alloc, text)?;
+    let world = edited(bench.alloc, &edit)?;
+    bench.engine.replace(world);
+    Ok(push_accepted(&mut bench.block)?)
+}
+
+/// The new model with one edit made.
+fn edited(alloc: Global, edit: &Edit) -> Result<World, NoRow>
+    requires { IsFitEdit edit.now }
+    ensures { IfOk result IsSmallText }
 {
-    match command {
-        Command::Edit(edit) => change(&mut bench.engine, &edit, out),
-        Command::Eval(node) => evaluate(&mut bench.engine, &node, steps, out),
-        Command::Precedents(node) => precedents(bench, &node, steps, out),
-        Command::Succs(node) => successors(&bench.engine, &node, out),
-        Command::Held(node) => held(&bench.engine, &node, out),
-        Command::Clear(scope) => clear(&mut bench.engine, &scope, out),
-        Command::Limit(limit) => set_limit(bench, limit, out),
-        Command::Order(path) => order(&bench.engine, &path, out),
+    mx_proper::laws::laws();
+    let mut world = World::new(alloc)?;
+    match prepare(alloc, &world, edit) {
+        Ok(prepared) => {
+            commit(prepared, &mut world);
+            Ok(world)
+        }
+        Err(_) => Err(NoRow::Part),
     }
 }
