@@ -2,20 +2,19 @@
 """How long edits take, with their commands read and answered: `mx run` over generated scripts.
 
     tools/model_bench.py            after `tools/build` has built the program
-    tools/model_bench.py --edges    the two limits that take too long for the gate: 4,000 spaces and 1,000,000 inputs, by the
-                                    program of mx_model_rows, after `rt run` in its folder
+    tools/model_bench.py --edges    the two limits that take too long for the gate: 4,000 spaces and 1,000,000 inputs
 
 Each line gives the seconds of a workload's edits: the time of its script less that of the part that only sets it up. The best of
 three runs counts. An edge is right where exactly the last edit is refused, for its limit.
 """
 import os
+import string
 import subprocess
 import sys
 import time
 
 HERE = os.path.dirname(os.path.abspath(__file__))
 PROGRAM = os.path.join(HERE, "..", "crates", "mx_cli", "out", "mx_cli")
-ROWS = os.path.join(HERE, "..", "crates", "mx_model_rows", "out", "mx_model_rows")
 
 
 def seconds(lines):
@@ -33,7 +32,7 @@ def seconds(lines):
 
 def edge(name, lines):
     """Whether all edits but the last are accepted, and the last is refused."""
-    out = subprocess.run([ROWS], input="\n".join(lines) + "\n", capture_output=True, text=True, check=True).stdout
+    out = subprocess.run([PROGRAM, "run"], input="\n".join(lines) + "\n", capture_output=True, text=True, check=True).stdout
     answers = out.splitlines()
     is_right = answers.count("ok") == len(lines) - 1 and answers[-1] == f"refused: TooMany {name}"
     print(f"{name}: {'right' if is_right else 'WRONG'} ({len(lines) - 1:,} accepted, then: {answers[-1]})", flush=True)
@@ -42,8 +41,11 @@ def edge(name, lines):
 
 def edges():
     spaces = [f"space s{i}" for i in range(4000)]
-    inputs = ["cells c(t) = t"] + [f"input c({n}) = 1" for n in range(1_000_001)]
-    return [edge("Spaces", spaces), edge("Inputs", inputs)]
+    # short names and numbers, since a script has 16 MiB at most
+    names = string.ascii_letters
+    cells = [f"cells {name}(t) = t" for name in names]
+    inputs = [f"input {names[n % len(names)]}({n // len(names)})=1" for n in range(1_000_001)]
+    return [edge("Spaces", spaces), edge("Inputs", cells + inputs)]
 
 
 def main():
