@@ -194,6 +194,10 @@ choice_of test value = (test, value)
 abbrev pub with_choice : Armed → Expr × Expr → Armed
 with_choice s choice = record { arms = s.arms ++ roll-Arm (record { value = s.last; test = choice.0 }) ∷ []; last = choice.1 }
 
+-- what stands behind a word
+abbrev pub behind : Symbol → Parser Expr → Parser Expr
+behind word part = expect word >> part
+
 unfoldable pub choice : Parser Expr → Parser (Expr × Expr)
 choice part = expect symbol.If >> (part >>= λ test. expect symbol.Else >> (part >>= λ value. pure (choice_of test value)))
 

@@ -15,8 +15,8 @@ pub fn product(alloc: Global, first: Expr, rest: Items<ProductPart>) -> Result<E
     if rest.is_empty() {
         return Ok(first);
     }
-    let rest = List::from_vec(alloc, rest.into_vec())?;
     let first = Shared::new(alloc, first)?;
+    let rest = List::from_vec(alloc, rest.into_vec())?;
     Ok(Expr::Product { first, rest })
 }
 
@@ -26,8 +26,8 @@ pub fn sum(alloc: Global, first: Expr, rest: Items<SumPart>) -> Result<Expr, All
     if rest.is_empty() {
         return Ok(first);
     }
-    let rest = List::from_vec(alloc, rest.into_vec())?;
     let first = Shared::new(alloc, first)?;
+    let rest = List::from_vec(alloc, rest.into_vec())?;
     Ok(Expr::Sum { first, rest })
 }
 
@@ -37,8 +37,8 @@ pub fn compare(alloc: Global, first: Expr, rest: Items<Comparison>) -> Result<Ex
     if rest.is_empty() {
         return Ok(first);
     }
-    let rest = List::from_vec(alloc, rest.into_vec())?;
     let first = Shared::new(alloc, first)?;
+    let rest = List::from_vec(alloc, rest.into_vec())?;
     Ok(Expr::Compare { first, rest })
 }
 
@@ -86,7 +86,7 @@ pub fn conditional(alloc: Global, arms: Items<Arm>, last: Expr) -> Result<Expr, 
     if arms.is_empty() {
         return Ok(last);
     }
-    let arms = List::from_vec(alloc, arms.into_vec())?;
     let last = Shared::new(alloc, last)?;
+    let arms = List::from_vec(alloc, arms.into_vec())?;
     Ok(Expr::Cond { arms, last })
 }

@@ -16,16 +16,23 @@ use mx_syntax::expr::{Arm, Expr};
 use std::alloc::Global;
 
 impl<F: Fn(Global, &mut Cursor<'_>, usize) -> Result<Expr, Trouble>> Operands<F> {
+    /// What stands behind a word.
+    fn behind(&self, tokens: &mut Cursor<'_>, word: Symbol) -> Result<Expr, Trouble>
+        requires { Nests ors self.now.levels (F.pre self.now.or) (F.post self.now.or) }
+        ensures { Reads (spec.behind word (ors self.now.levels) tokens.old) result tokens.new }
+    {
+        tokens.expect(word)?;
+        self.inner(tokens)
+    }
+
     /// A test, and the value behind it.
     #[tactic(auto, unfolding(crate::specs::ChainParsers::choice))]
     fn choice(&self, tokens: &mut Cursor<'_>) -> Result<(Expr, Expr), Trouble>
         requires { Nests ors self.now.levels (F.pre self.now.or) (F.post self.now.or) }
         ensures { Reads (spec.choice (ors self.now.levels) tokens.old) result tokens.new }
     {
-        tokens.expect(Symbol::If)?;
-        let test = self.inner(tokens)?;
-        tokens.expect(Symbol::Else)?;
-        let value = self.inner(tokens)?;
+        let test = self.behind(tokens, Symbol::If)?;
+        let value = self.behind(tokens, Symbol::Else)?;
         Ok((test, value))
     }
 

@@ -11,6 +11,7 @@ use mx_grammar::cursor::Cursor;
 use mx_grammar::trouble::Trouble;
 use mx_grammar::word::Symbol;
 use mx_list::items::Items;
+use mx_list::list::List;
 use mx_syntax::expr::{Expr, PowerPart, Sign};
 use std::alloc::Global;
 
@@ -40,6 +41,13 @@ fn signs(alloc: Global, tokens: &mut Cursor<'_>) -> Result<Items<Sign>, Trouble>
         found.push(sign(tokens)?)?;
     }
     Ok(found)
+}
+
+fn sign_list(alloc: Global, tokens: &mut Cursor<'_>) -> Result<List<Sign>, Trouble>
+    ensures { Reads (spec.signs tokens.old) result tokens.new }
+{
+    let signs = signs(alloc, tokens)?;
+    Ok(List::from_vec(alloc, signs.into_vec())?)
 }
 
 #[derive(Clone, Copy)]
@@ -110,9 +118,9 @@ impl<F: Fn(Global, &mut Cursor<'_>, usize) -> Result<Expr, Trouble>> Operands<F>
             (expression self.now.levels) first tokens.old) result tokens.new }
     {
         if tokens.sees(Symbol::Comma) {
-            tokens.expect(Symbol::Comma)?;
             let mut items = Items::new(self.alloc);
             items.push(first)?;
+            tokens.expect(Symbol::Comma)?;
             let items = self.listed(tokens, Symbol::CloseRound, items)?;
             return Ok(tree::tuple(self.alloc, items)?);
         }
@@ -166,9 +174,9 @@ impl<F: Fn(Global, &mut Cursor<'_>, usize) -> Result<Expr, Trouble>> Operands<F>
             (ors self.now.levels) tokens.old) result tokens.new }
     {
         tokens.expect(Symbol::Power)?;
-        let signs = signs(self.alloc, tokens)?;
+        let signs = sign_list(self.alloc, tokens)?;
         let of = self.post(tokens)?;
-        Ok(tree::power_part(self.alloc, signs, of)?)
+        Ok(PowerPart { signs, of })
     }
 
     fn power_parts(&self, tokens: &mut Cursor<'_>) -> Result<Items<PowerPart>, Trouble>

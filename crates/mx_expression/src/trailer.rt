@@ -13,6 +13,7 @@ use mx_grammar::cursor::Cursor;
 use mx_grammar::trouble::Trouble;
 use mx_grammar::word::Symbol;
 use mx_list::items::Items;
+use mx_list::shared::Shared;
 use mx_syntax::expr::{Args, Expr, Trailer};
 use std::alloc::Global;
 
@@ -23,14 +24,22 @@ fn sees_trailer(tokens: &Cursor<'_>) -> bool
 }
 
 impl<F: Fn(Global, &mut Cursor<'_>, usize) -> Result<Expr, Trouble>> Operands<F> {
+    fn shared_inner(&self, tokens: &mut Cursor<'_>) -> Result<Shared<Expr>, Trouble>
+        requires { Nests ors self.now.levels (F.pre self.now.or) (F.post self.now.or) }
+        ensures { Reads (ors self.now.levels tokens.old) result tokens.new }
+    {
+        let inner = self.inner(tokens)?;
+        Ok(Shared::new(self.alloc, inner)?)
+    }
+
     #[tactic(auto, unfolding(crate::specs::OperandParsers::test_of))]
-    fn test(&self, tokens: &mut Cursor<'_>) -> Result<Option<Expr>, Trouble>
+    fn test(&self, tokens: &mut Cursor<'_>) -> Result<Option<Shared<Expr>>, Trouble>
         requires { Nests ors self.now.levels (F.pre self.now.or) (F.post self.now.or) }
         ensures { Reads (spec.test_of (ors self.now.levels) tokens.old) result tokens.new }
     {
         if tokens.sees(Symbol::If) {
             tokens.expect(Symbol::If)?;
-            return Ok(Some(self.inner(tokens)?));
+            return Ok(Some(self.shared_inner(tokens)?));
         }
         Ok(None)
     }
@@ -44,7 +53,7 @@ impl<F: Fn(Global, &mut Cursor<'_>, usize) -> Result<Expr, Trouble>> Operands<F>
         tokens.expect(Symbol::For)?;
         let name = tokens.name()?;
         tokens.expect(Symbol::In)?;
-        let over = self.inner(tokens)?;
+        let over = self.shared_inner(tokens)?;
         let test = self.test(tokens)?;
         Ok(Source { name, over, test })
     }
@@ -56,8 +65,14 @@ impl<F: Fn(Global, &mut Cursor<'_>, usize) -> Result<Expr, Trouble>> Operands<F>
         ensures { Reads (spec.generator
             (ors self.now.levels) element tokens.old) result tokens.new }
     {
-        let source = self.source(tokens)?;
-        Ok(tree::generator(self.alloc, element, source)?)
+        let element = Shared::new(self.alloc, element)?;
+        let Source { name, over, test } = self.source(tokens)?;
+        Ok(Args::Gen {
+            element,
+            name,
+            over,
+            test,
+        })
     }
 
     /// The arguments of a call behind the first expression.

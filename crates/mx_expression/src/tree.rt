@@ -19,8 +19,8 @@ pub fn post(alloc: Global, of: Expr, trailers: Items<Trailer>) -> Result<Expr, A
     if trailers.is_empty() {
         return Ok(of);
     }
-    let trailers = List::from_vec(alloc, trailers.into_vec())?;
     let of = Shared::new(alloc, of)?;
+    let trailers = List::from_vec(alloc, trailers.into_vec())?;
     Ok(Expr::Post { of, trailers })
 }
 
@@ -30,8 +30,8 @@ pub fn power(alloc: Global, first: Expr, rest: Items<PowerPart>) -> Result<Expr,
     if rest.is_empty() {
         return Ok(first);
     }
-    let rest = List::from_vec(alloc, rest.into_vec())?;
     let first = Shared::new(alloc, first)?;
+    let rest = List::from_vec(alloc, rest.into_vec())?;
     Ok(Expr::Power { first, rest })
 }
 
@@ -41,16 +41,9 @@ pub fn signed(alloc: Global, signs: Items<Sign>, of: Expr) -> Result<Expr, Alloc
     if signs.is_empty() {
         return Ok(of);
     }
-    let signs = List::from_vec(alloc, signs.into_vec())?;
     let of = Shared::new(alloc, of)?;
-    Ok(Expr::Signed { signs, of })
-}
-
-pub fn power_part(alloc: Global, signs: Items<Sign>, of: Expr) -> Result<PowerPart, AllocError>
-    ensures { IfOk result (λ x. x ≡ spec.power_part_of signs of) }
-{
     let signs = List::from_vec(alloc, signs.into_vec())?;
-    Ok(PowerPart { signs, of })
+    Ok(Expr::Signed { signs, of })
 }
 
 pub fn tuple(alloc: Global, items: Items<Expr>) -> Result<Expr, AllocError>
@@ -75,30 +68,6 @@ pub fn index(alloc: Global, items: Items<Expr>) -> Result<Trailer, AllocError>
 #[derive(Drop)]
 pub struct Source {
     pub name: Label,
-    pub over: Expr,
-    pub test: Option<Expr>,
-}
-
-fn shared(alloc: Global, test: Option<Expr>) -> Result<Option<Shared<Expr>>, AllocError>
-    ensures { IfOk result (λ x. x ≡ test) }
-{
-    match test {
-        Some(test) => Ok(Some(Shared::new(alloc, test)?)),
-        None => Ok(None),
-    }
-}
-
-pub fn generator(alloc: Global, element: Expr, source: Source) -> Result<Args, AllocError>
-    ensures { IfOk result (λ x. x ≡ spec.generator_of element source) }
-{
-    let Source { name, over, test } = source;
-    let element = Shared::new(alloc, element)?;
-    let over = Shared::new(alloc, over)?;
-    let test = shared(alloc, test)?;
-    Ok(Args::Gen {
-        element,
-        name,
-        over,
-        test,
-    })
+    pub over: Shared<Expr>,
+    pub test: Option<Shared<Expr>>,
 }
