@@ -1,6 +1,6 @@
 -- What the code of operands computes. `inside` parses an expression inside brackets, and `inner` an `or` there. Where nothing can stand
 -- inside brackets any more, none opens that something has to stand in.
-use Rattle.std.specs.Prelude.{ℕ, zero, suc, Bool, ◌||◌, List, [], ◌∷◌, Option, None, Some}
+use Rattle.std.specs.Prelude.{ℕ, zero, suc, Bool, ◌||◌, List, [], ◌∷◌, Option, None, Some, Result, Ok, Err}
 use Rattle.mx_syntax.specs.declared.expr.Expr.{Expr}
 use Rattle.mx_syntax.specs.declared.expr.Expr.TheVariants as expr
 use Rattle.mx_syntax.specs.declared.expr.Args.{Args}
@@ -44,6 +44,11 @@ signed_by (s ∷ ss) x = expr.Signed (s ∷ ss) x
 
 abbrev pub power_part_of : List Sign → Expr → PowerPart
 power_part_of ss x = roll-PowerPart (record { signs = ss; of = x })
+
+-- what was read first, with what was read behind it
+abbrev pub followed : {A B E : Type 0} → A → Result B E → Result (A × B) E
+followed a (Ok b) = Ok (a, b)
+followed a (Err e) = Err e
 
 -- ---- atoms
 

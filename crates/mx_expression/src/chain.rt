@@ -8,6 +8,7 @@ ghost use Rattle.mx_expression.specs.ExpressionParsers.{ors, signed, products, s
 
 use crate::chain_tree;
 use crate::operand::Operands;
+use crate::reading::followed;
 use mx_grammar::cursor::Cursor;
 use mx_grammar::trouble::Trouble;
 use mx_grammar::word::Symbol;
@@ -96,7 +97,7 @@ impl<F: Fn(Global, &mut Cursor<'_>, usize) -> Result<Expr, Trouble>> Operands<F>
         ensures { Reads (products self.now.levels tokens.old) result tokens.new }
     {
         let first = self.signed(tokens)?;
-        let rest = self.product_parts(tokens)?;
+        let (first, rest) = followed(first, self.product_parts(tokens))?;
         Ok(chain_tree::product(self.alloc, first, rest)?)
     }
 
@@ -127,7 +128,7 @@ impl<F: Fn(Global, &mut Cursor<'_>, usize) -> Result<Expr, Trouble>> Operands<F>
         ensures { Reads (sums self.now.levels tokens.old) result tokens.new }
     {
         let first = self.product(tokens)?;
-        let rest = self.sum_parts(tokens)?;
+        let (first, rest) = followed(first, self.sum_parts(tokens))?;
         Ok(chain_tree::sum(self.alloc, first, rest)?)
     }
 }

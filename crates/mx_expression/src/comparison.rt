@@ -8,6 +8,7 @@ ghost use Rattle.mx_expression.specs.ExpressionParsers.{ors, sums, compares};
 
 use crate::chain_tree;
 use crate::operand::Operands;
+use crate::reading::followed;
 use mx_grammar::cursor::Cursor;
 use mx_grammar::trouble::Trouble;
 use mx_grammar::word::Symbol;
@@ -128,7 +129,7 @@ impl<F: Fn(Global, &mut Cursor<'_>, usize) -> Result<Expr, Trouble>> Operands<F>
         ensures { Reads (compares self.now.levels tokens.old) result tokens.new }
     {
         let first = self.sum(tokens)?;
-        let rest = self.comparisons(tokens)?;
+        let (first, rest) = followed(first, self.comparisons(tokens))?;
         Ok(chain_tree::compare(self.alloc, first, rest)?)
     }
 }

@@ -8,6 +8,7 @@ ghost use Rattle.mx_expression.specs.ExpressionParsers.{ors, expression};
 
 use crate::chain_tree;
 use crate::operand::Operands;
+use crate::reading::followed;
 use mx_grammar::cursor::Cursor;
 use mx_grammar::trouble::Trouble;
 use mx_grammar::word::Symbol;
@@ -32,8 +33,7 @@ impl<F: Fn(Global, &mut Cursor<'_>, usize) -> Result<Expr, Trouble>> Operands<F>
         ensures { Reads (spec.choice (ors self.now.levels) tokens.old) result tokens.new }
     {
         let test = self.behind(tokens, Symbol::If)?;
-        let value = self.behind(tokens, Symbol::Else)?;
-        Ok((test, value))
+        followed(test, self.behind(tokens, Symbol::Else))
     }
 
     /// An expression inside brackets.

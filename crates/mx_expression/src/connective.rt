@@ -8,6 +8,7 @@ ghost use Rattle.mx_expression.specs.ExpressionParsers.{ors, compares, negations
 
 use crate::chain_tree;
 use crate::operand::Operands;
+use crate::reading::followed;
 use mx_grammar::cursor::Cursor;
 use mx_grammar::trouble::Trouble;
 use mx_grammar::word::Symbol;
@@ -68,7 +69,7 @@ impl<F: Fn(Global, &mut Cursor<'_>, usize) -> Result<Expr, Trouble>> Operands<F>
         ensures { Reads (conjunctions self.now.levels tokens.old) result tokens.new }
     {
         let first = self.negated(tokens)?;
-        let rest = self.and_parts(tokens)?;
+        let (first, rest) = followed(first, self.and_parts(tokens))?;
         Ok(chain_tree::and(self.alloc, first, rest)?)
     }
 
@@ -100,7 +101,7 @@ impl<F: Fn(Global, &mut Cursor<'_>, usize) -> Result<Expr, Trouble>> Operands<F>
         ensures { Reads (disjunctions self.now.levels tokens.old) result tokens.new }
     {
         let first = self.both(tokens)?;
-        let rest = self.or_parts(tokens)?;
+        let (first, rest) = followed(first, self.or_parts(tokens))?;
         Ok(chain_tree::or(self.alloc, first, rest)?)
     }
 }

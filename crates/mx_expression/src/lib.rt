@@ -9,5 +9,6 @@ mod connective;
 pub mod expression;
 pub mod loops;
 mod operand;
+mod reading;
 mod trailer;
 mod tree;

@@ -6,6 +6,7 @@ ghost use Rattle.mx_grammar.specs.Nests.{Nests};
 ghost use Rattle.mx_expression.specs.OperandParsers as spec;
 ghost use Rattle.mx_expression.specs.ExpressionParsers.{ors, expression};
 
+use crate::reading::followed;
 use crate::tree;
 use mx_grammar::cursor::Cursor;
 use mx_grammar::trouble::Trouble;
@@ -124,7 +125,7 @@ impl<F: Fn(Global, &mut Cursor<'_>, usize) -> Result<Expr, Trouble>> Operands<F>
             let items = self.listed(tokens, Symbol::CloseRound, items)?;
             return Ok(tree::tuple(self.alloc, items)?);
         }
-        tokens.expect(Symbol::CloseRound)?;
+        let (first, ()) = followed(first, tokens.expect(Symbol::CloseRound))?;
         Ok(first)
     }
 
@@ -163,7 +164,7 @@ impl<F: Fn(Global, &mut Cursor<'_>, usize) -> Result<Expr, Trouble>> Operands<F>
             (ors self.now.levels) tokens.old) result tokens.new }
     {
         let of = self.atom(tokens)?;
-        let trailers = self.trailers(tokens)?;
+        let (of, trailers) = followed(of, self.trailers(tokens))?;
         Ok(tree::post(self.alloc, of, trailers)?)
     }
 
@@ -198,7 +199,7 @@ impl<F: Fn(Global, &mut Cursor<'_>, usize) -> Result<Expr, Trouble>> Operands<F>
             (ors self.now.levels) tokens.old) result tokens.new }
     {
         let first = self.post(tokens)?;
-        let rest = self.power_parts(tokens)?;
+        let (first, rest) = followed(first, self.power_parts(tokens))?;
         Ok(tree::power(self.alloc, first, rest)?)
     }
 

@@ -7,6 +7,7 @@ ghost use Rattle.mx_expression.specs.OperandParsers as spec;
 ghost use Rattle.mx_expression.specs.ExpressionParsers.{ors, expression};
 
 use crate::operand::Operands;
+use crate::reading::followed;
 use crate::tree;
 use crate::tree::Source;
 use mx_grammar::cursor::Cursor;
@@ -84,7 +85,7 @@ impl<F: Fn(Global, &mut Cursor<'_>, usize) -> Result<Expr, Trouble>> Operands<F>
     {
         if tokens.sees(Symbol::For) {
             let generator = self.generator(tokens, first)?;
-            tokens.expect(Symbol::CloseRound)?;
+            let (generator, ()) = followed(generator, tokens.expect(Symbol::CloseRound))?;
             return Ok(generator);
         }
         let mut items = Items::new(self.alloc);
