@@ -9,6 +9,6 @@ mod connective;
 pub mod expression;
 pub mod loops;
 mod operand;
-mod reading;
+pub mod reading;
 mod trailer;
 mod tree;
