@@ -8,6 +8,7 @@ use crate::block::body;
 use crate::parameter::{parameters, some_parameters};
 use crate::statement::{Inside, display_in, only};
 use mx_expression::expression::expression;
+use mx_expression::reading::followed;
 use mx_grammar::cursor::Cursor;
 use mx_grammar::trouble::Trouble;
 use mx_grammar::word::Symbol;
@@ -30,7 +31,7 @@ fn formula_rest(
     if tokens.sees(Symbol::Assign) {
         tokens.expect(Symbol::Assign)?;
         let value = expression(alloc, tokens, inside.brackets)?;
-        tokens.expect(Symbol::Newline)?;
+        let (value, ()) = followed(value, tokens.expect(Symbol::Newline))?;
         let body = only(alloc, Stmt::Return(Some(value)))?;
         return Ok(Formula { params, body });
     }
@@ -73,7 +74,7 @@ fn given(
         return Ok(Params { params, body });
     }
     let value = expression(alloc, tokens, inside.brackets)?;
-    tokens.expect(Symbol::Newline)?;
+    let (value, ()) = followed(value, tokens.expect(Symbol::Newline))?;
     let body = Some(only(alloc, Stmt::Return(Some(value)))?);
     Ok(Params { params, body })
 }

@@ -24,6 +24,7 @@ use crate::formula::{formula, space_params};
 use crate::loops::{expression_within, list_within, maybe_within};
 use crate::statement::Inside;
 use mx_expression::expression::expression;
+use mx_expression::reading::followed;
 use mx_grammar::cursor::Cursor;
 use mx_grammar::refusal::ParseRefusal;
 use mx_grammar::source::{open, refusal};
@@ -44,8 +45,8 @@ fn literal_of(alloc: Global, words: &[Word]) -> Result<Value, Trouble>
 {
     let mut left = Cursor::new(words);
     let value = literal::literal(alloc, &mut left, words.len() + 1)?;
-    left.expect(Symbol::Newline)?;
-    left.expect(Symbol::End)?;
+    let (value, ()) = followed(value, left.expect(Symbol::Newline))?;
+    let (value, ()) = followed(value, left.expect(Symbol::End))?;
     if left.left() > 0 {
         return Err(Trouble::Unexpected(left.left()));
     }
@@ -74,8 +75,8 @@ fn node_of(alloc: Global, words: &[Word]) -> Result<Node, Trouble>
     let mut left = Cursor::new(words);
     let levels = words.len() + 1;
     let node = address::node(alloc, &mut left, levels + 1)?;
-    left.expect(Symbol::Newline)?;
-    left.expect(Symbol::End)?;
+    let (node, ()) = followed(node, left.expect(Symbol::Newline))?;
+    let (node, ()) = followed(node, left.expect(Symbol::End))?;
     if left.left() > 0 {
         return Err(Trouble::Unexpected(left.left()));
     }
@@ -91,8 +92,8 @@ fn expression_of(alloc: Global, words: &[Word]) -> Result<Expr, Trouble>
 {
     let mut left = Cursor::new(words);
     let expression = expression(alloc, &mut left, words.len() + 1)?;
-    left.expect(Symbol::Newline)?;
-    left.expect(Symbol::End)?;
+    let (expression, ()) = followed(expression, left.expect(Symbol::Newline))?;
+    let (expression, ()) = followed(expression, left.expect(Symbol::End))?;
     if left.left() > 0 {
         return Err(Trouble::Unexpected(left.left()));
     }

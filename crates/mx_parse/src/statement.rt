@@ -8,6 +8,7 @@ ghost use Rattle.mx_parse.specs.Insides.{Nests, expression_in, display_in, block
 
 use crate::display::display;
 use mx_expression::expression::expression;
+use mx_expression::reading::followed;
 use mx_grammar::cursor::Cursor;
 use mx_grammar::trouble::Trouble;
 use mx_grammar::word::Symbol;
@@ -91,7 +92,7 @@ fn returned(alloc: Global, tokens: &mut Cursor<'_>, inside: Inside) -> Result<St
         return Ok(Stmt::ReturnItem(entries));
     }
     let value = expression(alloc, tokens, inside.brackets)?;
-    tokens.expect(Symbol::Newline)?;
+    let (value, ()) = followed(value, tokens.expect(Symbol::Newline))?;
     Ok(Stmt::Return(Some(value)))
 }
 
@@ -108,12 +109,12 @@ fn changed(
     if tokens.sees(Symbol::Assign) {
         tokens.expect(Symbol::Assign)?;
         let value = expression(alloc, tokens, inside.brackets)?;
-        tokens.expect(Symbol::Newline)?;
+        let (value, ()) = followed(value, tokens.expect(Symbol::Newline))?;
         return Ok(Stmt::Assign(name, value));
     }
     let op = change(tokens)?;
     let value = expression(alloc, tokens, inside.brackets)?;
-    tokens.expect(Symbol::Newline)?;
+    let (value, ()) = followed(value, tokens.expect(Symbol::Newline))?;
     Ok(Stmt::Change(name, op, value))
 }
 
@@ -158,8 +159,8 @@ impl<F: Fn(Global, &mut Cursor<'_>, Inside, usize) -> Result<List<Stmt>, Trouble
             (body_in self.now.inside self.now.levels) tokens.old) result tokens.new }
     {
         let test = expression(self.alloc, tokens, self.inside.brackets)?;
-        tokens.expect(Symbol::Colon)?;
-        let body = self.body(tokens)?;
+        let (test, ()) = followed(test, tokens.expect(Symbol::Colon))?;
+        let (test, body) = followed(test, self.body(tokens))?;
         Ok(IfArm { test, body })
     }
 
@@ -232,8 +233,8 @@ impl<F: Fn(Global, &mut Cursor<'_>, Inside, usize) -> Result<List<Stmt>, Trouble
         let name = tokens.name()?;
         tokens.expect(Symbol::In)?;
         let over = expression(self.alloc, tokens, self.inside.brackets)?;
-        tokens.expect(Symbol::Colon)?;
-        let body = self.body(tokens)?;
+        let (over, ()) = followed(over, tokens.expect(Symbol::Colon))?;
+        let (over, body) = followed(over, self.body(tokens))?;
         Ok(Stmt::For { name, over, body })
     }
 
