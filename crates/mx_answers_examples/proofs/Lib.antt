@@ -1,2 +1,3 @@
 pub mod Small
 pub mod Proved
+pub mod FlightsProved

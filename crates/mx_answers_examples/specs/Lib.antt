@@ -1,2 +1,4 @@
 pub mod Small
 pub mod Examples
+pub mod FlightModel
+pub mod Flights

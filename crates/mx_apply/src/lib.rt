@@ -1,4 +1,6 @@
 //! Edits of a model text: why one is refused by what the text holds, and the text that it makes.
+//!
+//! Room: model text.
 #![tactic(auto)]
 
 pub mod bound;

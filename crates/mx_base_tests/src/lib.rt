@@ -1,4 +1,6 @@
 //! Tests of lists, labels, values, formulas and orders: each public call that takes memory, and what was worked outside.
+//!
+//! Room: checks.
 #![tactic(auto)]
 
 #[cfg(test)]

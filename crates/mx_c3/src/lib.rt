@@ -2,6 +2,8 @@
 //!
 //! The definition is the published one (Barrett and others, "A monotonic superclass linearization for Dylan", 1996), which is also
 //! Python's method resolution order.
+//!
+//! Room: model text.
 #![tactic(auto)]
 
 mod counts;

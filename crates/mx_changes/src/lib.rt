@@ -1,4 +1,6 @@
 //! The texts that edits of a model text make.
+//!
+//! Room: model text.
 #![tactic(auto)]
 
 mod defined;

@@ -1,4 +1,6 @@
 //! Clearings: held nodes that are dropped by hand, each with all held nodes that reach it.
+//!
+//! Room: kept values.
 #![tactic(auto)]
 
 mod clearing;

@@ -1,4 +1,6 @@
 //! The program `mx`: reads a script of edits and evaluations, and answers each command.
+//!
+//! Room: engine and scripts.
 #![tactic(auto)]
 
 mod host;

@@ -1,5 +1,5 @@
 //! What instructions do.
-use mx_op::op::Op;
+use mx_syntax::op::Op;
 use mx_value::fault::FaultKind;
 use mx_value::label::Label;
 use mx_value::value::Value;

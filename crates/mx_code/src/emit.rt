@@ -6,8 +6,8 @@ ghost use Rattle.mx_code.specs.Operators as operators;
 ghost use Rattle.mx_code.specs.Expressions.{at, name_code};
 
 use crate::action::{Action, Instr, Local};
-use mx_op::op::Op;
 use mx_syntax::expr::{CmpOp, ProductOp, Sign, SumOp};
+use mx_syntax::op::Op;
 use mx_value::label::Label;
 use std::alloc::{AllocError, Global};
 

@@ -11,10 +11,10 @@ use crate::emit::{
     compare_op, product_op, put, put_block, put_name, sign_op, since, sum_op, way_back, with_name,
 };
 use mx_list::shared::Shared;
-use mx_op::op::Op;
 use mx_syntax::expr::{
     Args, Arm, Comparison, Expr, PowerPart, ProductPart, Sign, SumPart, Trailer,
 };
+use mx_syntax::op::Op;
 use mx_value::fault::FaultKind;
 use mx_value::value::Value;
 use std::alloc::{AllocError, Global};

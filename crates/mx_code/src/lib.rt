@@ -1,5 +1,7 @@
 //! Formulas as flat lists of instructions, for every form of expression and statement: what the code of a formula is, and
 //! the compiler that makes exactly it.
+//!
+//! Room: code.
 #![tactic(auto)]
 
 pub mod action;

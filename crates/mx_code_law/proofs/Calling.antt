@@ -13,7 +13,7 @@ use Rattle.mx_syntax.specs.declared.stmt.Param.{Param}
 use Rattle.mx_syntax.specs.Binding.{is_wrong_count}
 use Rattle.mx_edit.specs.declared.key.KeyResult.{KeyResult}
 use Rattle.mx_edit.specs.declared.key.KeyResult.TheVariants as found
-use Rattle.mx_op.specs.declared.op.Op.TheVariants as op
+use Rattle.mx_syntax.specs.declared.op.Op.TheVariants as op
 use Rattle.mx_ops.specs.Kinds.{Content}
 use Rattle.mx_ops.specs.Names.{op_of}
 use Rattle.mx_ops.specs.Table.{gives}

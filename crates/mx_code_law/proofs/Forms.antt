@@ -7,8 +7,8 @@ use Rattle.mx_value.specs.declared.value.Value.TheVariants.{Nothing, Flag, Tup}
 use Rattle.mx_value.specs.declared.fault.FaultKind.TheVariants.{TypeMismatch}
 use Rattle.mx_syntax.specs.declared.expr.Sign.{Sign}
 use Rattle.mx_syntax.specs.declared.expr.Sign.TheVariants as sign
-use Rattle.mx_op.specs.declared.op.Op.{Op}
-use Rattle.mx_op.specs.declared.op.Op.TheVariants as op
+use Rattle.mx_syntax.specs.declared.op.Op.{Op}
+use Rattle.mx_syntax.specs.declared.op.Op.TheVariants as op
 use Rattle.mx_ops.specs.Truth.{truth}
 use Rattle.mx_ops.specs.Answers.{Answer, made}
 use Rattle.mx_ops.specs.Table.{gives}

@@ -20,7 +20,7 @@ use Rattle.mx_syntax.specs.declared.expr.ProductOp.TheVariants as products
 use Rattle.mx_syntax.specs.declared.expr.Args.TheOpen.{Args-F, Comparison-F, Expr-F, Trailer-F, Arm-F, PowerPart-F, ProductPart-F, SumPart-F}
 use Rattle.mx_syntax.specs.declared.expr.Args.TheViews.{roll-Args, roll-Comparison, roll-Expr, roll-Trailer, roll-Arm, roll-PowerPart, roll-ProductPart, roll-SumPart}
 use Rattle.mx_syntax.specs.declared.expr.Args.TheFolds.{map-Args, map-Comparison, map-Expr, map-Trailer, ind-Expr}
-use Rattle.mx_op.specs.declared.op.Op.{Op}
+use Rattle.mx_syntax.specs.declared.op.Op.{Op}
 use Rattle.mx_meaning.specs.Environments.{Reading, computed}
 use Rattle.mx_meaning.specs.Lookup.{valued}
 use Rattle.mx_meaning.specs.Lookup as lookup

@@ -1,4 +1,6 @@
 //! What instructions do, and the law that the instructions of a formula do what it means.
+//!
+//! Room: code.
 #![tactic(auto)]
 
 pub mod laws;

@@ -10,7 +10,7 @@ use Rattle.mx_words.specs.declared.command.Command.{Command}
 use Rattle.mx_words.specs.declared.command.Command.TheVariants as command
 use Rattle.mx_words.specs.Words.{every_word}
 use Rattle.mx_script.specs.Commands.{ReadsAs}
-use Rattle.mx_read_edits.specs.Laws.{EditsAreRead}
+use Rattle.mx_command_laws.specs.Edits.{EditsAreRead}
 use Rattle.mx_commands.specs.Step.{IsReadCommand}
 
 -- a refusal that is no want of memory is what the edit comes to

@@ -1,7 +1,7 @@
 //! Edits.
 ghost use Rattle.std.specs.Prelude.{◌≡◌, [], OnOk};
 ghost use Rattle.mx_model.specs.Literals.{IsRead};
-ghost use Rattle.mx_proper.specs.Texts.{IsSmallEdit};
+ghost use Rattle.mx_limit_laws.specs.Texts.{IsSmallEdit};
 ghost use Rattle.mx_commands.specs.Step.{Changes};
 
 use mx_edit::edit::Edit;

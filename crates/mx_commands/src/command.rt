@@ -1,6 +1,6 @@
 //! The answer to one command.
 ghost use Rattle.std.specs.Prelude.{◌≡◌, [], OnOk};
-ghost use Rattle.mx_proper_commands.specs.Laws.{IsProperCommand};
+ghost use Rattle.mx_command_laws.specs.Commands.{IsProperCommand};
 ghost use Rattle.mx_commands.specs.Step.{Step, command_at, CarriesOut, IsReadCommand};
 
 use crate::changes::edit;
@@ -8,9 +8,9 @@ use crate::evaluations::{evaluate, precedents};
 use crate::held::{clear, held, successors};
 use crate::settings::{limit, order};
 use mx_engine::engine::Engine;
+use mx_frames::steps::Steps;
 use mx_script::{Command, read_command};
 use mx_text::form::push_form_block;
-use mx_turns::steps::Steps;
 use mx_words::table::WORDS;
 use std::alloc::{AllocError, Global};
 use std::sync::ledger::Ledger;
@@ -28,8 +28,8 @@ pub fn answer<L: Ledger>(
     ensures { let command = command_at number text.now in
         OnOk result (Step engine.old command block.new.items engine.new) }
 {
-    mx_read_edits::laws::laws();
-    mx_proper_commands::laws::laws();
+    mx_command_laws::edits::laws();
+    mx_command_laws::commands::laws();
     block.clear();
     match read_command(alloc, &WORDS, text) {
         Ok(command) => {

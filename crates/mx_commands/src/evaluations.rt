@@ -4,8 +4,8 @@ ghost use Rattle.mx_state.specs.Proper.{IsProper};
 ghost use Rattle.mx_commands.specs.Step.{TellsValue, TellsPrecedents};
 
 use mx_engine::engine::Engine;
+use mx_frames::steps::Steps;
 use mx_text::blocks::{push_reads_block, push_refusal_block, push_value_block};
-use mx_turns::steps::Steps;
 use mx_value::node::Node;
 use std::alloc::{AllocError, Global};
 use std::sync::ledger::Ledger;

@@ -1,4 +1,6 @@
 //! The commands of a script: what each does with an engine, and the block that answers it.
+//!
+//! Room: engine and scripts.
 #![tactic(auto)]
 
 mod changes;

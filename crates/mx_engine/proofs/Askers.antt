@@ -27,8 +27,8 @@ use Rattle.mx_model.specs.Inputs.{name_in, joined, path_of, fits}
 use Rattle.mx_model.specs.Keys.{node_eq, input_of, value_of, key_result}
 use Rattle.mx_model.specs.Valid.{Valid}
 use Rattle.mx_meaning.specs.Namespaces.{Step}
-use Rattle.mx_entries.specs.Entries.{entries_of, IsOrdered}
-use Rattle.mx_entries.specs.Laws.{HeldOnce, AskersAreEntered, ReadersAreEntered, NewIsNotEntered}
+use Rattle.mx_memo_laws.specs.Entries.{entries_of, IsOrdered}
+use Rattle.mx_memo_laws.specs.Laws.{HeldOnce, AskersAreEntered, ReadersAreEntered, NewIsNotEntered}
 use Rattle.mx_state.specs.Model.{model_of}
 use Rattle.mx_engine.specs.Successors.{IsRecordedAs, AreAskers}
 

@@ -3,12 +3,12 @@ use Rattle.std.proofs.Common.{◌≡◌, ℕ, zero, suc, ◌+◌, ◌<◌, ◌�
 use Rattle.mx_vertices.specs.Kept.{Kept, asked}
 use Rattle.mx_vertices.specs.Kept as kept
 use Rattle.mx_vertices.specs.Places.{Has}
-use Rattle.mx_drops.specs.Stamps.{renumbered}
+use Rattle.mx_invalidation.specs.Stamps.{renumbered}
 use Rattle.mx_memo.specs.Memos.{Memory}
 use Rattle.mx_memo.specs.Restoring.{AreApart, AskBefore}
 use Rattle.mx_memo.specs.Order.{StampsRise}
-use Rattle.mx_entries.specs.Entries.{entries_of, IsOrdered}
-use Rattle.mx_entries.specs.Laws.{HasGrown, RollingBack, Renumbering}
+use Rattle.mx_memo_laws.specs.Entries.{entries_of, IsOrdered}
+use Rattle.mx_memo_laws.specs.Laws.{HasGrown, RollingBack, Renumbering}
 
 -- ---- the first of what is held
 

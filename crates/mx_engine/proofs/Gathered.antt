@@ -11,7 +11,7 @@ use Rattle.mx_vertices.specs.Places as places
 use Rattle.mx_vertices.specs.Reading.{id_at}
 use Rattle.mx_runs.specs.Lists.{Has, Distinct}
 use Rattle.mx_runs.proofs.Lists.{has_left, has_push, has_push_cases, distinct_push}
-use Rattle.mx_entries.specs.Entries.{node_under, nodes_under}
+use Rattle.mx_memo_laws.specs.Entries.{node_under, nodes_under}
 use Rattle.mx_engine.specs.Gathering.{gathered_on}
 
 -- ---- whether a node was seen

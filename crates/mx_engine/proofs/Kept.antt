@@ -16,8 +16,8 @@ use Rattle.mx_model.specs.Records.{ModelRecord, beginning}
 use Rattle.mx_model.specs.Keys.{is_changed}
 use Rattle.mx_model.specs.Apply.{Apply}
 use Rattle.mx_model.specs.Valid.{Valid}
-use Rattle.mx_entries.specs.Entries.{entries_of, IsOrdered, IsKept}
-use Rattle.mx_entries.specs.Laws as entries
+use Rattle.mx_memo_laws.specs.Entries.{entries_of, IsOrdered, IsKept}
+use Rattle.mx_memo_laws.specs.Laws as entries
 use Rattle.mx_machine.specs.States.{state_of}
 use Rattle.mx_state.specs.Model.{model_of}
 use Rattle.mx_state.specs.State.{State, IsRightState}

@@ -11,15 +11,15 @@ use Rattle.mx_model.specs.Records.{ModelRecord, beginning}
 use Rattle.mx_model.specs.Valid.{Valid}
 use Rattle.mx_vertices.specs.Kept.{Kept}
 use Rattle.mx_memo.specs.Memos.{Memory, nothing_held}
-use Rattle.mx_entries.specs.Entries.{entries_of}
+use Rattle.mx_memo_laws.specs.Entries.{entries_of}
 use Rattle.mx_machine.specs.States.{state_of}
 use Rattle.mx_state.specs.Proper.{IsProper}
 use Rattle.mx_state.specs.State.{State, AreProper}
 use Rattle.mx_state.specs.Evaluations.{Evaluates, HasPrecedents}
 use Rattle.mx_state.specs.Changes.{Edits, Clearing}
-use Rattle.mx_proper.specs.Texts.{IsSmallText, IsSmallEdit}
-use Rattle.mx_proper.proofs.Edits.{begins_small, edits_keep_small}
-use Rattle.mx_proper.proofs.States.{begins_proper, proper_after_evaluation, proper_after_edit, proper_after_clearing}
+use Rattle.mx_limit_laws.specs.Texts.{IsSmallText, IsSmallEdit}
+use Rattle.mx_limit_laws.proofs.Edits.{begins_small, edits_keep_small}
+use Rattle.mx_limit_laws.proofs.States.{begins_proper, proper_after_evaluation, proper_after_edit, proper_after_clearing}
 use Rattle.mx_engine.specs.Edited.{HasEdited}
 use Rattle.mx_engine.specs.Engine.{first_limit, IsSound}
 use Rattle.mx_engine.specs.Proper.{IsProperState}

@@ -14,7 +14,7 @@ use Rattle.mx_answers.specs.Held.{nodes_of, IsKnown}
 use Rattle.mx_answers.specs.Answers.{Answer, Evaluation}
 use Rattle.mx_answers.proofs.Held.{input_or_not, holds_reached}
 use Rattle.mx_model.specs.Records.{ModelRecord}
-use Rattle.mx_entries.specs.Entries.{entries_of, entry_of}
+use Rattle.mx_memo_laws.specs.Entries.{entries_of, entry_of}
 use Rattle.mx_machine.specs.States.{state_of}
 use Rattle.mx_state.specs.Model.{model_of}
 use Rattle.mx_state.specs.State.{State}

@@ -12,7 +12,7 @@ use Rattle.mx_answers.specs.Records.{HasReads}
 use Rattle.mx_answers.specs.Laws.{InputReadsNone}
 use Rattle.mx_answers.proofs.Held.{input_or_not}
 use Rattle.mx_model.specs.Records.{ModelRecord}
-use Rattle.mx_entries.specs.Entries.{entries_of, IsKept}
+use Rattle.mx_memo_laws.specs.Entries.{entries_of, IsKept}
 use Rattle.mx_state.specs.Model.{model_of}
 use Rattle.mx_state.specs.Evaluations.{IsAsked, AsBound, AsWritten, IsBoundBy}
 use Rattle.mx_state.specs.Laws.{TextsHaveRuns, OneIsAsked, BoundIsBound, BoundWalksAlike, ValueBinds}

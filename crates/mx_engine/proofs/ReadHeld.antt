@@ -5,8 +5,8 @@ use Rattle.mx_value.specs.declared.read.Read.{Read}
 use Rattle.mx_vertices.specs.declared.slot.Body.{Body}
 use Rattle.mx_vertices.specs.Found.{IsHeldAs, IsHeldWith}
 use Rattle.mx_memo.specs.Memos.{Memory}
-use Rattle.mx_entries.specs.Entries.{entries_of, IsOrdered}
-use Rattle.mx_entries.specs.Laws.{BodyIsEntered, BodyIsOfNode}
+use Rattle.mx_memo_laws.specs.Entries.{entries_of, IsOrdered}
+use Rattle.mx_memo_laws.specs.Laws.{BodyIsEntered, BodyIsOfNode}
 use Rattle.mx_engine.specs.Precedents.{AreHeldReads}
 
 -- what holds of a value holds of it in a result

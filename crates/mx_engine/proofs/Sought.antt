@@ -8,14 +8,14 @@ use Rattle.mx_vertices.specs.declared.slot.Body.{Body}
 use Rattle.mx_vertices.specs.Kept.{Kept}
 use Rattle.mx_vertices.specs.Places.{Has}
 use Rattle.mx_vertices.specs.Found.{IsHeldAs, IsHeldWith}
-use Rattle.mx_drops.specs.Stamps.{NoneAfter, IsNextAfter, IsHeldSince}
+use Rattle.mx_invalidation.specs.Stamps.{NoneAfter, IsNextAfter, IsHeldSince}
 use Rattle.mx_memo.specs.Memos.{Memory}
 use Rattle.mx_memo.specs.Restoring.{AreApart}
 use Rattle.mx_memo.specs.Order.{StampsRise}
 use Rattle.mx_runs.specs.Lists.{Has as Among}
 use Rattle.mx_answers.specs.Held.{nodes_of}
-use Rattle.mx_entries.specs.Entries.{entries_of, IsOrdered}
-use Rattle.mx_entries.specs.Laws.{HeldIsEntered, EnteredIsHeld}
+use Rattle.mx_memo_laws.specs.Entries.{entries_of, IsOrdered}
+use Rattle.mx_memo_laws.specs.Laws.{HeldIsEntered, EnteredIsHeld}
 
 -- no node with a stamp up to this one is the one that is sought
 abbrev pub NotUpTo : List Kept → Node → ℕ → Type 0

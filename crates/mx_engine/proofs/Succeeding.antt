@@ -8,7 +8,7 @@ use Rattle.mx_vertices.specs.Reading.{id_at}
 use Rattle.mx_memo.specs.Memos.{Memory}
 use Rattle.mx_model.specs.Records.{ModelRecord}
 use Rattle.mx_runs.specs.Lists.{Has, Distinct}
-use Rattle.mx_entries.specs.Entries.{nodes_under}
+use Rattle.mx_memo_laws.specs.Entries.{nodes_under}
 use Rattle.mx_machine.specs.States.{state_of}
 use Rattle.mx_engine.specs.Gathering.{gathered}
 use Rattle.mx_engine.specs.ByText.{AreByText}

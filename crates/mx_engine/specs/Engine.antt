@@ -2,7 +2,7 @@
 use Rattle.std.specs.Prelude.{ℕ, []}
 use Rattle.mx_model.specs.Records.{ModelRecord, beginning}
 use Rattle.mx_memo.specs.Memos.{Memory}
-use Rattle.mx_entries.specs.Entries.{IsKept}
+use Rattle.mx_memo_laws.specs.Entries.{IsKept}
 use Rattle.mx_machine.specs.States.{state_of}
 use Rattle.mx_state.specs.Model.{model_of}
 use Rattle.mx_state.specs.State.{State, IsRightState}

@@ -7,7 +7,7 @@ use Rattle.mx_print.specs.Values.{node_text}
 use Rattle.mx_graph.specs.declared.ids.NodeId.{NodeId}
 use Rattle.mx_vertices.specs.Kept.{Kept}
 use Rattle.mx_vertices.specs.Reading.{id_at}
-use Rattle.mx_entries.specs.Entries.{nodes_under}
+use Rattle.mx_memo_laws.specs.Entries.{nodes_under}
 use Rattle.mx_engine.specs.declared.gathering.Row.{Row}
 
 -- more nodes behind those that were seen, without those that were

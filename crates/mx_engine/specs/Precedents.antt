@@ -8,7 +8,7 @@ use Rattle.mx_runs.specs.Chains.{HasValue}
 use Rattle.mx_answers.specs.Held.{nodes_of, IsKnown}
 use Rattle.mx_answers.specs.Records.{HasReads}
 use Rattle.mx_memo.specs.Memos.{Memory}
-use Rattle.mx_entries.specs.Entries.{entries_of}
+use Rattle.mx_memo_laws.specs.Entries.{entries_of}
 use Rattle.mx_model.specs.Records.{ModelRecord}
 use Rattle.mx_state.specs.Model.{model_of}
 use Rattle.mx_state.specs.Evaluations.{IsAsked}

@@ -10,7 +10,7 @@ use Rattle.mx_runs.specs.Lists.{Has, Distinct}
 use Rattle.mx_model.specs.Records.{ModelRecord}
 use Rattle.mx_runs.specs.Runs.{Model}
 use Rattle.mx_runs.specs.Inputs.{is_input}
-use Rattle.mx_entries.specs.Entries.{entries_of, nodes_under}
+use Rattle.mx_memo_laws.specs.Entries.{entries_of, nodes_under}
 use Rattle.mx_state.specs.Model.{model_of}
 use Rattle.mx_state.specs.State.{State}
 pub use Rattle.mx_engine.specs.ByText.{AreByText}

@@ -1,7 +1,7 @@
 //! Clearings, and other worlds.
 ghost use Rattle.std.specs.Prelude.{◌≡◌, ◌+◌, [], length};
 ghost use Rattle.mx_state.specs.Changes.{Clearing};
-ghost use Rattle.mx_proper.specs.Texts.{IsSmallText};
+ghost use Rattle.mx_limit_laws.specs.Texts.{IsSmallText};
 ghost use Rattle.mx_engine.specs.Scopes.{DropsScope};
 
 use crate::engine::Engine;
@@ -18,7 +18,7 @@ impl Engine {
         ensures dropped { result + length self.new.held ≡ length self.old.held }
     {
         mx_state::laws::laws();
-        mx_entries::laws::laws();
+        mx_memo_laws::laws::laws();
         clear_in(&mut self.memo, scope)
     }
 

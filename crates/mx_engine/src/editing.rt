@@ -2,7 +2,7 @@
 ghost use Rattle.std.specs.Prelude.{◌≡◌, ◌+◌, ℕ, IfOk, OnErr, OnOk, length};
 ghost use Rattle.mx_model.specs.Literals.{IsRead};
 ghost use Rattle.mx_state.specs.Changes.{Edits};
-ghost use Rattle.mx_proper.specs.Texts.{IsSmallEdit};
+ghost use Rattle.mx_limit_laws.specs.Texts.{IsSmallEdit};
 ghost use Rattle.mx_engine.specs.Edited.{HasEdited};
 ghost use Rattle.mx_engine.specs.Refused.{IsRefusedBy};
 
@@ -46,7 +46,7 @@ fn change(
     ensures exact { IsRefusedBy world.old edit.now result }
 {
     mx_state::laws::laws();
-    mx_entries::laws::laws();
+    mx_memo_laws::laws::laws();
     let prepared = match prepare(alloc, world, edit) {
         Ok(prepared) => prepared,
         Err(why) => return Err(why),

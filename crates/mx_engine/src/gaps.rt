@@ -1,6 +1,6 @@
 //! The stamps of a memo: without gaps where these are many, and the nodes of the first stamps alone.
 ghost use Rattle.std.specs.Prelude.{◌≡◌, ◌+◌, ◌*◌, ◌≤◌, length, take};
-ghost use Rattle.mx_entries.specs.Entries.{entries_of, IsOrdered};
+ghost use Rattle.mx_memo_laws.specs.Entries.{entries_of, IsOrdered};
 
 use mx_memo::Memo;
 
@@ -16,7 +16,7 @@ pub(crate) fn close_gaps(memo: &mut Memo)
     ensures few { memo.new.last ≤ 2 * (length memo.new.held + 1000000) }
     ensures begun { memo.new.begun ≡ memo.old.begun }
 {
-    mx_entries::laws::laws();
+    mx_memo_laws::laws::laws();
     let used = memo.count() as usize;
     if memo.last_stamp() / 2 < used + SPARE {
         return;
@@ -32,7 +32,7 @@ pub(crate) fn keep_first(memo: &mut Memo, count: u32)
     ensures ordered { IsOrdered memo.new }
     ensures begun { memo.new.begun ≡ memo.old.begun }
 {
-    mx_entries::laws::laws();
+    mx_memo_laws::laws::laws();
     memo.renumber();
     memo.roll_back_to(count as usize);
 }

@@ -3,7 +3,7 @@ ghost use Rattle.std.specs.Prelude.{◌≡◌, IfOk, List as Many, map};
 ghost use Rattle.std.specs.List.Sorted.{IsPermutation};
 ghost use Rattle.mx_value.specs.declared.node.Node.{Node as Asked};
 ghost use Rattle.mx_memo.specs.Memos.{AreHeld};
-ghost use Rattle.mx_entries.specs.Entries.{IsOrdered};
+ghost use Rattle.mx_memo_laws.specs.Entries.{IsOrdered};
 ghost use Rattle.mx_engine.specs.ByText.{AreByText};
 ghost use Rattle.mx_engine.specs.Gathering.{AreGathered, row_of};
 
@@ -32,7 +32,7 @@ pub(crate) fn nodes_of(
     requires held { AreHeld memo.now.held ids.now }
     ensures { IfOk result (λ nodes. AreGathered memo.now.held ids.now nodes.keys) }
 {
-    mx_entries::laws::laws();
+    mx_memo_laws::laws::laws();
     let mut nodes = IndexSet::new(alloc);
     for id in ids {
         let Some(body) = memo.body(*id) else {

@@ -2,7 +2,7 @@
 ghost use Rattle.std.specs.Prelude.{◌≡◌, ◌↔◌, IsTrue};
 ghost use Rattle.mx_runs.specs.Lists.{Has};
 ghost use Rattle.mx_answers.specs.Held.{nodes_of};
-ghost use Rattle.mx_entries.specs.Entries.{entries_of, IsOrdered};
+ghost use Rattle.mx_memo_laws.specs.Entries.{entries_of, IsOrdered};
 
 use mx_memo::Memo;
 use mx_value::node::Node;
@@ -12,7 +12,7 @@ pub(crate) fn holds(memo: &Memo, node: &Node) -> bool
     requires { IsOrdered memo.now }
     ensures { IsTrue result ↔ Has (nodes_of (entries_of memo.now.held)) node.now }
 {
-    mx_entries::laws::laws();
+    mx_memo_laws::laws::laws();
     let mut seen = 0;
     while let Some(id) = memo.after(seen) {
         let Some(body) = memo.body(id) else {

@@ -1,4 +1,6 @@
 //! The engine: a world, its edits, and what is held for it.
+//!
+//! Room: engine and scripts.
 #![tactic(auto)]
 
 pub mod clearing;

@@ -1,6 +1,6 @@
 //! The reads of a node.
 ghost use Rattle.std.specs.Prelude.{IfOk};
-ghost use Rattle.mx_entries.specs.Entries.{entries_of, IsKept, IsOrdered};
+ghost use Rattle.mx_memo_laws.specs.Entries.{entries_of, IsKept, IsOrdered};
 ghost use Rattle.mx_state.specs.Model.{model_of};
 ghost use Rattle.mx_engine.specs.Precedents.{AreReadBy, AreHeldReads};
 
@@ -35,7 +35,7 @@ fn reads_held(alloc: Global, memo: &Memo, node: Node) -> Result<Reads, AllocErro
     requires { IsOrdered memo.now }
     ensures { IfOk result (AreHeldReads (entries_of memo.now.held) node) }
 {
-    mx_entries::laws::laws();
+    mx_memo_laws::laws::laws();
     let shared = SharedNode::new(alloc, node)?;
     let Some(id) = memo.find(&shared) else {
         return List::empty(alloc);

@@ -1,7 +1,7 @@
 //! The successors of a node.
 ghost use Rattle.std.specs.Prelude.{◌≡◌, IfOk};
 ghost use Rattle.mx_runs.specs.Inputs.{is_input};
-ghost use Rattle.mx_entries.specs.Entries.{IsKept};
+ghost use Rattle.mx_memo_laws.specs.Entries.{IsKept};
 ghost use Rattle.mx_state.specs.Model.{model_of};
 ghost use Rattle.mx_engine.specs.Successors.{AreAskers, AreSuccessors};
 
@@ -36,7 +36,7 @@ fn askers_of(
     requires { IsKept (model_of world.now) memo.now }
     ensures { IfOk result (λ ids. AreAskers world.now memo.now node.now ids.items) }
 {
-    mx_entries::laws::laws();
+    mx_memo_laws::laws::laws();
     let shared = SharedNode::new(alloc, node.copy(alloc)?)?;
     if is_input(world, node) {
         match memo.readers_of(alloc, &Key::Input(shared)) {

@@ -8,10 +8,10 @@ use Rattle.mx_words.specs.declared.command.Command.{Command}
 use Rattle.mx_words.specs.declared.command.Command.TheVariants as command
 use Rattle.mx_words.specs.Words.{every_word}
 use Rattle.mx_script.specs.Commands.{ReadsAs}
-use Rattle.mx_read_edits.specs.Laws.{EditsAreRead}
-use Rattle.mx_proper.specs.Replies.{IsSmallTable}
-use Rattle.mx_proper.specs.Laws.{TablesAreSmall}
-use Rattle.mx_proper_commands.specs.Laws.{CommandsAreProper}
+use Rattle.mx_command_laws.specs.Edits.{EditsAreRead}
+use Rattle.mx_limit_laws.specs.Replies.{IsSmallTable}
+use Rattle.mx_limit_laws.specs.Laws.{TablesAreSmall}
+use Rattle.mx_command_laws.specs.Commands.{CommandsAreProper}
 use Rattle.mx_engine_rows.specs.Rows.{IsFitCommand}
 
 -- a command that a text says

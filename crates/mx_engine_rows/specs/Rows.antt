@@ -3,7 +3,7 @@ use Rattle.mx_edit.specs.declared.edit.Edit.{Edit}
 use Rattle.mx_words.specs.declared.command.Command.{Command}
 use Rattle.mx_words.specs.declared.command.Command.TheVariants as command
 use Rattle.mx_model.specs.Literals.{IsRead}
-use Rattle.mx_proper.specs.Texts.{IsSmallEdit}
+use Rattle.mx_limit_laws.specs.Texts.{IsSmallEdit}
 
 -- an edit has a formula that was read, and small literals
 pub record IsFitEdit (e : Edit) : Type 0 where

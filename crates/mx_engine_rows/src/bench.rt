@@ -1,17 +1,17 @@
 //! What rows are carried out on.
 ghost use Rattle.std.specs.Prelude.{IfOk};
-ghost use Rattle.mx_proper.specs.Texts.{IsSmallText};
+ghost use Rattle.mx_limit_laws.specs.Texts.{IsSmallText};
 ghost use Rattle.mx_engine_rows.specs.Rows.{IsFitEdit};
 
 use crate::reading::{NoRow, edit, first_word, node};
 use crate::table::table;
 use mx_edit::edit::Edit;
 use mx_engine::engine::Engine;
+use mx_frames::steps::Steps;
 use mx_prepare::prepare::{commit, prepare};
 use mx_print::append::push;
 use mx_print::value::push_node;
 use mx_text::blocks::{push_accepted, push_refused_edit};
-use mx_turns::steps::Steps;
 use mx_value::node::Node;
 use mx_world::world::World;
 use std::alloc::{AllocError, Global};
@@ -115,7 +115,7 @@ fn edited(alloc: Global, edit: &Edit) -> Result<World, NoRow>
     requires { IsFitEdit edit.now }
     ensures { IfOk result IsSmallText }
 {
-    mx_proper::laws::laws();
+    mx_limit_laws::laws::laws();
     let mut world = World::new(alloc)?;
     match prepare(alloc, &world, edit) {
         Ok(prepared) => {

@@ -1,6 +1,8 @@
 //! Answers rows over an engine. A line of standard input that begins with `#` begins a new engine and is written again. Every other
 //! line is a row: `table ..`, `bound NODE` or `replace EDIT`, which no script has, or else a command of scripts. An edit that drops
 //! nodes answers with their number.
+//!
+//! Room: checks.
 #![tactic(auto)]
 
 mod bench;

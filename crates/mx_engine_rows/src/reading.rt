@@ -49,8 +49,8 @@ pub fn node(alloc: Global, text: &[u8]) -> Result<Node, NoRow> {
 fn command(alloc: Global, text: &[u8]) -> Result<Command, NoRow>
     ensures { IfOk result IsFitCommand }
 {
-    mx_read_edits::laws::laws();
-    mx_proper_commands::laws::laws();
+    mx_command_laws::edits::laws();
+    mx_command_laws::commands::laws();
     match read_command(alloc, &WORDS, text) {
         Ok(command) => Ok(command),
         Err(_) => Err(NoRow::Part),

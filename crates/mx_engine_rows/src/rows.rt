@@ -2,8 +2,8 @@
 ghost use Rattle.std.specs.Prelude.{◌≡◌, ◌<◌};
 
 use crate::bench::{Bench, carry_out};
+use mx_frames::steps::Steps;
 use mx_print::append::{push, push_number};
-use mx_turns::steps::Steps;
 use std::alloc::{AllocError, Global};
 use std::marker::Brand;
 use std::sync::ledger::{Blank, Ledger};

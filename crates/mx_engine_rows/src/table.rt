@@ -67,7 +67,7 @@ fn set_table(
 ) -> Result<Edit, NoRow>
     ensures { IfOk result IsFitEdit }
 {
-    mx_proper::laws::laws();
+    mx_limit_laws::laws::laws();
     let (keys, rows) = records;
     if keys.len() != rows.len() {
         return Err(NoRow::Part);

@@ -1,4 +1,6 @@
 //! Expressions.
+//!
+//! Room: language.
 #![tactic(auto)]
 
 mod chain;

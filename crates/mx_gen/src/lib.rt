@@ -1,4 +1,6 @@
 //! The generated model: a model text of any size for measurements, the same for the same seed.
+//!
+//! Room: products and files.
 #![tactic(auto)]
 
 mod formula;

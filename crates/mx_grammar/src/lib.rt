@@ -1,5 +1,7 @@
 //! What the parsers of the language are made of: tokens as the grammar sees them, a cursor over them, parsers of parts, and the
 //! rules for literals, addresses and nodes. The relations that say which tokens spell what stand here too.
+//!
+//! Room: language.
 #![tactic(auto)]
 
 pub mod address;

@@ -1,5 +1,7 @@
 //! Answers rows over a graph of reads. A line of standard input that begins with `#` is written again. `new` begins a new graph.
 //! Every other line is a row: a word, and behind it what is given. It is written again with its answer.
+//!
+//! Room: checks.
 #![tactic(auto)]
 
 mod answer;

@@ -1,4 +1,6 @@
 //! Item spaces: the namespace that an address leads to, by the namespaces that are held for the items on the way.
+//!
+//! Room: kept values.
 #![tactic(auto)]
 
 mod held;

@@ -1,4 +1,6 @@
 //! The tokens of a formula's source: names, numbers, texts and marks, and lines and indents as in Python's grammar.
+//!
+//! Room: language.
 #![tactic(auto)]
 
 mod bytes;

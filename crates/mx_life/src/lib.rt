@@ -1,4 +1,6 @@
 //! The files of the two sample projects.
+//!
+//! Room: products and files.
 #![tactic(auto)]
 
 mod files;

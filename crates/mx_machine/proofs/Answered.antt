@@ -13,9 +13,9 @@ use Rattle.mx_state.specs.Evaluations.{Evaluates, IsAsked, AreRecorded}
 use Rattle.mx_state.specs.Model.{model_of}
 use Rattle.mx_state.proofs.Bound.{inputs_end}
 use Rattle.mx_state.proofs.States.{evaluates_as}
-use Rattle.mx_entries.specs.Entries.{IsKept, entries_of, entry_of}
-use Rattle.mx_entries.proofs.Nodes.{entered}
-use Rattle.mx_passing.specs.Known.{GivesHeld, RepliesInput}
+use Rattle.mx_memo_laws.specs.Entries.{IsKept, entries_of, entry_of}
+use Rattle.mx_memo_laws.proofs.Nodes.{entered}
+use Rattle.mx_frames.specs.Known.{GivesHeld, RepliesInput}
 use Rattle.mx_machine.specs.Closing.{HasClosed}
 use Rattle.mx_machine.specs.Settings.{evaluation_of}
 use Rattle.mx_machine.specs.States.{state_of}

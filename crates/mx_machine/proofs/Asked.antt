@@ -14,12 +14,12 @@ use Rattle.mx_state.specs.Evaluations.{IsAsked, AsBound, AsWritten}
 use Rattle.mx_state.specs.Model.{model_of}
 use Rattle.mx_state.specs.Proper.{address_of}
 use Rattle.mx_state.proofs.Binding.{end_binds_none}
-use Rattle.mx_bound.specs.declared.records.Records.{Records}
-use Rattle.mx_bound.specs.declared.settled.Settled.TheVariants as settled
-use Rattle.mx_bound.specs.declared.walking.Led.TheVariants as led
-use Rattle.mx_bound.specs.Settles.{Settles, binding_end}
-use Rattle.mx_bound.specs.Walking.{IsLed}
-use Rattle.mx_bound.proofs.Binding.{form_there}
+use Rattle.mx_binding.specs.declared.records.Records.{Records}
+use Rattle.mx_binding.specs.declared.settled.Settled.TheVariants as settled
+use Rattle.mx_binding.specs.declared.walking.Led.TheVariants as led
+use Rattle.mx_binding.specs.Settles.{Settles, binding_end}
+use Rattle.mx_binding.specs.Walking.{IsLed}
+use Rattle.mx_binding.proofs.Binding.{form_there}
 
 binding_is : (n : Node) (go : Node → Run) → binding n go ≡ walked (address_of n) (binding_end n go)
 binding_is (Cell at name args) go = refl

@@ -16,15 +16,15 @@ use Rattle.mx_suspended.specs.Laws.{at_start}
 use Rattle.mx_suspended.proofs.Steps.{starting, answering_value, wanting_memory}
 use Rattle.mx_state.specs.Model.{model_of}
 use Rattle.mx_state.proofs.Bound.{inputs_end}
-use Rattle.mx_items_first.specs.Laws.{ItemsFirst}
+use Rattle.mx_suspended.specs.ItemsFirst.{ItemsFirst}
 use Rattle.mx_stack.specs.Flight.{Flight, idle}
-use Rattle.mx_entries.specs.Entries.{IsKept, entries_of}
-use Rattle.mx_entries.specs.Laws.{HasGrown}
-use Rattle.mx_entries.proofs.Nodes.{new_is_not_entered}
-use Rattle.mx_passing.specs.Known.{IsUnknown}
-use Rattle.mx_turns.specs.Flights.{AsksInOrder, Drove, HasBrokenOff, IsAwaited, IsGiven, IsWithin, Work}
-use Rattle.mx_turns.specs.declared.runs.Frame.{Frame}
-use Rattle.mx_turns.specs.declared.progress.Given.{Given}
+use Rattle.mx_memo_laws.specs.Entries.{IsKept, entries_of}
+use Rattle.mx_memo_laws.specs.Laws.{HasGrown}
+use Rattle.mx_memo_laws.proofs.Nodes.{new_is_not_entered}
+use Rattle.mx_frames.specs.Known.{IsUnknown}
+use Rattle.mx_frames.specs.Flights.{AsksInOrder, Drove, HasBrokenOff, IsAwaited, IsGiven, IsWithin, Work}
+use Rattle.mx_frames.specs.declared.runs.Frame.{Frame}
+use Rattle.mx_frames.specs.declared.progress.Given.{Given}
 use Rattle.mx_machine.specs.Closing.{IsOver}
 use Rattle.mx_machine.specs.Settings.{IsAlone, evaluation_of}
 use Rattle.mx_machine.proofs.InOrder.{asks_in_order}

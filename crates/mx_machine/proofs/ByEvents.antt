@@ -20,7 +20,7 @@ use Rattle.mx_answers.specs.Held.{nodes_of, IsRight}
 use Rattle.mx_answers.specs.Records.{recorded_keys, recorded_asks, reads_of}
 use Rattle.mx_suspended.specs.Recorded.{Recorded, Adds, GoesPast, Stays, PastLook, PastTest, PastNote, PastHeld}
 use Rattle.mx_suspended.proofs.Growing.{keys_grow, asks_grow, reads_grow, other_no_key, other_ask_alone}
-use Rattle.mx_bound.specs.Walking.{IsAnswered, AreAnswered}
+use Rattle.mx_binding.specs.Walking.{IsAnswered, AreAnswered}
 
 -- ---- each once
 

@@ -10,10 +10,10 @@ use Rattle.mx_runs.specs.Runs.{Model}
 use Rattle.mx_answers.specs.Answers.{Evaluation, Answer}
 use Rattle.mx_answers.specs.Records.{IsRightMemo}
 use Rattle.mx_suspended.specs.Ended.{keeps}
-use Rattle.mx_entries.specs.Entries.{IsOrdered, entries_of}
-use Rattle.mx_entries.specs.Laws.{HasGrown}
-use Rattle.mx_entries.proofs.Evaluations.{roll_back_keeps}
-use Rattle.mx_entries.proofs.Nodes.{order_is_of_held}
+use Rattle.mx_memo_laws.specs.Entries.{IsOrdered, entries_of}
+use Rattle.mx_memo_laws.specs.Laws.{HasGrown}
+use Rattle.mx_memo_laws.proofs.Evaluations.{roll_back_keeps}
+use Rattle.mx_memo_laws.proofs.Nodes.{order_is_of_held}
 use Rattle.mx_machine.specs.Closing.{HasClosed, IsOver}
 
 -- an evaluation whose runs in flight were ended

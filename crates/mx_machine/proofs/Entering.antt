@@ -34,23 +34,23 @@ use Rattle.mx_state.proofs.States.{one_is_asked}
 use Rattle.mx_stack.specs.Flight.{Flight}
 use Rattle.mx_node_runs.specs.Behind.{behind}
 use Rattle.mx_node_runs.specs.Halts.{HaltsAs, HaltsAt}
-use Rattle.mx_reading.specs.Seen.{Seen}
-use Rattle.mx_steps.specs.Runs.{recorded}
-use Rattle.mx_entries.specs.Entries.{entries_of, nodes_under, own_keys, IsKept, IsOrdered}
-use Rattle.mx_entries.specs.Laws.{HasGrown, HeldOnce}
-use Rattle.mx_entries.proofs.Nodes.{new_is_not_entered}
-use Rattle.mx_bound.specs.Records.{recorded_in, HasOwnKey}
-use Rattle.mx_bound.specs.declared.records.Records.{Records}
-use Rattle.mx_bound.specs.declared.walking.Led.{Led}
-use Rattle.mx_bound.specs.declared.walking.Led.TheVariants as led
-use Rattle.mx_passing.specs.declared.current.Running.{Running}
-use Rattle.mx_turns.specs.Flights.{AsksInOrder, Flies, IsSound, IsSoundWith, Drove, first_of}
-use Rattle.mx_turns.specs.Driving.{DrivesOn, stage, within}
-use Rattle.mx_turns.specs.declared.progress.Given.{Given}
-use Rattle.mx_turns.specs.declared.runs.Frame.{Frame}
-use Rattle.mx_turns.proofs.Flown.{unkept_end}
-use Rattle.mx_turns.proofs.HeldLast.{grown_same}
-use Rattle.mx_turns.proofs.Sound.{order_same, same_static}
+use Rattle.mx_read_set.specs.Seen.{Seen}
+use Rattle.mx_interpreter.specs.Runs.{recorded}
+use Rattle.mx_memo_laws.specs.Entries.{entries_of, nodes_under, own_keys, IsKept, IsOrdered}
+use Rattle.mx_memo_laws.specs.Laws.{HasGrown, HeldOnce}
+use Rattle.mx_memo_laws.proofs.Nodes.{new_is_not_entered}
+use Rattle.mx_binding.specs.Records.{recorded_in, HasOwnKey}
+use Rattle.mx_binding.specs.declared.records.Records.{Records}
+use Rattle.mx_binding.specs.declared.walking.Led.{Led}
+use Rattle.mx_binding.specs.declared.walking.Led.TheVariants as led
+use Rattle.mx_frames.specs.declared.current.Running.{Running}
+use Rattle.mx_frames.specs.Flights.{AsksInOrder, Flies, IsSound, IsSoundWith, Drove, first_of}
+use Rattle.mx_frames.specs.Driving.{DrivesOn, stage, within}
+use Rattle.mx_frames.specs.declared.progress.Given.{Given}
+use Rattle.mx_frames.specs.declared.runs.Frame.{Frame}
+use Rattle.mx_frames.proofs.Flown.{unkept_end}
+use Rattle.mx_frames.proofs.HeldLast.{grown_same}
+use Rattle.mx_frames.proofs.Sound.{order_same, same_static}
 use Rattle.mx_machine.specs.Behind.{IsFor, IsWalking, StandsThere, HasLostItem, IsOverFor, EntersAs}
 use Rattle.mx_machine.specs.Closing.{IsOver}
 use Rattle.mx_machine.specs.Settings.{evaluation_of}

@@ -19,7 +19,7 @@ use Rattle.mx_answers.specs.Answers.{IsSettled}
 use Rattle.mx_answers.specs.Records.{IsRightMemo}
 use Rattle.mx_model.specs.Records.{ModelRecord}
 use Rattle.mx_model.specs.Keys.{key_result}
-use Rattle.mx_items_first.specs.Laws.{WaitsOnTheWay}
+use Rattle.mx_suspended.specs.ItemsFirst.{WaitsOnTheWay}
 use Rattle.mx_meaning.specs.Laws.{BindsTo}
 use Rattle.mx_meaning.specs.Walks.{entered, walked_from}
 use Rattle.mx_meaning.specs.Binding.{binding}
@@ -29,19 +29,19 @@ use Rattle.mx_state.specs.Model.{model_of}
 use Rattle.mx_state.specs.Proper.{address_of}
 use Rattle.mx_state.proofs.Binding.{each_binds_behind, lost_binds_none}
 use Rattle.mx_stack.specs.Flight.{Flight, idle}
-use Rattle.mx_reading.specs.Seen.{with_read}
-use Rattle.mx_entries.specs.Entries.{entries_of, IsOrdered}
-use Rattle.mx_entries.specs.Laws.{HasGrown}
-use Rattle.mx_bound.specs.Records.{with_ask}
-use Rattle.mx_bound.specs.declared.records.Records.{Records}
-use Rattle.mx_bound.specs.declared.walking.Led.{Led}
-use Rattle.mx_bound.specs.declared.walking.Led.TheVariants as led
-use Rattle.mx_bound.specs.Walking.{IsLedOn, LeadsFurther}
-use Rattle.mx_bound.proofs.Resuming.{goes_on}
-use Rattle.mx_turns.specs.Flights.{AsksInOrder, Drove, HasBrokenOff, IsAwaited, IsGiven, IsWithin, Work, first_of}
-use Rattle.mx_turns.specs.Driving.{DrivesFrom, stage, within}
-use Rattle.mx_turns.specs.declared.runs.Frame.{Frame}
-use Rattle.mx_turns.specs.declared.progress.Given.{Given}
+use Rattle.mx_read_set.specs.Seen.{with_read}
+use Rattle.mx_memo_laws.specs.Entries.{entries_of, IsOrdered}
+use Rattle.mx_memo_laws.specs.Laws.{HasGrown}
+use Rattle.mx_binding.specs.Records.{with_ask}
+use Rattle.mx_binding.specs.declared.records.Records.{Records}
+use Rattle.mx_binding.specs.declared.walking.Led.{Led}
+use Rattle.mx_binding.specs.declared.walking.Led.TheVariants as led
+use Rattle.mx_binding.specs.Walking.{IsLedOn, LeadsFurther}
+use Rattle.mx_binding.proofs.Resuming.{goes_on}
+use Rattle.mx_frames.specs.Flights.{AsksInOrder, Drove, HasBrokenOff, IsAwaited, IsGiven, IsWithin, Work, first_of}
+use Rattle.mx_frames.specs.Driving.{DrivesFrom, stage, within}
+use Rattle.mx_frames.specs.declared.runs.Frame.{Frame}
+use Rattle.mx_frames.specs.declared.progress.Given.{Given}
 use Rattle.mx_machine.specs.Behind.{IsFor, IsWalking, StandsThere, HasLostItem}
 use Rattle.mx_machine.specs.Settings.{evaluation_of}
 use Rattle.mx_machine.proofs.OnWay.{item_awaited, item_too_deep, next_on_way, work_waiting}

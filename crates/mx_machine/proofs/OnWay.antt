@@ -46,27 +46,27 @@ use Rattle.mx_state.specs.Walks.{WalksAlike}
 use Rattle.mx_state.proofs.Binding.{each_binds_behind, end_binds_none, bound_walks_alike}
 use Rattle.mx_state.proofs.Bound.{inputs_end}
 use Rattle.mx_node_runs.specs.Behind.{behind}
-use Rattle.mx_reading.specs.Seen.{Seen, with_read}
+use Rattle.mx_read_set.specs.Seen.{Seen, with_read}
 use Rattle.mx_stack.specs.Flight.{Flight, idle}
 use Rattle.mx_runs.proofs.Levels.{Split, leads_split, leads_once, same_value}
-use Rattle.mx_entries.specs.Entries.{entries_of, IsKept, IsOrdered}
-use Rattle.mx_entries.specs.Laws.{HasGrown}
-use Rattle.mx_entries.proofs.Nodes.{new_is_not_entered}
-use Rattle.mx_bound.specs.Records.{recorded_in}
-use Rattle.mx_bound.specs.declared.records.Records.{Records}
-use Rattle.mx_bound.specs.declared.walking.Led.{Led}
-use Rattle.mx_bound.specs.declared.walking.Led.TheVariants as led
-use Rattle.mx_bound.specs.Walking.{IsLed}
-use Rattle.mx_bound.specs.Records.{with_ask}
-use Rattle.mx_bound.specs.Walking.{AreAnswered, IsLedOn}
-use Rattle.mx_bound.proofs.Passing.{asks_added, reads_added}
-use Rattle.mx_bound.proofs.Resuming.{still_held}
-use Rattle.mx_items_first.specs.Laws as first
-use Rattle.mx_items_first.specs.Laws.{PassesThrough, WaitsOnTheWay}
-use Rattle.mx_turns.specs.Flights.{AsksInOrder, IsAwaited, IsGiven, IsItemBefore, IsOnTheWay, Work}
-use Rattle.mx_turns.specs.declared.progress.Given.{Given}
-use Rattle.mx_turns.proofs.Flown.{unkept_end}
-use Rattle.mx_turns.proofs.Standing.{recorded_grown}
+use Rattle.mx_memo_laws.specs.Entries.{entries_of, IsKept, IsOrdered}
+use Rattle.mx_memo_laws.specs.Laws.{HasGrown}
+use Rattle.mx_memo_laws.proofs.Nodes.{new_is_not_entered}
+use Rattle.mx_binding.specs.Records.{recorded_in}
+use Rattle.mx_binding.specs.declared.records.Records.{Records}
+use Rattle.mx_binding.specs.declared.walking.Led.{Led}
+use Rattle.mx_binding.specs.declared.walking.Led.TheVariants as led
+use Rattle.mx_binding.specs.Walking.{IsLed}
+use Rattle.mx_binding.specs.Records.{with_ask}
+use Rattle.mx_binding.specs.Walking.{AreAnswered, IsLedOn}
+use Rattle.mx_binding.proofs.Passing.{asks_added, reads_added}
+use Rattle.mx_binding.proofs.Resuming.{still_held}
+use Rattle.mx_suspended.specs.ItemsFirst as first
+use Rattle.mx_suspended.specs.ItemsFirst.{PassesThrough, WaitsOnTheWay}
+use Rattle.mx_frames.specs.Flights.{AsksInOrder, IsAwaited, IsGiven, IsItemBefore, IsOnTheWay, Work}
+use Rattle.mx_frames.specs.declared.progress.Given.{Given}
+use Rattle.mx_frames.proofs.Flown.{unkept_end}
+use Rattle.mx_frames.proofs.Standing.{recorded_grown}
 use Rattle.mx_machine.specs.Behind.{IsFor, IsOnWay, RunAt, RunsTo}
 use Rattle.mx_machine.specs.Settings.{evaluation_of}
 use Rattle.mx_machine.proofs.WalksAsk.{IsItem, stop, asking_is_not_static, walk_asks_item}

@@ -13,10 +13,10 @@ use Rattle.mx_suspended.specs.Flights.{Suspended, IsDone}
 use Rattle.mx_suspended.proofs.Steps.{answering_value, wanting_memory}
 use Rattle.mx_state.specs.Model.{model_of}
 use Rattle.mx_state.proofs.Bound.{inputs_end}
-use Rattle.mx_entries.specs.Entries.{IsKept, entries_of}
-use Rattle.mx_entries.specs.Laws.{HasGrown}
-use Rattle.mx_turns.specs.Flights.{IsGiven, HasBrokenOff}
-use Rattle.mx_turns.specs.declared.progress.Given.{Given}
+use Rattle.mx_memo_laws.specs.Entries.{IsKept, entries_of}
+use Rattle.mx_memo_laws.specs.Laws.{HasGrown}
+use Rattle.mx_frames.specs.Flights.{IsGiven, HasBrokenOff}
+use Rattle.mx_frames.specs.declared.progress.Given.{Given}
 use Rattle.mx_machine.specs.Closing.{IsOver}
 use Rattle.mx_machine.specs.Settings.{evaluation_of}
 use Rattle.mx_machine.proofs.Beginning.{work_of}

@@ -8,7 +8,7 @@ use Rattle.mx_memo.specs.Memos.{Memory}
 use Rattle.mx_model.specs.Records.{ModelRecord}
 use Rattle.mx_runs.specs.Runs.{Model}
 use Rattle.mx_answers.specs.Answers.{Answer}
-use Rattle.mx_entries.specs.Entries.{entries_of, IsKept}
+use Rattle.mx_memo_laws.specs.Entries.{entries_of, IsKept}
 use Rattle.mx_state.specs.Evaluations.{Evaluates, IsAsked, KnowsAsked}
 use Rattle.mx_state.specs.Model.{model_of}
 use Rattle.mx_machine.specs.Behind.{TellsAsked, IsOverFor}

@@ -18,13 +18,13 @@ use Rattle.mx_state.specs.Proper.{address_of}
 use Rattle.mx_stack.specs.Flight.{Flight}
 use Rattle.mx_node_runs.specs.Behind.{behind}
 use Rattle.mx_node_runs.specs.Halts.{HaltsAt}
-use Rattle.mx_passing.specs.declared.current.Running.{Running}
-use Rattle.mx_entries.specs.Entries.{entries_of, IsKept}
-use Rattle.mx_bound.specs.Records.{recorded_in}
-use Rattle.mx_bound.specs.declared.records.Records.{Records}
-use Rattle.mx_bound.specs.declared.walking.Led.{Led}
-use Rattle.mx_bound.specs.declared.walking.Led.TheVariants as led
-use Rattle.mx_bound.specs.Walking.{IsLed}
+use Rattle.mx_frames.specs.declared.current.Running.{Running}
+use Rattle.mx_memo_laws.specs.Entries.{entries_of, IsKept}
+use Rattle.mx_binding.specs.Records.{recorded_in}
+use Rattle.mx_binding.specs.declared.records.Records.{Records}
+use Rattle.mx_binding.specs.declared.walking.Led.{Led}
+use Rattle.mx_binding.specs.declared.walking.Led.TheVariants as led
+use Rattle.mx_binding.specs.Walking.{IsLed}
 use Rattle.mx_machine.specs.Closing.{IsOver}
 use Rattle.mx_machine.specs.Settings.{evaluation_of}
 use Rattle.mx_machine.specs.declared.arriving.Arrived.{Arrived}

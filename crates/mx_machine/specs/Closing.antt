@@ -6,8 +6,8 @@ use Rattle.mx_memo.specs.Memos.{Memory}
 use Rattle.mx_runs.specs.Runs.{Model}
 use Rattle.mx_answers.specs.Answers.{Evaluation, Answer}
 use Rattle.mx_suspended.specs.Ended.{HasEnded}
-use Rattle.mx_entries.specs.Entries.{IsKept, entries_of}
-use Rattle.mx_entries.specs.Laws.{HasGrown}
+use Rattle.mx_memo_laws.specs.Entries.{IsKept, entries_of}
+use Rattle.mx_memo_laws.specs.Laws.{HasGrown}
 
 -- An evaluation began with this memo and has come to an answer. All that it computed is held now.
 pub record IsOver (model : Model) (start now : Memory) (ev : Evaluation) (ticks : ℕ) (answer : Result Value EvalRefusal) : Type 0 where

@@ -3,10 +3,10 @@ use Rattle.std.specs.Prelude.{List}
 use Rattle.mx_value.specs.declared.node.Node.{Node}
 use Rattle.mx_value.specs.declared.namespace.Namespace.{Namespace}
 use Rattle.mx_vertices.specs.Kept.{Kept}
-use Rattle.mx_bound.specs.declared.records.Records.{Records}
+use Rattle.mx_binding.specs.declared.records.Records.{Records}
 use Rattle.mx_runs.specs.Runs.{Model}
-use Rattle.mx_bound.specs.Walking.{IsLed}
-use Rattle.mx_bound.specs.declared.walking.Led.TheVariants as led
+use Rattle.mx_binding.specs.Walking.{IsLed}
+use Rattle.mx_binding.specs.declared.walking.Led.TheVariants as led
 use Rattle.mx_state.specs.Evaluations.{IsAsked}
 use Rattle.mx_state.specs.Proper.{address_of}
 use Rattle.mx_machine.specs.declared.behind.Behind.{Behind}

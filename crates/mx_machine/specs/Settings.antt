@@ -3,7 +3,7 @@ use Rattle.std.specs.Prelude.{◌≡◌, ℕ, ◌<◌}
 use Rattle.mx_value.specs.declared.node.Node.{Node}
 use Rattle.mx_memo.specs.Memos.{Memory}
 use Rattle.mx_answers.specs.Answers.{Evaluation}
-use Rattle.mx_entries.specs.Entries.{entries_of}
+use Rattle.mx_memo_laws.specs.Entries.{entries_of}
 
 -- of a node, with what is held and the limit
 abbrev pub evaluation_of : Node → Memory → ℕ → Evaluation

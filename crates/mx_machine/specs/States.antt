@@ -2,7 +2,7 @@
 use Rattle.std.specs.Prelude.{ℕ}
 use Rattle.mx_model.specs.Records.{ModelRecord}
 use Rattle.mx_memo.specs.Memos.{Memory}
-use Rattle.mx_entries.specs.Entries.{entries_of}
+use Rattle.mx_memo_laws.specs.Entries.{entries_of}
 use Rattle.mx_state.specs.State.{State}
 
 -- the text, the entries of what is held, and the limit

@@ -1,25 +1,25 @@
 //! How the run of the node that is asked goes on behind the walk of its address.
 ghost use Rattle.std.specs.Prelude.{◌≡◌, ◌-◌, ◌≤◌, [], ℕ, IfOk, OnOk};
-ghost use Rattle.mx_bound.specs.declared.walking.Led.TheVariants as led;
-ghost use Rattle.mx_entries.specs.Entries.{IsKept, IsOrdered};
-ghost use Rattle.mx_entries.specs.Laws.{HasGrown};
+ghost use Rattle.mx_binding.specs.declared.walking.Led.TheVariants as led;
+ghost use Rattle.mx_memo_laws.specs.Entries.{IsKept, IsOrdered};
+ghost use Rattle.mx_memo_laws.specs.Laws.{HasGrown};
 ghost use Rattle.mx_memo.specs.Memos.{Memory};
 ghost use Rattle.mx_stack.specs.Flight.{no_run};
 ghost use Rattle.mx_vertices.specs.Found.{IsNew};
 ghost use Rattle.mx_state.specs.Model.{model_of};
-ghost use Rattle.mx_turns.specs.Flights.{IsSound};
+ghost use Rattle.mx_frames.specs.Flights.{IsSound};
 ghost use Rattle.mx_machine.specs.Behind.{EntersAs, IsOverFor, IsSomeWalking, IsWalking};
 
 use crate::machine::Request;
 use crate::seeking::asked_in;
-use mx_bound::records::Records;
+use mx_binding::records::Records;
+use mx_frames::current::{Current, Running};
+use mx_frames::progress::Setting;
+use mx_frames::runs::Runs;
+use mx_frames::step::go_on;
+use mx_frames::steps::Steps;
 use mx_memo::Memo;
 use mx_node_runs::runs::arrive;
-use mx_passing::current::{Current, Running};
-use mx_turns::progress::Setting;
-use mx_turns::runs::Runs;
-use mx_turns::step::go_on;
-use mx_turns::steps::Steps;
 use mx_value::namespace::Namespace;
 use mx_value::node::SharedNode;
 use mx_value::refusal::EvalRefusal;
@@ -59,7 +59,7 @@ pub fn go_on_there<L: Ledger>(
     ensures ordered { IsOrdered memo.new }
     ensures ticks { steps.old ≤ steps.new }
 {
-    mx_items_first::laws::laws();
+    mx_suspended::items_first::laws();
     let node = SharedNode::new(
         alloc,
         asked_in(alloc, request.world, request.node, &arrived.space)?,

@@ -1,13 +1,13 @@
 //! Evaluations of nodes whose address leads through an item that is not held.
 ghost use Rattle.std.specs.Prelude.{◌≡◌, ◌-◌, ◌≤◌, [], ℕ, IfOk, OnOk};
 ghost use Rattle.mx_answers.specs.Answers.{IsLimit};
-ghost use Rattle.mx_entries.specs.Entries.{IsKept, IsOrdered};
-ghost use Rattle.mx_entries.specs.Laws.{HasGrown};
+ghost use Rattle.mx_memo_laws.specs.Entries.{IsKept, IsOrdered};
+ghost use Rattle.mx_memo_laws.specs.Laws.{HasGrown};
 ghost use Rattle.mx_memo.specs.Memos.{Memory};
-ghost use Rattle.mx_bound.specs.declared.walking.Led.TheVariants as led;
+ghost use Rattle.mx_binding.specs.declared.walking.Led.TheVariants as led;
 ghost use Rattle.mx_state.specs.Evaluations.{Evaluates};
 ghost use Rattle.mx_state.specs.Model.{model_of};
-ghost use Rattle.mx_turns.specs.Flights.{IsSound};
+ghost use Rattle.mx_frames.specs.Flights.{IsSound};
 ghost use Rattle.mx_machine.specs.Behind.{HasPassedItem, IsOverFor, IsSomeWalking, IsWalking};
 ghost use Rattle.mx_machine.specs.Seeking.{IsBehind};
 ghost use Rattle.mx_machine.specs.States.{state_of};
@@ -15,14 +15,14 @@ ghost use Rattle.mx_machine.specs.States.{state_of};
 use crate::arriving::{Arrived, go_on_there};
 use crate::closing::close;
 use crate::machine::Request;
-use mx_bound::records::Records;
-use mx_bound::walking::{Led, copy_namespace, walk_further};
+use mx_binding::records::Records;
+use mx_binding::walking::{Led, copy_namespace, walk_further};
+use mx_frames::progress::Setting;
+use mx_frames::runs::Runs;
+use mx_frames::step::drive;
+use mx_frames::steps::Steps;
 use mx_memo::Memo;
 use mx_stack::rest::Onward;
-use mx_turns::progress::Setting;
-use mx_turns::runs::Runs;
-use mx_turns::step::drive;
-use mx_turns::steps::Steps;
 use mx_value::node::SharedNode;
 use mx_value::refusal::EvalRefusal;
 use mx_value::value::Value;
@@ -89,7 +89,7 @@ fn run_behind<L: Ledger>(
     ensures ordered { IsOrdered memo.new }
     ensures ticks { steps.old ≤ steps.new }
 {
-    mx_items_first::laws::laws();
+    mx_suspended::items_first::laws();
     steps.tick();
     let Behind {
         item,
@@ -145,7 +145,7 @@ fn pass_item<L: Ledger>(
     ensures grown { (start : Memory) → HasGrown start memo.old → HasGrown start memo.new }
     ensures ticks { steps.old ≤ steps.new }
 {
-    mx_items_first::laws::laws();
+    mx_suspended::items_first::laws();
     let Behind {
         item,
         rest,

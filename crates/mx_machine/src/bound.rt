@@ -1,6 +1,6 @@
 //! The bound form of a node, by what is held.
 ghost use Rattle.std.specs.Prelude.{IfOk};
-ghost use Rattle.mx_entries.specs.Entries.{IsKept};
+ghost use Rattle.mx_memo_laws.specs.Entries.{IsKept};
 ghost use Rattle.mx_state.specs.Evaluations.{HasBoundForm};
 ghost use Rattle.mx_state.specs.Model.{model_of};
 ghost use Rattle.mx_machine.specs.States.{state_of};
@@ -20,5 +20,5 @@ pub fn bound(
     requires { IsKept (model_of world.now) memo.now }
     ensures { IfOk result (HasBoundForm (state_of world.now memo.now 1) node.now) }
 {
-    mx_bound::bound::bound(alloc, world, memo, node)
+    mx_binding::bound::bound(alloc, world, memo, node)
 }

@@ -1,7 +1,7 @@
 //! How an evaluation is closed.
 ghost use Rattle.std.specs.Prelude.{◌≡◌, ℕ, []};
 ghost use Rattle.mx_answers.specs.Answers.{Evaluation};
-ghost use Rattle.mx_entries.specs.Entries.{IsOrdered};
+ghost use Rattle.mx_memo_laws.specs.Entries.{IsOrdered};
 ghost use Rattle.mx_memo.specs.Memos.{Memory};
 ghost use Rattle.mx_runs.specs.Runs.{Model as Models};
 ghost use Rattle.mx_suspended.specs.Ended.{keeps};

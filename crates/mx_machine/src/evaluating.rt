@@ -1,18 +1,18 @@
 //! Evaluations of nodes in bound form, and of such as have none.
 ghost use Rattle.std.specs.Prelude.{◌≡◌, ◌-◌, ◌≤◌};
-ghost use Rattle.mx_entries.specs.Entries.{IsKept, IsOrdered};
-ghost use Rattle.mx_passing.specs.Known.{IsUnknown};
+ghost use Rattle.mx_memo_laws.specs.Entries.{IsKept, IsOrdered};
+ghost use Rattle.mx_frames.specs.Known.{IsUnknown};
 ghost use Rattle.mx_state.specs.Model.{model_of};
 ghost use Rattle.mx_machine.specs.Closing.{HasClosed, IsOver};
 ghost use Rattle.mx_machine.specs.Settings.{IsAlone, evaluation_of};
 
 use crate::closing::close;
+use mx_frames::known::{Known, find_known};
+use mx_frames::progress::Setting;
+use mx_frames::runs::Runs;
+use mx_frames::step::drive;
+use mx_frames::steps::Steps;
 use mx_memo::Memo;
-use mx_passing::known::{Known, find_known};
-use mx_turns::progress::Setting;
-use mx_turns::runs::Runs;
-use mx_turns::step::drive;
-use mx_turns::steps::Steps;
 use mx_value::node::{Node, SharedNode};
 use mx_value::refusal::EvalRefusal;
 use mx_value::value::Value;
@@ -79,7 +79,7 @@ fn run_new<L: Ledger>(
     ensures ordered { IsOrdered memo.new }
     ensures ticks { steps.old ≤ steps.new }
 {
-    mx_items_first::laws::laws();
+    mx_suspended::items_first::laws();
     let mut runs = Runs::new(alloc);
     let given = drive(setting, node, memo, &mut runs, steps)?;
     Ok(given.reply.get().value.copy(alloc)?)

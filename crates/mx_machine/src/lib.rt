@@ -1,4 +1,6 @@
 //! The evaluation of a node that is asked from outside, and its bound form.
+//!
+//! Room: machine.
 #![tactic(auto)]
 
 pub mod arriving;

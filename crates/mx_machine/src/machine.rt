@@ -1,7 +1,7 @@
 //! Evaluations.
 ghost use Rattle.std.specs.Prelude.{◌-◌, ◌≤◌};
 ghost use Rattle.mx_answers.specs.Answers.{IsLimit};
-ghost use Rattle.mx_entries.specs.Entries.{IsKept};
+ghost use Rattle.mx_memo_laws.specs.Entries.{IsKept};
 ghost use Rattle.mx_state.specs.Evaluations.{Evaluates};
 ghost use Rattle.mx_state.specs.Model.{model_of};
 ghost use Rattle.mx_machine.specs.States.{state_of};
@@ -9,9 +9,9 @@ ghost use Rattle.mx_machine.specs.States.{state_of};
 use crate::behind::evaluate_behind;
 use crate::evaluating::evaluate;
 use crate::seeking::{Sought, seek};
+use mx_frames::progress::Setting;
+use mx_frames::steps::Steps;
 use mx_memo::Memo;
-use mx_turns::progress::Setting;
-use mx_turns::steps::Steps;
 use mx_value::node::Node;
 use mx_value::refusal::EvalRefusal;
 use mx_value::value::Value;

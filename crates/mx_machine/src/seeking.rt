@@ -1,14 +1,14 @@
 //! Which node is asked for one that is written.
 ghost use Rattle.std.specs.Prelude.{◌≡◌, IfOk};
-ghost use Rattle.mx_entries.specs.Entries.{IsKept};
+ghost use Rattle.mx_memo_laws.specs.Entries.{IsKept};
 ghost use Rattle.mx_state.specs.Model.{model_of};
 ghost use Rattle.mx_state.specs.Proper.{address_of};
 ghost use Rattle.mx_machine.specs.Seeking.{IsAskedIn, IsSought};
 
 use crate::behind::Behind;
-use mx_bound::records::Records;
-use mx_bound::settled::{Settled, settle};
-use mx_bound::walking::{Led, walk_held};
+use mx_binding::records::Records;
+use mx_binding::settled::{Settled, settle};
+use mx_binding::walking::{Led, walk_held};
 use mx_memo::Memo;
 use mx_value::namespace::Namespace;
 use mx_value::node::Node;

@@ -20,7 +20,7 @@ use Rattle.mx_syntax.specs.declared.expr.Args.TheViews.{roll-Args, roll-Comparis
 use Rattle.mx_syntax.specs.declared.expr.Args.TheFolds.{map-Args, map-Comparison, map-Expr, map-Trailer, ind-Expr}
 use Rattle.mx_edit.specs.declared.key.Key.{Key}
 use Rattle.mx_edit.specs.declared.key.KeyResult.{KeyResult}
-use Rattle.mx_op.specs.declared.op.Op.{Op}
+use Rattle.mx_syntax.specs.declared.op.Op.{Op}
 use Rattle.mx_ops.specs.declared.builtin.Builtin.TheVariants as builtin
 use Rattle.mx_ops.specs.Kinds.{items_of}
 use Rattle.mx_ops.specs.Truth.{truth}

@@ -24,7 +24,7 @@ use Rattle.mx_edit.specs.declared.key.KeyResult.{KeyResult}
 use Rattle.mx_edit.specs.declared.key.KeyResult.TheVariants as found
 use Rattle.mx_edit.specs.declared.reply.Reply.{Reply}
 use Rattle.mx_ops.specs.declared.builtin.Builtin.{Builtin}
-use Rattle.mx_op.specs.declared.op.Op.TheVariants as op
+use Rattle.mx_syntax.specs.declared.op.Op.TheVariants as op
 use Rattle.mx_ops.specs.Kinds.{Content}
 use Rattle.mx_ops.specs.Names.{builtin_of, op_of}
 use Rattle.mx_ops.specs.Table.{gives}

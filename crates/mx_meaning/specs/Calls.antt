@@ -19,7 +19,7 @@ use Rattle.mx_edit.specs.Table.{entry_at}
 use Rattle.mx_edit.specs.declared.key.Key.TheVariants as key
 use Rattle.mx_edit.specs.declared.key.KeyResult.{KeyResult}
 use Rattle.mx_edit.specs.declared.key.KeyResult.TheVariants as found
-use Rattle.mx_op.specs.declared.op.Op.TheVariants as op
+use Rattle.mx_syntax.specs.declared.op.Op.TheVariants as op
 use Rattle.mx_ops.specs.Kinds.{Content, bytes_of}
 use Rattle.mx_ops.specs.Numbers.{whole_of}
 use Rattle.mx_ops.specs.Answers.{Answer}

@@ -9,7 +9,7 @@ use Rattle.mx_value.specs.declared.fault.FaultKind.TheVariants.{TypeMismatch}
 use Rattle.mx_syntax.specs.declared.expr.Expr.{Expr, fold-Expr}
 use Rattle.mx_syntax.specs.declared.expr.Args.TheOpen.{Args-F, Comparison-F, Expr-F, Trailer-F, Arm-F, PowerPart-F, ProductPart-F, SumPart-F}
 use Rattle.mx_syntax.specs.declared.expr.Sign.{Sign}
-use Rattle.mx_op.specs.declared.op.Op.{Op}
+use Rattle.mx_syntax.specs.declared.op.Op.{Op}
 use Rattle.mx_ops.specs.declared.builtin.Builtin.TheVariants as builtin
 use Rattle.mx_ops.specs.Kinds.{Content, items_of}
 use Rattle.mx_ops.specs.Truth.{truth}

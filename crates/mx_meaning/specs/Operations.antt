@@ -11,8 +11,8 @@ use Rattle.mx_syntax.specs.declared.expr.Sign.{Sign}
 use Rattle.mx_syntax.specs.declared.expr.Sign.TheVariants as sign
 use Rattle.mx_syntax.specs.declared.stmt.ArithOp.{ArithOp}
 use Rattle.mx_syntax.specs.declared.stmt.ArithOp.TheVariants as arithmetic
-use Rattle.mx_op.specs.declared.op.Op.{Op}
-use Rattle.mx_op.specs.declared.op.Op.TheVariants as op
+use Rattle.mx_syntax.specs.declared.op.Op.{Op}
+use Rattle.mx_syntax.specs.declared.op.Op.TheVariants as op
 use Rattle.mx_ops.specs.Answers.{Answer}
 use Rattle.mx_ops.specs.Table.{gives}
 

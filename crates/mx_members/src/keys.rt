@@ -8,7 +8,7 @@ use crate::chunks::{Chunks, item_at};
 use crate::share::Share;
 use crate::sought::Sought;
 use indexmap::IndexSet;
-use mx_hashed::hashed::Hashed;
+use mx_list::hashed::Hashed;
 use mx_list::shared::Shared;
 use std::alloc::{AllocError, Global};
 use std::hash::Hash;

@@ -1,4 +1,6 @@
 //! Members by key, whose copies share what they are made of.
+//!
+//! Room: model text.
 #![tactic(auto)]
 
 pub mod chunks;

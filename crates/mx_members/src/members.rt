@@ -8,7 +8,7 @@ ghost use Rattle.mx_members.specs.Words.{define, without};
 use crate::chunks::Chunks;
 use crate::keys::Keys;
 use crate::share::Share;
-use mx_hashed::hashed::Hashed;
+use mx_list::hashed::Hashed;
 use std::alloc::{AllocError, Global};
 use std::hash::Hash;
 use std::marker::Model;

@@ -3,7 +3,7 @@ ghost use Rattle.std.specs.Prelude.{◌≡◌, IfOk};
 
 use mx_edit::reference::RefValue;
 use mx_edit::table::Table;
-use mx_hashed::hashed::Hashed;
+use mx_list::hashed::Hashed;
 use mx_list::list::List;
 use mx_list::shared::Shared;
 use mx_value::label::Label;

@@ -1,9 +1,9 @@
 //! A key that is lent is looked for among keys that are kept.
 ghost use Rattle.std.specs.Hash as fed;
-ghost use Rattle.mx_hashed.specs.Hashed.{hash_of};
+ghost use Rattle.mx_list.specs.Hashed.{hash_of};
 
 use indexmap::Equivalent;
-use mx_hashed::hashed::Hashed;
+use mx_list::hashed::Hashed;
 use std::hash::Hash;
 
 /// A key that is lent, whose hash is known.

@@ -7,8 +7,8 @@ use Rattle.mx_vertices.specs.Places.{Has, StandOnce}
 use Rattle.mx_vertices.specs.Kept.{Kept, entries, IsWhole}
 use Rattle.mx_vertices.proofs.Places.{at_below}
 use Rattle.mx_vertices.proofs.Touching.{entry_at}
-use Rattle.mx_drops.proofs.Settled.{order_once}
-use Rattle.mx_drops.proofs.Settling.{has_there}
+use Rattle.mx_invalidation.proofs.Settled.{order_once}
+use Rattle.mx_invalidation.proofs.Settling.{has_there}
 use Rattle.mx_memo.specs.Memos.{Memory}
 use Rattle.mx_memo.specs.Restoring.{AreApart}
 use Rattle.mx_memo.specs.Order.{StampsRise, IsInOrder}

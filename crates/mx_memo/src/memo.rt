@@ -6,20 +6,20 @@ ghost use Rattle.mx_vertices.specs.Kept.{looked, asked, IsHeld, IsTouched, HasCh
 ghost use Rattle.mx_vertices.specs.Held.{entry_with};
 ghost use Rattle.mx_vertices.specs.Reading.{LookedUp, Asked, AreTakers};
 ghost use Rattle.mx_vertices.specs.Walks.{AreKeysOf, AreHeldKeys};
-ghost use Rattle.mx_drops.specs.Stamps.{NoneAfter, IsNextAfter, IsHeldSince, renumbered};
+ghost use Rattle.mx_invalidation.specs.Stamps.{NoneAfter, IsNextAfter, IsHeldSince, renumbered};
 ghost use Rattle.mx_vertices.specs.Found.{HasCome, IsHeldAs, IsHeldWith, IsNew};
 ghost use Rattle.mx_memo.specs.Namespaces.{namespace_held};
 ghost use Rattle.mx_memo.specs.Memos.{AreHeld, HoldsLast, IsLast, nothing_held, most_held};
 ghost use Rattle.mx_memo.specs.Order.{IsInOrder};
 
 use crate::refusal::HoldRefusal;
-use mx_drops::drops::{drop_after, drop_changed, drop_one, drop_where};
-use mx_drops::settle::settle;
-use mx_drops::stamps::{first_from, place_at};
-use mx_drops::test_of_key::KeyTest;
-use mx_drops::test_of_node::NodeTest;
 use mx_edit::key::Key;
 use mx_graph::{NoMemory, NodeId, ReadGraph};
+use mx_invalidation::drops::{drop_after, drop_changed, drop_one, drop_where};
+use mx_invalidation::settle::settle;
+use mx_invalidation::stamps::{first_from, place_at};
+use mx_invalidation::test_of_key::KeyTest;
+use mx_invalidation::test_of_node::NodeTest;
 use mx_value::namespace::Namespace;
 use mx_value::node::SharedNode;
 use mx_vertices::along::Readers;

@@ -1,6 +1,8 @@
 //! How long kept values take: `mx_memo_bench COUNT` holds so many nodes, each with three keys and three asks, finds each,
 //! edits one key 10,000 times and rolls a tenth back, and prints a line for each with its milliseconds. Without a count it
 //! does nothing.
+//!
+//! Room: checks.
 #![tactic(auto)]
 
 mod held;

@@ -1,5 +1,7 @@
 //! Answers rows over a memo and a store of items. A line of standard input that begins with `#` is written again. `new` begins a new
 //! memo and a new store. Every other line is a row: a word, and behind it what is given. It is written again with its answer.
+//!
+//! Room: checks.
 #![tactic(auto)]
 
 mod answer;

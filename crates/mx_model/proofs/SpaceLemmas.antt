@@ -188,11 +188,3 @@ put_changed text text' path change s new new' spaces d id within made same_space
     let at : slice_get text.spaces s.0 ≡ Some old = slice_get-get_or text.spaces s.0 new within in
     let put = is ∙ ap (λ (z : List SpaceRecord). set z s.0 new') same_spaces ∙ ap (set text.spaces s.0) (same ∙ made old at) in
     same_text text' (with_put text s.0 (change old)) put g i t ∙ sym (at_path text path change s old d id at)
-
--- the paths of a text are known by its index
-pub index_of : (keys : List Path) (lists : List (List SpaceId)) (text : ModelRecord) (tables : List Kinds) → ArePlaced tables text → keys ≡ paths_of text → lists ≡ lists_in keys text.spaces → IsIndexed keys lists tables text
-index_of keys lists text tables x k l = record {
-  paths = k;
-  bases = l ∙ ap (λ (ps : List Path). lists_in ps text.spaces) k;
-  placed = x;
-}

@@ -54,6 +54,7 @@ pub(crate) fn index_of(alloc: Global, kept: &Kept<'_>, spaces: &Spaces) -> Resul
     shared_index(alloc, paths, lists)
 }
 
+/// An index of these paths and bases.
 fn shared_index(alloc: Global, paths: Keys<Path>, lists: BaseLists) -> Result<Index, AllocError>
     ensures paths { IfOk result (λ i. i.paths ≡ paths) }
     ensures lists { IfOk result (λ i. i.lists ≡ lists) }

@@ -1,4 +1,6 @@
 //! The model text: what a model is made of, and what each key leads to in it.
+//!
+//! Room: model text.
 #![tactic(auto)]
 
 pub mod address;

@@ -10,7 +10,7 @@ use crate::text::ModelText;
 use mx_c3::lists::Order;
 use mx_c3::space::SpaceId;
 use mx_code::compiled::CompiledParams;
-use mx_hashed::hashed::Hashed;
+use mx_list::hashed::Hashed;
 use mx_value::label::Label;
 
 /// What layers bind a name to.

@@ -7,7 +7,7 @@ ghost use Rattle.mx_model.specs.Readers.{cells_of, name_at, or_false};
 
 use mx_code::compiled::{Compiled, CompiledParams};
 use mx_edit::reference::RefValue;
-use mx_hashed::hashed::Hashed;
+use mx_list::hashed::Hashed;
 use mx_list::list::List;
 use mx_list::shared::Shared;
 use mx_members::members::Members;

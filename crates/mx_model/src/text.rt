@@ -19,7 +19,7 @@ use mx_c3::space::SpaceId;
 use mx_code::compiled::CompiledParams;
 use mx_edit::reference::RefValue;
 use mx_edit::table::Table;
-use mx_hashed::hashed::Hashed;
+use mx_list::hashed::Hashed;
 use mx_list::list::List;
 use mx_list::shared::Shared;
 use mx_members::chunks::Chunks;

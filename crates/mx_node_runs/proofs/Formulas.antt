@@ -30,12 +30,12 @@ use Rattle.mx_code_law.specs.States as law
 use Rattle.mx_code_law.specs.Laws.{begun}
 use Rattle.mx_code_law.specs.Machine.{Does}
 use Rattle.mx_code_law.proofs.Formulas.{cells_do, items_do}
-use Rattle.mx_reading.specs.Seen.{Seen, with_key}
+use Rattle.mx_read_set.specs.Seen.{Seen, with_key}
 use Rattle.mx_stack.specs.Flight.{Flight}
-use Rattle.mx_names.specs.declared.ending.Ending.TheVariants as ending
-use Rattle.mx_names.specs.declared.home.Home.{Home}
-use Rattle.mx_names.specs.declared.home.Work.TheVariants as work
-use Rattle.mx_names.specs.Homes.{home_of}
+use Rattle.mx_lookup.specs.declared.ending.Ending.TheVariants as ending
+use Rattle.mx_lookup.specs.declared.home.Home.{Home}
+use Rattle.mx_lookup.specs.declared.home.Work.TheVariants as work
+use Rattle.mx_lookup.specs.Homes.{home_of}
 use Rattle.mx_node_runs.specs.declared.halt.Halt.{Halt}
 use Rattle.mx_node_runs.specs.declared.halt.Halt.TheVariants as halt
 use Rattle.mx_node_runs.specs.Begins.{Enters}

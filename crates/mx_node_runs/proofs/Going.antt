@@ -7,12 +7,12 @@ use Rattle.mx_edit.specs.declared.key.KeyResult.{KeyResult}
 use Rattle.mx_runs.specs.Runs.{Model, Run, Looks}
 use Rattle.mx_suspended.specs.Recorded.{Stays, PastLook}
 use Rattle.mx_suspended.proofs.Standing.{past_then}
-use Rattle.mx_reading.specs.Seen.{Seen, added, with_key}
-use Rattle.mx_steps.proofs.Adding.{adds}
+use Rattle.mx_read_set.specs.Seen.{Seen, added, with_key}
+use Rattle.mx_interpreter.proofs.Adding.{adds}
 use Rattle.mx_node_runs.specs.declared.halt.Halt.{Halt}
 use Rattle.mx_code_law.specs.States.{State}
 use Rattle.mx_node_runs.specs.Halts.{GoesOn, HaltsAt}
-use Rattle.mx_steps.specs.Runs.{recorded}
+use Rattle.mx_interpreter.specs.Runs.{recorded}
 
 module _ (model : Model) where
   -- it stays where it is

@@ -7,10 +7,10 @@ use Rattle.mx_edit.specs.declared.key.KeyResult.{KeyResult}
 use Rattle.mx_edit.specs.declared.reply.Reply.{Reply}
 use Rattle.mx_runs.specs.Runs.{Model, Run, Ends, Asks, Looks}
 use Rattle.mx_code_law.specs.States.{State}
-use Rattle.mx_reading.specs.Seen.{Seen, with_key}
+use Rattle.mx_read_set.specs.Seen.{Seen, with_key}
 use Rattle.mx_stack.specs.Flight.{Flight}
-use Rattle.mx_names.specs.declared.ending.Ending.{Ending}
-use Rattle.mx_names.specs.Endings.{ending_of}
+use Rattle.mx_lookup.specs.declared.ending.Ending.{Ending}
+use Rattle.mx_lookup.specs.Endings.{ending_of}
 use Rattle.mx_node_runs.specs.declared.halt.Halt.{Halt}
 use Rattle.mx_node_runs.specs.declared.halt.Halt.TheVariants as halt
 use Rattle.mx_node_runs.specs.declared.halt.Waiting.{Waiting}

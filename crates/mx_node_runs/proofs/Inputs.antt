@@ -14,7 +14,7 @@ use Rattle.mx_runs.specs.Inputs.{is_static}
 use Rattle.mx_runs.specs.Runs.{Run, Looks}
 use Rattle.mx_meaning.specs.Laws.{model_of}
 use Rattle.mx_meaning.specs.Nodes.{body, cells_run, input_or}
-use Rattle.mx_reading.specs.Seen.{Seen, with_key}
+use Rattle.mx_read_set.specs.Seen.{Seen, with_key}
 use Rattle.mx_node_runs.specs.Behind.{after_input}
 use Rattle.mx_node_runs.specs.Halts.{GoesOn}
 use Rattle.mx_node_runs.proofs.Going.{looked, stays}

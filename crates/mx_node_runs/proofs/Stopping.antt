@@ -6,14 +6,14 @@ use Rattle.mx_code.specs.declared.code.Code.{Code}
 use Rattle.mx_code.specs.Told.{told}
 use Rattle.mx_code_law.specs.States.{State}
 use Rattle.mx_code_law.specs.Machine.{Does}
-use Rattle.mx_reading.specs.Seen.{Seen}
-use Rattle.mx_names.specs.declared.ending.Ending.{Ending}
-use Rattle.mx_names.specs.declared.home.Home.{Home}
-use Rattle.mx_names.specs.Homes.{home_of}
-use Rattle.mx_steps.specs.declared.stepped.Resume.{Resume}
-use Rattle.mx_steps.specs.declared.stepped.Stop.{Stop}
-use Rattle.mx_steps.specs.declared.stepped.Stop.TheVariants as stop
-use Rattle.mx_steps.specs.Runs.{RunsTo}
+use Rattle.mx_read_set.specs.Seen.{Seen}
+use Rattle.mx_lookup.specs.declared.ending.Ending.{Ending}
+use Rattle.mx_lookup.specs.declared.home.Home.{Home}
+use Rattle.mx_lookup.specs.Homes.{home_of}
+use Rattle.mx_interpreter.specs.declared.stepped.Resume.{Resume}
+use Rattle.mx_interpreter.specs.declared.stepped.Stop.{Stop}
+use Rattle.mx_interpreter.specs.declared.stepped.Stop.TheVariants as stop
+use Rattle.mx_interpreter.specs.Runs.{RunsTo}
 use Rattle.mx_node_runs.specs.declared.halt.Halt.TheVariants as halt
 use Rattle.mx_node_runs.specs.declared.halt.Waiting.TheVariants as waiting
 use Rattle.mx_node_runs.specs.Halts.{HaltsAt}

@@ -13,14 +13,14 @@ use Rattle.mx_meaning.specs.Nodes.{body}
 use Rattle.mx_meaning.specs.Walks.{entered, walked_from}
 use Rattle.mx_code.specs.Told.{told as told_code}
 use Rattle.mx_code_law.specs.Machine.{Does}
-use Rattle.mx_reading.specs.Seen.{Seen}
+use Rattle.mx_read_set.specs.Seen.{Seen}
 use Rattle.mx_stack.specs.Flight.{Flight, on_top}
-use Rattle.mx_names.specs.declared.ending.Ending.TheVariants as ending
-use Rattle.mx_names.specs.Homes.{home_of}
+use Rattle.mx_lookup.specs.declared.ending.Ending.TheVariants as ending
+use Rattle.mx_lookup.specs.Homes.{home_of}
 use Rattle.mx_walks.specs.declared.walks.Walked.{Walked}
 use Rattle.mx_walks.specs.Ways.{Leading, begun_way, resumed_way, leading_run, told}
 use Rattle.mx_walks.proofs.Leading.{run_walks, run_walks_on}
-use Rattle.mx_steps.specs.Runs.{recorded, resumed}
+use Rattle.mx_interpreter.specs.Runs.{recorded, resumed}
 use Rattle.mx_node_runs.specs.declared.halt.Halt.{Halt}
 use Rattle.mx_node_runs.specs.declared.halt.Halt.TheVariants as halt
 use Rattle.mx_node_runs.specs.declared.halt.InCode.{InCode}

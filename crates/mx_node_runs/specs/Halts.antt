@@ -9,11 +9,11 @@ use Rattle.mx_meaning.specs.Walks.{entered, walked_from}
 use Rattle.mx_code.specs.Told.{told}
 use Rattle.mx_code_law.specs.States.{State}
 use Rattle.mx_code_law.specs.Machine.{Does}
-use Rattle.mx_reading.specs.Seen.{Seen}
+use Rattle.mx_read_set.specs.Seen.{Seen}
 use Rattle.mx_stack.specs.Flight.{Flight, idle}
-use Rattle.mx_names.specs.Endings.{ending_of}
-use Rattle.mx_names.specs.Homes.{home_of}
-use Rattle.mx_steps.specs.Runs.{recorded, resumed}
+use Rattle.mx_lookup.specs.Endings.{ending_of}
+use Rattle.mx_lookup.specs.Homes.{home_of}
+use Rattle.mx_interpreter.specs.Runs.{recorded, resumed}
 use Rattle.mx_node_runs.specs.Behind.{behind}
 use Rattle.mx_node_runs.specs.declared.halt.Waiting.{Waiting}
 use Rattle.mx_node_runs.specs.declared.halt.Waiting.TheVariants as waiting

@@ -2,19 +2,19 @@
 ghost use Rattle.std.specs.Prelude.{◌≡◌, IfOk, OnOk};
 ghost use Rattle.mx_code.specs.Told.{told};
 ghost use Rattle.mx_code_law.specs.Machine.{Does};
-ghost use Rattle.mx_names.specs.Homes.{home_of};
+ghost use Rattle.mx_lookup.specs.Homes.{home_of};
 ghost use Rattle.mx_runs.specs.Runs.{Run};
 ghost use Rattle.mx_state.specs.Model.{model_of};
 ghost use Rattle.mx_node_runs.specs.Halts.{HaltsAt};
 
 use crate::halt::{Halt, InCode, Waiting};
 use mx_code::code::Code;
+use mx_interpreter::run::run_code;
+use mx_interpreter::stepped::Stop;
 use mx_list::shared::Shared;
-use mx_names::home::Home;
-use mx_reading::seen::Seen;
+use mx_lookup::home::Home;
+use mx_read_set::seen::Seen;
 use mx_stack::stack::Stack;
-use mx_steps::run::run_code;
-use mx_steps::stepped::Stop;
 use mx_world::world::World;
 use std::alloc::{AllocError, Global};
 

@@ -1,10 +1,10 @@
 //! Where the run of a node halts, and how it goes on from there.
 use mx_code::code::Code;
+use mx_interpreter::stepped::Resume;
 use mx_list::shared::Shared;
-use mx_names::ending::Ending;
-use mx_names::home::Home;
+use mx_lookup::ending::Ending;
+use mx_lookup::home::Home;
 use mx_stack::rest::Onward;
-use mx_steps::stepped::Resume;
 use mx_value::node::SharedNode;
 
 /// How a run goes on with the reply of the node that it asks.

@@ -8,7 +8,7 @@ ghost use Rattle.mx_node_runs.specs.Behind.{after_input};
 ghost use Rattle.mx_node_runs.specs.Halts.{GoesOn};
 
 use mx_edit::key::Key;
-use mx_reading::seen::Seen;
+use mx_read_set::seen::Seen;
 use mx_value::node::{Node, SharedNode};
 use mx_value::value::{Segment, Value};
 use mx_world::world::World;

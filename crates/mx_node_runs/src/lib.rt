@@ -1,4 +1,6 @@
 //! The run of a node: from its beginning, or from an answer, to its end or its next ask.
+//!
+//! Room: machine.
 #![tactic(auto)]
 
 mod arguments;

@@ -10,7 +10,7 @@ use Rattle.mx_ops.specs.declared.number.Pair.{Pair}
 use Rattle.mx_ops.specs.declared.number.Pair.TheVariants.{Wholes, Mixed}
 use Rattle.mx_ops.specs.declared.number.Arithmetic.{Arithmetic}
 use Rattle.mx_ops.specs.declared.number.Arithmetic.TheVariants as arithmetic
-use Rattle.mx_op.specs.declared.op.Op.TheVariants as op
+use Rattle.mx_syntax.specs.declared.op.Op.TheVariants as op
 use Rattle.mx_ops.specs.declared.order.Comparison.{Comparison}
 use Rattle.mx_ops.specs.declared.order.Comparison.TheVariants as comparison
 use Rattle.mx_ops.specs.Kinds.{Content, items_in, bytes_in, items_of, bytes_of}

@@ -2,8 +2,8 @@
 use Rattle.std.proofs.Common.{◌≡◌, ◌<◌, List, [], ◌∷◌, length, Err, refl, arith}
 use Rattle.mx_value.specs.declared.value.Value.{Value}
 use Rattle.mx_value.specs.declared.fault.FaultKind.TheVariants.{TypeMismatch}
-use Rattle.mx_op.specs.declared.op.Op.{Op}
-use Rattle.mx_op.specs.declared.op.Op.TheVariants as op
+use Rattle.mx_syntax.specs.declared.op.Op.{Op}
+use Rattle.mx_syntax.specs.declared.op.Op.TheVariants as op
 use Rattle.mx_ops.specs.Table.{gives}
 
 pub nullary : (o : Op) → (o ≡ op.Tuple → ⊥) → gives o [] ≡ Err TypeMismatch

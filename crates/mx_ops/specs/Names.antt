@@ -3,8 +3,8 @@ use Rattle.std.specs.Prelude.{◌≡◌, ℕ, ◌==◌, if◌then◌else◌, Lis
 use Rattle.std.specs.Cmp.Lexicographic.{pointwise}
 use Rattle.mx_ops.specs.declared.builtin.Builtin.{Builtin}
 use Rattle.mx_ops.specs.declared.builtin.Builtin.TheVariants as made
-use Rattle.mx_op.specs.declared.op.Op.{Op}
-use Rattle.mx_op.specs.declared.op.Op.TheVariants as op
+use Rattle.mx_syntax.specs.declared.op.Op.{Op}
+use Rattle.mx_syntax.specs.declared.op.Op.TheVariants as op
 
 abbrev pub name_of : Builtin → List ℕ
 name_of made.Abs = codes "abs"

@@ -5,8 +5,8 @@ use Rattle.std.specs.List.{list_any}
 use Rattle.mx_value.specs.declared.value.Value.{Value}
 use Rattle.mx_value.specs.declared.value.Value.TheVariants.{Flag, Int, Text, Tup}
 use Rattle.mx_value.specs.declared.fault.FaultKind.{FaultKind}
-use Rattle.mx_op.specs.declared.op.Op.{Op}
-use Rattle.mx_op.specs.declared.op.Op.TheVariants as op
+use Rattle.mx_syntax.specs.declared.op.Op.{Op}
+use Rattle.mx_syntax.specs.declared.op.Op.TheVariants as op
 use Rattle.mx_ops.specs.declared.number.Arithmetic.{Arithmetic}
 use Rattle.mx_ops.specs.declared.number.Arithmetic.TheVariants as arithmetic
 use Rattle.mx_ops.specs.declared.order.Comparison.{Comparison}

@@ -13,7 +13,7 @@ use crate::range::make_range;
 use crate::tuple::pick;
 use crate::unary::apply_to_one;
 use mx_list::items::Items;
-use mx_op::op::Op;
+use mx_syntax::op::Op;
 use mx_value::value::Value;
 use std::alloc::Global;
 

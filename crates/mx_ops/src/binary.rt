@@ -17,7 +17,7 @@ use crate::range::make_range;
 use crate::text::join_texts;
 use crate::tuple::{join_tuples, pick};
 use crate::whole::compute_wholes;
-use mx_op::op::Op;
+use mx_syntax::op::Op;
 use mx_value::value::Value;
 use std::alloc::Global;
 

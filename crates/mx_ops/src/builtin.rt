@@ -3,7 +3,7 @@ ghost use Rattle.std.specs.Prelude.{◌≡◌};
 ghost use Rattle.mx_ops.specs.Names as spec;
 ghost use Rattle.mx_ops.specs.Names.{NamesAreFound, FoundByName};
 
-use mx_op::op::Op;
+use mx_syntax::op::Op;
 
 /// A function that a formula can always call.
 #[derive(Clone, Copy, Debug, PartialEq, Eq, Hash, Drop)]

@@ -1,4 +1,6 @@
 //! What operators give: a table of rows over all kinds of values, and the calls that go by it.
+//!
+//! Room: operators.
 #![tactic(auto)]
 
 pub mod answer;

@@ -17,7 +17,7 @@ use crate::range::make_range;
 use crate::text::text_of;
 use crate::truth::{all_true, any_true, truth};
 use crate::tuple::{pick, sum};
-use mx_op::op::Op;
+use mx_syntax::op::Op;
 use mx_value::copies::copy_items;
 use mx_value::fault::FaultKind;
 use mx_value::value::Value;

@@ -1,10 +1,12 @@
 //! How long an operator takes: `mx_ops_bench COUNT` times sums, products and comparisons of whole and of decimal numbers,
 //! and prints a line for each with the nanoseconds of one, those of the loop that makes its operands taken off. Without a
 //! count it does nothing.
+//!
+//! Room: checks.
 #![tactic(auto)]
 
-use mx_op::op::Op;
 use mx_ops::apply::apply;
+use mx_syntax::op::Op;
 use mx_value::fixed::Fixed;
 use mx_value::value::Value;
 use std::alloc::Global;

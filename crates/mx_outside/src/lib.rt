@@ -5,6 +5,8 @@
 //! the count rose in that very call. What a source has left and what a sink has taken are told as lists of bytes, and
 //! what files hold as a finite map, where the form knows them, as those in memory do; the real standard input and output
 //! and the real files do not tell them.
+//!
+//! Room: foundations.
 #![tactic(auto)]
 
 mod files;

@@ -15,3 +15,5 @@ pub mod ListedLoops
 pub mod FormulaLoops
 pub mod Limiting
 pub mod Languages
+pub mod Openings
+mod LongTexts

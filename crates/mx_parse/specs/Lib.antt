@@ -9,3 +9,4 @@ pub mod Insides
 pub mod Formulas
 pub mod FormulaLimits
 pub mod FewLoops
+pub mod Openings

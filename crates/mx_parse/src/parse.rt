@@ -21,6 +21,7 @@ ghost use Rattle.mx_parse.specs.Formulas.{formula_text, params_text};
 ghost use Rattle.mx_parse.specs.FormulaLimits.{expression_limits, formula_limits, params_limits};
 
 use crate::formula::{formula, space_params};
+use crate::limits::{are_params_long, is_formula_long};
 use crate::loops::{expression_within, list_within, maybe_within};
 use crate::statement::Inside;
 use mx_expression::expression::expression;
@@ -31,7 +32,6 @@ use mx_grammar::source::{open, refusal};
 use mx_grammar::trouble::Trouble;
 use mx_grammar::word::{Symbol, Word};
 use mx_grammar::{address, literal};
-use mx_lengths::limits::{are_params_long, is_formula_long};
 use mx_lex::Token;
 use mx_syntax::expr::Expr;
 use mx_syntax::stmt::{Formula, Params};

@@ -1,4 +1,6 @@
 //! The table of all static paths of a model text, with the layers of each.
+//!
+//! Room: model text.
 #![tactic(auto)]
 
 pub mod child;

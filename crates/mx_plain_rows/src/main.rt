@@ -1,6 +1,8 @@
 //! Answers rows over the plain projections. A line of standard input that begins with `#` is written again. Every other line is a row:
 //! a product, a policy in units of 10^-9, and behind `at` the months whose rows are wanted. It is written again with its answer: a line
 //! for each of these months, and one with the present values, or the refusal.
+//!
+//! Room: checks.
 #![tactic(auto)]
 
 mod answer;

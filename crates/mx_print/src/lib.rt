@@ -1,4 +1,6 @@
 //! The printed text of formulas, parameter lists, values and nodes.
+//!
+//! Room: language.
 #![tactic(auto)]
 
 pub mod append;

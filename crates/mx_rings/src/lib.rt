@@ -1,4 +1,6 @@
 //! Rings of spaces: from each space one comes to its children and to its bases.
+//!
+//! Room: model text.
 #![tactic(auto)]
 
 mod links;

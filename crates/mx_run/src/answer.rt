@@ -7,8 +7,8 @@ ghost use Rattle.mx_run.specs.Session.{Answers};
 ghost use Rattle.mx_run.specs.Transcript.{Wrote};
 
 use mx_engine::engine::Engine;
+use mx_frames::steps::Steps;
 use mx_outside::{Sink, WriteFailure, write_whole};
-use mx_turns::steps::Steps;
 use std::alloc::{AllocError, Global};
 use std::sync::ledger::Ledger;
 

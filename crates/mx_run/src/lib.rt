@@ -1,5 +1,7 @@
 //! A script of commands from its source to its sink: its lines, the commands that they make, and
 //! the block that answers each one.
+//!
+//! Room: engine and scripts.
 #![tactic(auto)]
 
 mod answer;

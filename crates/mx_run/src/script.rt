@@ -5,8 +5,8 @@ ghost use Rattle.mx_run.specs.Statuses.{HasRun, outside};
 
 use crate::session::Session;
 use crate::stop::{Stop, stop_of};
+use mx_frames::steps::Steps;
 use mx_outside::{Sink, Source};
-use mx_turns::steps::Steps;
 use std::alloc::Global;
 use std::mem;
 use std::sync::ledger::{Blank, Ledger};

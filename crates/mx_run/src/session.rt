@@ -8,8 +8,8 @@ use crate::answer::Interpreter;
 use crate::line::line_end;
 use crate::stop::{Stop, stop_of};
 use crate::take::{Pending, finish_commands, take_line};
+use mx_frames::steps::Steps;
 use mx_outside::{Sink, WriteFailure};
-use mx_turns::steps::Steps;
 use std::alloc::{AllocError, Global};
 use std::sync::ledger::Ledger;
 

@@ -10,8 +10,8 @@ ghost use Rattle.mx_run.specs.Session.{Answers, TakesLine, pending_of, command_o
 
 use crate::answer::Interpreter;
 use crate::line::{blank, continues, strip_cr};
+use mx_frames::steps::Steps;
 use mx_outside::{Sink, WriteFailure};
-use mx_turns::steps::Steps;
 use mx_words::table::{WORDS, takes_lines};
 use mx_words::text::strip_spaces;
 use std::alloc::{AllocError, Global};

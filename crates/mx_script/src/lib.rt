@@ -1,4 +1,6 @@
 //! The commands of a script: what the text of a command says.
+//!
+//! Room: engine and scripts.
 #![tactic(auto)]
 
 mod command;

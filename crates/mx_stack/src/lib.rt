@@ -1,4 +1,6 @@
 //! The stack on which formulas run, and what each instruction does to it.
+//!
+//! Room: machine.
 #![tactic(auto)]
 
 pub mod callee;

@@ -4,3 +4,9 @@ pub mod Waiting
 pub mod Deep
 pub mod Ends
 pub mod Steps
+mod Prefixes
+mod Guarded
+mod Carried
+mod Walks
+mod Nodes
+mod Waits

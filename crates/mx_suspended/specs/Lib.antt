@@ -2,3 +2,4 @@ pub mod Recorded
 pub mod Flights
 pub mod Ended
 pub mod Laws
+pub mod ItemsFirst

@@ -1,4 +1,6 @@
 //! Tests of public calls, above the crates that they test, so that no proof is made twice for tests.
+//!
+//! Room: checks.
 #![tactic(auto)]
 
 #[cfg(test)]

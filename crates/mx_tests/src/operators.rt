@@ -2,13 +2,13 @@
 //! is compared with Python by tools/operator_vectors.py.
 
 use crate::said::{Reader, compare};
-use mx_op::op::Op;
 use mx_ops::apply::apply;
 use mx_ops::builtin::{Builtin, builtin_of};
 use mx_ops::op::OpRefusal;
 use mx_parse::parse_literal;
 use mx_print::append::push;
 use mx_print::value::push_value;
+use mx_syntax::op::Op;
 use mx_value::fault::FaultKind;
 use mx_value::value::Value;
 use std::alloc::{AllocError, Global};

@@ -1,5 +1,7 @@
 //! The texts of values, addresses, nodes and reads, of why evaluations, edits, sources, tables and commands are refused, and
 //! of the blocks that answer the commands of a script.
+//!
+//! Room: engine and scripts.
 #![tactic(auto)]
 
 pub mod address;

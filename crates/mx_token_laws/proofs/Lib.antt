@@ -4,3 +4,8 @@ pub mod Refusals
 pub mod Dedents
 pub mod Places
 pub mod Reading
+pub mod Spans
+pub mod Turns
+pub mod Fronts
+pub mod Complete
+pub mod Whole

@@ -1,4 +1,6 @@
 //! The values of the engine: what cells hold, and the names, addresses and nodes that lead to them.
+//!
+//! Room: foundations.
 #![tactic(auto)]
 
 pub mod copies;

@@ -4,9 +4,9 @@ ghost use Rattle.std.specs.Prelude.{◌≡◌, IfOk};
 use crate::copies::copy_items;
 use crate::label::Label;
 use crate::value::{Addr, Value};
-use mx_hashed::shared_key::SharedKey;
 use mx_list::items::Items;
 use mx_list::list::List;
+use mx_list::shared_key::SharedKey;
 use std::alloc::{AllocError, Global};
 
 /// The names of a defined or derived space, from the top.

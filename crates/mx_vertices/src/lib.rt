@@ -1,5 +1,7 @@
 //! Held nodes and the keys that they look up as vertices of one graph of reads: their slots and places, the tables that find
 //! them, holding, and walks along what they read.
+//!
+//! Room: kept values.
 #![tactic(auto)]
 
 pub mod along;

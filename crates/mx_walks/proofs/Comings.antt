@@ -14,8 +14,8 @@ use Rattle.mx_code_law.specs.States.{State, Home, Next, Look as Looks, Fault}
 use Rattle.mx_code_law.specs.Finding.{Again, Place, walked_next}
 use Rattle.mx_code_law.specs.Calling.{arguments_next, cells_asked_next, cells_called_next, space_called_next, space_sought_next}
 use Rattle.mx_stack.specs.Came.{Continues}
-use Rattle.mx_reading.specs.Seen.{Seen}
-use Rattle.mx_reading.specs.Passed.{passed}
+use Rattle.mx_read_set.specs.Seen.{Seen}
+use Rattle.mx_read_set.specs.Passed.{passed}
 use Rattle.mx_walks.specs.Ways.{Look, Leading, walked_way, leading_next, told}
 use Rattle.mx_walks.specs.Calls.{Coming, Comes}
 use Rattle.mx_walks.specs.declared.called.Called.{Called}

@@ -9,7 +9,7 @@ use Rattle.mx_value.specs.declared.value.Segment.TheFolds.{para-roll-Value}
 use Rattle.mx_value.specs.declared.value.Segment.TheViews.{roll-out-Value}
 use Rattle.mx_value.specs.declared.fault.FaultKind.TheVariants.{TypeMismatch}
 use Rattle.mx_value.specs.Normal.{number_of}
-use Rattle.mx_op.specs.declared.op.Op.TheVariants as op
+use Rattle.mx_syntax.specs.declared.op.Op.TheVariants as op
 use Rattle.mx_ops.specs.Kinds.{Content, bytes_of}
 use Rattle.mx_ops.specs.Numbers.{whole_of}
 use Rattle.mx_ops.specs.Table.{gives}

@@ -16,8 +16,8 @@ use Rattle.mx_meaning.specs.Walks.{Onward, entered, item_entered, stepped, walke
 use Rattle.mx_suspended.specs.Recorded.{Recorded, GoesPast, Stays, PastTest}
 use Rattle.mx_code_law.specs.States.{Next}
 use Rattle.mx_code_law.specs.Finding.{Again, Place, item_next, step_next, walk_next, begun_next, resumed_next, walked_next}
-use Rattle.mx_reading.specs.Seen.{Seen}
-use Rattle.mx_reading.specs.Passed.{passed}
+use Rattle.mx_read_set.specs.Seen.{Seen}
+use Rattle.mx_read_set.specs.Passed.{passed}
 use Rattle.mx_walks.specs.Ways.{Look, Leading, item_way, step_way, way_of, begun_way, resumed_way, walked_way, leading_next, leading_run}
 
 -- ---- instructions

@@ -4,8 +4,8 @@ use Rattle.mx_value.specs.declared.value.Value.{Value}
 use Rattle.mx_runs.specs.Runs.{NoSuch, WrongCount}
 use Rattle.mx_code_law.specs.States.{State, Home, Next, On, End, Ask, Fault}
 use Rattle.mx_code_law.specs.Finding.{Again}
-use Rattle.mx_reading.specs.Seen.{Seen}
-use Rattle.mx_reading.specs.Passed.{passed}
+use Rattle.mx_read_set.specs.Seen.{Seen}
+use Rattle.mx_read_set.specs.Passed.{passed}
 use Rattle.mx_walks.specs.Ways.{Look}
 use Rattle.mx_walks.specs.declared.called.Called.{Called}
 use Rattle.mx_walks.specs.declared.called.Called.TheVariants as called

@@ -8,8 +8,8 @@ use Rattle.mx_meaning.specs.Walks.{Onward, entered, walked, walked_from}
 use Rattle.mx_suspended.specs.Recorded.{Recorded, GoesPast}
 use Rattle.mx_code_law.specs.States.{Next}
 use Rattle.mx_code_law.specs.Finding.{Again, Place, walked_next}
-use Rattle.mx_reading.specs.Seen.{Seen}
-use Rattle.mx_reading.specs.Passed.{passed}
+use Rattle.mx_read_set.specs.Seen.{Seen}
+use Rattle.mx_read_set.specs.Passed.{passed}
 use Rattle.mx_walks.specs.Ways.{Look, begun_way, resumed_way, walked_way, leading_next, leading_run}
 
 -- an instruction goes on as its walk leads; what a walk tests is nothing that its run has read

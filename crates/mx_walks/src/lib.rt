@@ -1,4 +1,6 @@
 //! Walks of addresses, calls and subscripts over a world.
+//!
+//! Room: machine.
 #![tactic(auto)]
 
 pub mod called;

@@ -15,7 +15,7 @@ use crate::walks::{Walked, walk};
 use mx_edit::key::Key;
 use mx_list::items::Items;
 use mx_ops::op::OpRefusal;
-use mx_reading::seen::Seen;
+use mx_read_set::seen::Seen;
 use mx_stack::functions::bind_arguments;
 use mx_stack::walks::Way;
 use mx_syntax::stmt::Param;

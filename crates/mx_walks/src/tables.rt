@@ -15,7 +15,7 @@ use mx_edit::key::Key;
 use mx_edit::table::Table;
 use mx_ops::number::whole_of;
 use mx_ops::op::OpRefusal;
-use mx_reading::seen::Seen;
+use mx_read_set::seen::Seen;
 use mx_value::fault::FaultKind;
 use mx_value::fixed::Fixed;
 use mx_value::label::Label;

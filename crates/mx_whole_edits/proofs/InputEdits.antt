@@ -20,7 +20,7 @@ use Rattle.mx_model.specs.Inputs.{path_of, cells_params, fits, without_unfit}
 use Rattle.mx_model.specs.Change.{bound_at, change, bound_edit}
 use Rattle.mx_model.specs.Refused.{do_not_bind, lacks_cells, record_trouble}
 use Rattle.mx_model.specs.Valid.{InputsFit}
-use Rattle.mx_inputs.proofs.KeptInputs.{filter_all}
+use Rattle.mx_whole_edits.proofs.KeptInputs.{filter_all}
 use Rattle.mx_changes.proofs.Free.{free_of}
 use Rattle.mx_whole_edits.specs.Whole.{is_of_input}
 use Rattle.mx_whole_edits.proofs.Free.{unused_of}

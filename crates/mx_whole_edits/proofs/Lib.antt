@@ -11,3 +11,4 @@ pub mod ReadyLemmas
 pub mod SameSpaces
 pub mod TextSizes
 pub mod WholeLemmas
+pub mod KeptInputs

@@ -1,4 +1,8 @@
 //! Edits of a model text, whole but for the walk over its static paths.
+//!
+//! Room: model text.
 #![tactic(auto)]
 
+pub mod fitting;
+pub mod unfit;
 pub mod whole;

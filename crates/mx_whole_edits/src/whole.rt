@@ -10,11 +10,11 @@ ghost use Rattle.mx_whole_edits.specs.Whole.{IsAccepted, IsApplied, EditsAreWhol
 ghost use Rattle.mx_model.specs.Literals.{IsRead};
 ghost use Rattle.mx_whole_edits.specs.Ready.{IsReady, KeepsReady, ReadyIsValid, ValidIsReady};
 
+use crate::unfit::without_unfit;
 use mx_apply::counts::over;
 use mx_apply::edits::with_edit;
 use mx_edit::edit::Edit;
 use mx_edit::refusal::EditRefusal;
-use mx_inputs::unfit::without_unfit;
 use mx_list::list::List;
 use mx_model::text::ModelText;
 use mx_rings::rings::ring_of;

@@ -1,4 +1,6 @@
 //! The words of commands, the small languages behind them, and the parts of a command that are in them.
+//!
+//! Room: engine and scripts.
 #![tactic(auto)]
 
 pub mod command;

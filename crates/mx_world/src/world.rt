@@ -23,7 +23,7 @@ use mx_c3::space::SpaceId;
 use mx_code::compiled::CompiledParams;
 use mx_edit::reference::RefValue;
 use mx_edit::table::Table;
-use mx_hashed::hashed::Hashed;
+use mx_list::hashed::Hashed;
 use mx_list::shared::Shared;
 use mx_model::lookup::{Binding, first_params, lookup_by};
 use mx_model::text::ModelText;

@@ -1,5 +1,5 @@
 use Rattle.std.proofs.Common.{◌≡◌, ◌-◌, sym, ◌∙◌}
-use Rattle.mx_entries.specs.Entries.{entries_of}
+use Rattle.mx_memo_laws.specs.Entries.{entries_of}
 use Rattle.mx_engine.proofs.Kept.{sound_same}
 use Rattle.mx_engine.proofs.Read.{reads_told, first_again, nothing_told}
 use Rattle.mx_engine.proofs.evaluating.read.Goals as goal

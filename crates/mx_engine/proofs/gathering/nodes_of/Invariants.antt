@@ -1,6 +1,6 @@
 use Rattle.std.proofs.Common.{◌≡◌, drop, map}
 use Rattle.mx_vertices.specs.Reading.{id_at}
-use Rattle.mx_entries.specs.Entries.{nodes_under}
+use Rattle.mx_memo_laws.specs.Entries.{nodes_under}
 use Rattle.mx_engine.specs.Gathering.{gathered_on, gathered}
 use Rattle.mx_engine.proofs.gathering.nodes_of.Given as goal
 

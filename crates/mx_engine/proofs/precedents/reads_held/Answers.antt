@@ -2,7 +2,7 @@ use Rattle.std.proofs.Common.{◌≡◌, List, subst}
 use Rattle.mx_value.specs.declared.node.Node.{Node}
 use Rattle.mx_value.specs.declared.read.Read.{Read}
 use Rattle.mx_vertices.specs.Found.{IsHeldAs}
-use Rattle.mx_entries.specs.Entries.{entries_of}
+use Rattle.mx_memo_laws.specs.Entries.{entries_of}
 use Rattle.mx_engine.specs.Precedents.{AreHeldReads}
 use Rattle.mx_engine.proofs.ReadHeld.{in_ok, held_reads}
 use Rattle.mx_engine.proofs.precedents.reads_held.Goals as goal

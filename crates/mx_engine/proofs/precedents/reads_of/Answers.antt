@@ -1,7 +1,7 @@
 use Rattle.std.proofs.Common.{◌≡◌, List, [], Option, subst}
 use Rattle.mx_value.specs.declared.node.Node.{Node}
 use Rattle.mx_value.specs.declared.read.Read.{Read}
-use Rattle.mx_entries.specs.Entries.{entries_of}
+use Rattle.mx_memo_laws.specs.Entries.{entries_of}
 use Rattle.mx_machine.specs.States.{state_of}
 use Rattle.mx_state.specs.Evaluations.{HasBoundForm}
 use Rattle.mx_engine.specs.Precedents.{AreReadBy, AreHeldReads}

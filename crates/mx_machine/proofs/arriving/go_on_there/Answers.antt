@@ -3,12 +3,12 @@ use Rattle.std.proofs.lemmas.Result.{err_from_is_err_and}
 use Rattle.mx_value.specs.declared.node.Node.{Node}
 use Rattle.mx_value.specs.declared.refusal.EvalRefusal.TheVariants as refusal
 use Rattle.mx_edit.specs.declared.reply.Reply.{Reply}
-use Rattle.mx_bound.specs.declared.walking.Led.TheVariants as led
+use Rattle.mx_binding.specs.declared.walking.Led.TheVariants as led
 use Rattle.mx_state.specs.Evaluations.{IsAsked}
 use Rattle.mx_state.specs.Model.{model_of}
-use Rattle.mx_turns.specs.Flights.{IsSoundWith}
-use Rattle.mx_turns.specs.declared.runs.Frame.{Frame}
-use Rattle.mx_turns.proofs.HeldLast.{grown_same}
+use Rattle.mx_frames.specs.Flights.{IsSoundWith}
+use Rattle.mx_frames.specs.declared.runs.Frame.{Frame}
+use Rattle.mx_frames.proofs.HeldLast.{grown_same}
 use Rattle.mx_machine.proofs.Entering.{asked_new, enters_sound, for_asked, over_forgotten, over_gone, over_replied, over_same, over_unmade}
 use Rattle.mx_machine.proofs.InOrder.{asks_in_order}
 use Rattle.mx_machine.proofs.arriving.go_on_there.Goals as goal

@@ -5,11 +5,11 @@ use Rattle.mx_value.specs.declared.node.Node.{Node}
 use Rattle.mx_value.specs.declared.read.Read.TheVariants as read
 use Rattle.mx_edit.specs.declared.reply.Reply.{Reply}
 use Rattle.mx_vertices.specs.Found.{IsHeldAs}
-use Rattle.mx_reading.specs.Seen.{with_read}
-use Rattle.mx_entries.proofs.Growing.{grown_from_itself}
+use Rattle.mx_read_set.specs.Seen.{with_read}
+use Rattle.mx_memo_laws.proofs.Growing.{grown_from_itself}
 use Rattle.mx_stack.specs.Flight.{Flight}
 use Rattle.mx_state.specs.Model.{model_of}
-use Rattle.mx_bound.specs.Walking.{LeadsFurther}
+use Rattle.mx_binding.specs.Walking.{LeadsFurther}
 use Rattle.mx_machine.proofs.InOrder.{asks_in_order}
 use Rattle.mx_machine.proofs.Items.{broken, drives_alone, is_item, right_then, too_deep, unmade, unmade_then, walks_on}
 use Rattle.mx_machine.proofs.behind.pass_item.Goals as goal

@@ -1,9 +1,9 @@
 use Rattle.std.proofs.Common.{◌≡◌, ◌+◌, ℕ, suc, Ok, Err, inl, inr, refl, sym, subst, arith}
 use Rattle.std.proofs.lemmas.Result.{err_from_is_err_and}
-use Rattle.mx_entries.proofs.Growing.{grown_from_itself}
+use Rattle.mx_memo_laws.proofs.Growing.{grown_from_itself}
 use Rattle.mx_state.specs.Model.{model_of}
-use Rattle.mx_bound.specs.declared.walking.Led.{Led}
-use Rattle.mx_bound.specs.declared.walking.Led.TheVariants as led
+use Rattle.mx_binding.specs.declared.walking.Led.{Led}
+use Rattle.mx_binding.specs.declared.walking.Led.TheVariants as led
 use Rattle.mx_machine.specs.Behind.{IsWalking}
 use Rattle.mx_machine.proofs.Entering.{over_lost_item, over_no_such, over_unmade, over_wrong_count}
 use Rattle.mx_machine.proofs.OnWay.{first_on_way, waiting_has_item}

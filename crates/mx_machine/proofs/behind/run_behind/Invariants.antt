@@ -1,7 +1,7 @@
 use Rattle.std.proofs.Common.{◌≤◌, []}
-use Rattle.mx_entries.specs.Laws.{HasGrown}
+use Rattle.mx_memo_laws.specs.Laws.{HasGrown}
 use Rattle.mx_state.specs.Model.{model_of}
-use Rattle.mx_turns.specs.Flights.{IsSound}
+use Rattle.mx_frames.specs.Flights.{IsSound}
 use Rattle.mx_machine.specs.Behind.{IsWalking}
 use Rattle.mx_machine.proofs.behind.run_behind.Given as goal
 

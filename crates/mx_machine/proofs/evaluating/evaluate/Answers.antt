@@ -2,8 +2,8 @@ use Rattle.std.proofs.Common.{◌∙◌, ◌-◌, ap, subst}
 use Rattle.mx_value.specs.declared.node.Node.{Node}
 use Rattle.mx_edit.specs.declared.reply.Reply.{Reply}
 use Rattle.mx_state.specs.Model.{model_of}
-use Rattle.mx_passing.specs.Known.{IsFound, IsKnownAs}
-use Rattle.mx_passing.specs.declared.known.Known.{Known}
+use Rattle.mx_frames.specs.Known.{IsFound, IsKnownAs}
+use Rattle.mx_frames.specs.declared.known.Known.{Known}
 use Rattle.mx_machine.specs.Closing.{HasClosed}
 use Rattle.mx_machine.specs.Settings.{evaluation_of}
 use Rattle.mx_machine.proofs.Answered.{closed_input, closed_held}

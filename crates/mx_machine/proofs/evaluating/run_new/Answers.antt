@@ -1,8 +1,8 @@
 use Rattle.std.proofs.Common.{◌∙◌, Ok, Err, ap}
 use Rattle.std.proofs.lemmas.Result.{err_from_is_err_and}
 use Rattle.mx_edit.specs.declared.reply.Reply.{Reply}
-use Rattle.mx_entries.proofs.Growing.{grown_from_itself}
-use Rattle.mx_turns.specs.Flights.{first_of}
+use Rattle.mx_memo_laws.proofs.Growing.{grown_from_itself}
+use Rattle.mx_frames.specs.Flights.{first_of}
 use Rattle.mx_stack.specs.Flight.{Flight}
 use Rattle.mx_machine.proofs.Beginning.{drove_alone}
 use Rattle.mx_machine.proofs.Over.{over_broken, over_given, over_lost}

@@ -2,8 +2,8 @@ use Rattle.std.proofs.Common.{sym, subst}
 use Rattle.mx_value.specs.declared.node.Node.{Node}
 use Rattle.mx_state.specs.Evaluations.{IsAsked}
 use Rattle.mx_state.specs.Model.{model_of}
-use Rattle.mx_bound.specs.declared.settled.Settled.{Settled}
-use Rattle.mx_bound.specs.Settles.{Settles}
+use Rattle.mx_binding.specs.declared.settled.Settled.{Settled}
+use Rattle.mx_binding.specs.Settles.{Settles}
 use Rattle.mx_machine.proofs.Asked.{asked_bound, asked_no_such, asked_wrong_count}
 use Rattle.mx_machine.proofs.seeking.asked_in.Goals as goal
 

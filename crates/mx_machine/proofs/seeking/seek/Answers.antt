@@ -3,8 +3,8 @@ use Rattle.mx_value.specs.declared.node.Node.{Node}
 use Rattle.mx_state.specs.Evaluations.{IsAsked}
 use Rattle.mx_state.specs.Model.{model_of}
 use Rattle.mx_state.specs.Proper.{address_of}
-use Rattle.mx_bound.specs.declared.walking.Led.{Led}
-use Rattle.mx_bound.specs.Walking.{Address, IsLed}
+use Rattle.mx_binding.specs.declared.walking.Led.{Led}
+use Rattle.mx_binding.specs.Walking.{Address, IsLed}
 use Rattle.mx_machine.proofs.Asked.{refused_no_such, refused_wrong_count}
 use Rattle.mx_machine.proofs.seeking.seek.Goals as goal
 

@@ -3,8 +3,8 @@ use Rattle.mx_value.specs.declared.label.Label.{Label}
 use Rattle.mx_edit.specs.declared.key.Key.TheVariants as key
 use Rattle.mx_model.specs.Keys.{key_result}
 use Rattle.mx_meaning.specs.Laws.{model_of}
-use Rattle.mx_names.specs.declared.ending.Ending.TheVariants as ending
-use Rattle.mx_reading.specs.Seen.{with_key}
+use Rattle.mx_lookup.specs.declared.ending.Ending.TheVariants as ending
+use Rattle.mx_read_set.specs.Seen.{with_key}
 use Rattle.mx_node_runs.specs.declared.halt.Halt.TheVariants as halt
 use Rattle.mx_node_runs.specs.Begins.{Begins}
 use Rattle.mx_node_runs.proofs.Halting.{of_both, of_seen}

@@ -6,7 +6,7 @@ use Rattle.mx_edit.specs.declared.key.Key.TheVariants as key
 use Rattle.mx_edit.specs.declared.key.KeyResult.TheVariants as found
 use Rattle.mx_model.specs.Keys.{key_result}
 use Rattle.mx_runs.specs.Inputs.{is_static}
-use Rattle.mx_reading.specs.Seen.{Seen, with_key}
+use Rattle.mx_read_set.specs.Seen.{Seen, with_key}
 use Rattle.mx_node_runs.proofs.Inputs.{Gives, of_item, not_static, sought}
 use Rattle.mx_node_runs.proofs.input.find_input.Goals as goal
 

@@ -6,8 +6,8 @@ use Rattle.mx_meaning.specs.Laws.{model_of}
 use Rattle.mx_meaning.specs.Namespaces.{ends_with_name}
 use Rattle.mx_meaning.specs.Nodes.{item_made, item_run}
 use Rattle.mx_meaning.specs.Walks.{bound_or_refused}
-use Rattle.mx_names.specs.declared.ending.Ending.TheVariants as ending
-use Rattle.mx_reading.specs.Seen.{with_key}
+use Rattle.mx_lookup.specs.declared.ending.Ending.TheVariants as ending
+use Rattle.mx_read_set.specs.Seen.{with_key}
 use Rattle.mx_node_runs.specs.declared.halt.Halt.TheVariants as halt
 use Rattle.mx_node_runs.proofs.Halting.{from_seen, of_one, of_seen}
 use Rattle.mx_node_runs.proofs.Formulas.{no_name, no_params, with_params}

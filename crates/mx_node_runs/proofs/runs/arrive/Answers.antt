@@ -1,6 +1,6 @@
 use Rattle.std.proofs.Common.{ap, refl}
 use Rattle.mx_meaning.specs.Walks.{entered, walked_from}
-use Rattle.mx_names.specs.declared.ending.Ending.TheVariants as ending
+use Rattle.mx_lookup.specs.declared.ending.Ending.TheVariants as ending
 use Rattle.mx_state.specs.Model.{model_of}
 use Rattle.mx_walks.specs.declared.walks.Walked.{Walked}
 use Rattle.mx_walks.specs.Ways.{leading_run, told}

@@ -7,7 +7,7 @@ use Rattle.mx_meaning.specs.Nodes.{body}
 use Rattle.mx_state.specs.Model.{model_of}
 use Rattle.mx_walks.specs.Ways.{begun_way, told}
 use Rattle.mx_node_runs.specs.Behind.{address_of, after_input}
-use Rattle.mx_names.specs.declared.ending.Ending.TheVariants as ending
+use Rattle.mx_lookup.specs.declared.ending.Ending.TheVariants as ending
 use Rattle.mx_node_runs.specs.declared.halt.Halt.TheVariants as halt
 use Rattle.mx_node_runs.specs.Halts.{GoesOn, HaltsAt}
 use Rattle.mx_node_runs.proofs.Halting.{of_one}

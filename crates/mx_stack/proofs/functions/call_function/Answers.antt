@@ -1,6 +1,6 @@
 use Rattle.std.proofs.Common.{subst}
 use Rattle.std.proofs.lemmas.Option.{IfSome_then}
-use Rattle.mx_op.specs.declared.op.Op.{Op}
+use Rattle.mx_syntax.specs.declared.op.Op.{Op}
 use Rattle.mx_ops.specs.Answers.{Answers}
 use Rattle.mx_ops.specs.Names.{op_of}
 use Rattle.mx_ops.specs.Table.{gives}

@@ -1,6 +1,6 @@
 use Rattle.std.proofs.Common.{List, [], ◌∙◌, ap}
 use Rattle.mx_vertices.specs.Kept.{Kept}
-use Rattle.mx_entries.specs.Entries.{entries_of}
+use Rattle.mx_memo_laws.specs.Entries.{entries_of}
 use Rattle.mx_state.specs.State.{State}
 use Rattle.mx_engine.proofs.Emptied.{all_dropped}
 use Rattle.mx_engine.proofs.Kept.{sound_empty}

@@ -2,7 +2,7 @@ use Rattle.std.proofs.Common.{◌≡◌, List, map, sym, ◌∙◌, ap, subst}
 use Rattle.mx_graph.specs.declared.ids.NodeId.{NodeId}
 use Rattle.mx_vertices.specs.Reading.{id_at}
 use Rattle.mx_memo.specs.Memos.{AreHeld}
-use Rattle.mx_entries.specs.Entries.{nodes_under}
+use Rattle.mx_memo_laws.specs.Entries.{nodes_under}
 use Rattle.mx_state.specs.State.{State}
 use Rattle.mx_engine.specs.Gathering.{gathered}
 use Rattle.mx_engine.specs.Successors.{AreSuccessors}

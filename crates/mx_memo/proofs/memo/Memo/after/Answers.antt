@@ -1,8 +1,8 @@
 use Rattle.std.proofs.Common.{List, Option, subst}
 use Rattle.mx_graph.specs.declared.ids.NodeId.{NodeId}
-use Rattle.mx_drops.specs.Stamps.{NoneFrom, IsFirstFrom, NoneAfter, IsNextAfter}
+use Rattle.mx_invalidation.specs.Stamps.{NoneFrom, IsFirstFrom, NoneAfter, IsNextAfter}
 use Rattle.mx_memo.specs.Memos.{Memory}
-use Rattle.mx_drops.proofs.Stamping.{none_after, next_after}
+use Rattle.mx_invalidation.proofs.Stamping.{none_after, next_after}
 use Rattle.mx_vertices.proofs.Table.{map_match}
 use Rattle.mx_memo.proofs.memo.Memo.after.Goals as goal
 

@@ -5,7 +5,7 @@ use Rattle.mx_vertices.specs.declared.slot.Slot.{Slot}
 use Rattle.mx_vertices.specs.Kept.{entries}
 use Rattle.mx_vertices.specs.Live.{AreLive}
 use Rattle.mx_vertices.specs.Walks.{keys_read, AreHeldKeys}
-use Rattle.mx_drops.proofs.HeldKeys.{all_held}
+use Rattle.mx_invalidation.proofs.HeldKeys.{all_held}
 use Rattle.mx_memo.specs.Memos.{Memory}
 use Rattle.mx_memo.proofs.memo.Memo.all_keys.Goals as goal
 

@@ -1,6 +1,6 @@
 use Rattle.std.proofs.Common.{◌∙◌, length, ap, sym}
 use Rattle.mx_memo.specs.Memos.{Memory}
-use Rattle.mx_drops.proofs.Keeping.{entries_length}
+use Rattle.mx_invalidation.proofs.Keeping.{entries_length}
 use Rattle.mx_memo.proofs.memo.Memo.count.Goals as goal
 
 pub returns : goal.returns

@@ -4,7 +4,7 @@ use Rattle.std.specs.HashMap.{get as look_up}
 use Rattle.mx_value.specs.Equality.{node_eq}
 use Rattle.mx_memo.specs.Memos.{Memory}
 use Rattle.mx_vertices.proofs.Begun.{begun_same}
-use Rattle.mx_drops.proofs.Keeping.{entries_length}
+use Rattle.mx_invalidation.proofs.Keeping.{entries_length}
 use Rattle.mx_vertices.proofs.Reading.{held_node}
 use Rattle.mx_memo.proofs.memo.Memo.drop_node.Goals as goal
 

@@ -13,7 +13,7 @@ use Rattle.mx_vertices.specs.Places.{held_in}
 use Rattle.mx_vertices.specs.Kept.{IsHeld, IsWhole}
 use Rattle.mx_memo.specs.Memos.{IsLast, Memory}
 use Rattle.mx_memo.proofs.Last.{no_more, same_front}
-use Rattle.mx_drops.proofs.Keeping.{entries_length}
+use Rattle.mx_invalidation.proofs.Keeping.{entries_length}
 use Rattle.mx_vertices.proofs.Reading.{held_node}
 use Rattle.mx_vertices.proofs.Sources.{push_length}
 use Rattle.mx_edit.specs.Equality.{key_eq}

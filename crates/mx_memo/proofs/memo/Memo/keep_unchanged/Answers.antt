@@ -3,7 +3,7 @@ use Rattle.std.specs.HashMap.{get as look_up}
 use Rattle.mx_value.specs.Equality.{node_eq}
 use Rattle.mx_memo.specs.Memos.{Memory}
 use Rattle.mx_vertices.proofs.Begun.{begun_same}
-use Rattle.mx_drops.proofs.Keeping.{entries_length}
+use Rattle.mx_invalidation.proofs.Keeping.{entries_length}
 use Rattle.mx_memo.proofs.memo.Memo.keep_unchanged.Goals as goal
 
 pub overflow_sub-result : goal.overflow_sub-result

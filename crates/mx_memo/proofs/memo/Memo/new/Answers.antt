@@ -8,7 +8,7 @@ use Rattle.mx_value.specs.Equality.{node_eq}
 use Rattle.mx_vertices.specs.declared.standing.Standing.TheVariants.{Ended}
 use Rattle.mx_vertices.specs.Found.{AreBegun, AreDistinct}
 use Rattle.mx_vertices.proofs.Begun.{none_begun}
-use Rattle.mx_drops.proofs.Keeping.{whole_empty}
+use Rattle.mx_invalidation.proofs.Keeping.{whole_empty}
 use Rattle.mx_edit.specs.Equality.{key_eq}
 use Rattle.mx_vertices.proofs.Watching.{watched_none}
 use Rattle.mx_memo.proofs.memo.Memo.new.Goals as goal

@@ -4,12 +4,12 @@ use Rattle.mx_graph.specs.declared.ids.NodeId.{NodeId}
 use Rattle.mx_value.specs.Equality.{node_eq}
 use Rattle.mx_vertices.specs.Places.{IsSettled, held_in}
 use Rattle.mx_vertices.specs.Kept.{entries, IsWhole}
-use Rattle.mx_drops.specs.Stamps.{renumbered}
+use Rattle.mx_invalidation.specs.Stamps.{renumbered}
 use Rattle.mx_vertices.specs.Found.{IsFound}
 use Rattle.mx_memo.specs.Memos.{Memory}
-use Rattle.mx_drops.proofs.Keeping.{entries_length}
-use Rattle.mx_drops.proofs.Settling.{taken}
-use Rattle.mx_drops.proofs.Settled.{entries_alike, entries_taken, alike_found, count_taken, length_taken, order_once, order_there, order_settled, found_taken, right_alike, watched_alike}
+use Rattle.mx_invalidation.proofs.Keeping.{entries_length}
+use Rattle.mx_invalidation.proofs.Settling.{taken}
+use Rattle.mx_invalidation.proofs.Settled.{entries_alike, entries_taken, alike_found, count_taken, length_taken, order_once, order_there, order_settled, found_taken, right_alike, watched_alike}
 use Rattle.mx_edit.specs.Equality.{key_eq}
 use Rattle.mx_memo.proofs.memo.Memo.renumber.Goals as goal
 

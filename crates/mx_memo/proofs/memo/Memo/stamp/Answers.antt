@@ -2,11 +2,11 @@ use Rattle.std.proofs.Common.{◌≡◌, ◌∙◌, ◌<◌, ◌+◌, List, Some
 use Rattle.mx_vertices.specs.declared.slot.Slot.{Slot}
 use Rattle.mx_vertices.specs.Places.{slot_at, node_place}
 use Rattle.mx_vertices.specs.Kept.{IsHeld, IsNode}
-use Rattle.mx_drops.specs.Stamps.{IsHeldSince}
+use Rattle.mx_invalidation.specs.Stamps.{IsHeldSince}
 use Rattle.mx_memo.specs.Memos.{Memory}
 use Rattle.mx_vertices.proofs.Places.{at_below}
 use Rattle.mx_vertices.proofs.Reading.{held_node}
-use Rattle.mx_drops.proofs.Stamping.{held_since}
+use Rattle.mx_invalidation.proofs.Stamping.{held_since}
 use Rattle.mx_memo.proofs.memo.Memo.stamp.Goals as goal
 
 pub prove-unreachable-requires : goal.prove-unreachable-requires

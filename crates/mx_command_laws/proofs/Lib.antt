@@ -1,0 +1,10 @@
+pub mod Words
+pub mod Literals
+pub mod Expressions
+pub mod Statements
+pub mod Formulas
+pub mod Nodes
+pub mod Commands
+mod EditLiterals
+mod Defaults
+mod EditCommands

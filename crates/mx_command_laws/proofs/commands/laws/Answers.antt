@@ -1,0 +1,5 @@
+use Rattle.mx_command_laws.proofs.Commands.{commands_are_proper}
+use Rattle.mx_command_laws.proofs.commands.laws.Goals as goal
+
+pub returns : goal.returns
+returns c = commands_are_proper

@@ -1,5 +1,0 @@
-//! Worked examples over the definitions of formulas, as theorems, and the rules that they are proved by: for each form, by
-//! which events it comes to what it gives.
-#![tactic(auto)]
-
-pub mod rows;

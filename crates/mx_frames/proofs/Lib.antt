@@ -1,0 +1,13 @@
+pub mod Looped
+pub mod Standing
+pub mod Flown
+pub mod Waits
+pub mod Waiting
+pub mod HeldLast
+pub mod Gives
+pub mod Handing
+pub mod Ended
+pub mod Sound
+pub mod Stepping
+pub mod Asks
+pub mod Passes

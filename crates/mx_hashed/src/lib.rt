@@ -1,5 +1,0 @@
-//! Keys beside their hashes.
-#![tactic(auto)]
-
-pub mod hashed;
-pub mod shared_key;

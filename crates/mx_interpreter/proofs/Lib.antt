@@ -1,0 +1,9 @@
+pub mod Adding
+pub mod Opened
+pub mod Past
+pub mod Values
+pub mod Walks
+pub mod Steps
+pub mod Codes
+pub mod Plainly
+pub mod Joining

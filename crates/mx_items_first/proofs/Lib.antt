@@ -1,6 +1,0 @@
-mod Prefixes
-mod Guarded
-mod Carried
-mod Walks
-mod Nodes
-mod Waits

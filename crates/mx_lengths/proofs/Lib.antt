@@ -1,2 +1,0 @@
-pub mod Openings
-mod LongTexts

@@ -1,5 +1,0 @@
-use Rattle.mx_lengths.proofs.Openings.{few_openings}
-use Rattle.mx_lengths.proofs.bytes.few_openings.Goals as goal
-
-pub returns : goal.returns
-returns c = few_openings

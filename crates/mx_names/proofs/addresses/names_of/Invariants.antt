@@ -1,7 +1,0 @@
-use Rattle.std.proofs.Common.{◌≡◌, drop}
-use Rattle.mx_meaning.specs.Namespaces.{names_of}
-use Rattle.mx_names.proofs.Paths.{prefixed}
-use Rattle.mx_names.proofs.addresses.names_of.Given as goal
-
-abbrev pub invariant-loop-segment : goal.invariant-loop-segment
-invariant-loop-segment l = prefixed l.names.items (names_of (drop l.segment-index l.segment-items)) ≡ names_of l.segment-items

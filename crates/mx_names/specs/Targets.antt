@@ -1,6 +1,0 @@
--- What a target stands for, as the meaning has it.
-use Rattle.mx_meaning.specs.References.{Target as Meant}
-use Rattle.mx_names.specs.declared.targets.Target.{Target}
-
-abbrev pub target_meant : Target → Meant
-target_meant t = record { at = t.at; path = t.path }

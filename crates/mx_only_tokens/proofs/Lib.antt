@@ -1,5 +1,0 @@
-pub mod Spans
-pub mod Turns
-pub mod Fronts
-pub mod Complete
-pub mod Whole

@@ -1,7 +1,0 @@
-//! A law over the definitions. It is proved as what a function ensures that does nothing.
-ghost use Rattle.mx_proper_commands.specs.Laws.{CommandsAreProper};
-
-/// A command that a text says has small literals where it is an edit, and a proper node where it is an evaluation.
-pub fn laws()
-    ensures { CommandsAreProper }
-{}

@@ -1,6 +1,0 @@
-pub mod Words
-pub mod Literals
-pub mod Expressions
-pub mod Statements
-pub mod Formulas
-pub mod Nodes

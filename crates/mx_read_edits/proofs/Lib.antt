@@ -1,3 +1,0 @@
-mod Literals
-mod Defaults
-mod Commands

@@ -1,4 +1,0 @@
-//! What the texts of commands say of edits: the formulas that they define have literals as defaults.
-#![tactic(auto)]
-
-pub mod laws;

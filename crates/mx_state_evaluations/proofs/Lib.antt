@@ -1,9 +1,0 @@
-mod Entries
-mod Products
-mod Choice
-mod Inherited
-mod Fixed
-mod Lost
-mod Circles
-mod Failing
-mod ItemRing

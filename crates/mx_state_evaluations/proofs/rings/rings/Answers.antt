@@ -1,5 +1,0 @@
-use Rattle.mx_state_evaluations.proofs.Circles.{item_asks_itself, cells_ask_each_other, mended_ring}
-use Rattle.mx_state_evaluations.proofs.rings.rings.Goals as goal
-
-pub returns : goal.returns
-returns c = record { item_asks_itself = item_asks_itself; cells_ask_each_other = cells_ask_each_other; mended_ring = mended_ring }

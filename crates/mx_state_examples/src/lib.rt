@@ -1,0 +1,8 @@
+//! Worked examples over model texts, as theorems.
+//!
+//! Room: checks.
+#![tactic(auto)]
+
+pub mod evaluations;
+pub mod rings;
+pub mod rows;

@@ -1,8 +1,0 @@
-pub mod Halting
-pub mod Rounds
-pub mod Hiding
-pub mod Multiplying
-pub mod Choosing
-pub mod Inheriting
-pub mod Nested
-pub mod Basing

@@ -1,4 +1,0 @@
-//! Worked examples over model texts, as theorems.
-#![tactic(auto)]
-
-pub mod rows;

@@ -1,4 +1,0 @@
-pub mod Flights
-pub mod Rings
-pub mod Giving
-pub mod Driving
