@@ -10,7 +10,7 @@ ratio comes only where the values are the same. `parse`, `crowded` and `written`
 and 16 MB of them. `policies`, `beside` and `derived` have spaces, item spaces and decimal numbers, `series` keeps 150,000 values, `deep`
 is one chain of calls, `loops` one loop, and `million` sums over generators. Machines are noisy: read the ratios, not the
 times. The last lines, `--only operators`, give the nanoseconds of an operator on its own, as mx_ops_bench measures them, and
-`--only memo` the times and the bytes of a million kept nodes, as mx_memo_bench makes them.
+`--only memo` the times and the bytes of a million kept nodes, as mx_memo_rows makes them.
 """
 import argparse
 import os
@@ -24,7 +24,7 @@ HERE = os.path.dirname(os.path.abspath(__file__))
 CRATES = os.path.join(os.path.dirname(HERE), "crates")
 PROGRAM = os.path.join(CRATES, "mx_cli", "out", "mx_cli")
 OPERATORS = os.path.join(CRATES, "mx_ops_bench", "out", "mx_ops_bench")
-MEMO = os.path.join(CRATES, "mx_memo_bench", "out", "mx_memo_bench")
+MEMO = os.path.join(CRATES, "mx_memo_rows", "out", "mx_memo_rows")
 
 
 def grid(cells, depth, rounds):
@@ -215,7 +215,7 @@ def operators(runs):
 
 
 def memo(count):
-    """What mx_memo_bench prints for so many nodes, and the memory that a node takes, some bytes of it the program's own."""
+    """What mx_memo_rows prints for so many nodes, and the memory that a node takes, some bytes of it the program's own."""
     with tempfile.TemporaryDirectory() as folder:
         out = os.path.join(folder, "out")
         _, status, memory = run_beside([MEMO, str(count)], os.devnull, out)
@@ -246,7 +246,7 @@ def main():
         if os.access(MEMO, os.X_OK):
             print(memo(1_000_000), end="")
         else:
-            print("memo: not built: rt run in crates/mx_memo_bench")
+            print("memo: not built: rt run in crates/mx_memo_rows")
 
 
 if __name__ == "__main__":

@@ -1,6 +1,7 @@
 //! The nodes and keys that are measured.
 ghost use Rattle.std.specs.Prelude.{◌≡◌, IfSome};
 
+use crate::edits::Edited;
 use mx_edit::key::Key;
 use mx_edit::reply::Reply;
 use mx_list::items::Items;
@@ -24,8 +25,6 @@ pub struct Parts {
     reads: Reads,
     /// The three keys of each node.
     pub keys: Vec<Key>,
-    /// A reference of the model that no node looks up.
-    pub edited: Label,
 }
 
 fn label(alloc: Global, bytes: &[u8]) -> Option<Label> {
@@ -49,6 +48,13 @@ fn space(alloc: Global, name: &[u8], is_item: bool) -> Option<Addr> {
     List::from_vec(alloc, segments).ok()
 }
 
+/// An edit of a reference of the model that no node looks up.
+pub fn unread_edit(alloc: Global) -> Option<Edited> {
+    let name = label(alloc, b"z")?;
+    let inputs = Vec::new(alloc);
+    Some(Edited { name, inputs })
+}
+
 impl Parts {
     pub fn new(alloc: Global) -> Option<Parts> {
         let main = path(alloc, b"Main")?;
@@ -63,7 +69,6 @@ impl Parts {
             item_space: space(alloc, b"S", true)?,
             reads: List::empty(alloc).ok()?,
             keys,
-            edited: label(alloc, b"z")?,
             cells,
         })
     }

@@ -1,9 +1,9 @@
 use Rattle.std.proofs.Common.{◌≡◌, List, [], ◌∷◌, ◌++◌, ap, subst, Vec, Global, ◌∙◌, inl, inr}
 use Rattle.mx_graph.specs.declared.ids.NodeId.{NodeId}
 use Rattle.mx_vertices.specs.Places.{Has}
-use Rattle.mx_memo_bench.proofs.Recent.{has_or_last}
-use Rattle.mx_memo_bench.proofs.held.remember.Goals.{Joined-len-ge5, then-len-ge5, else-len-ge5}
-use Rattle.mx_memo_bench.proofs.held.remember.Goals as goal
+use Rattle.mx_memo_rows.proofs.Recent.{has_or_last}
+use Rattle.mx_memo_rows.proofs.held.remember.Goals.{Joined-len-ge5, then-len-ge5, else-len-ge5}
+use Rattle.mx_memo_rows.proofs.held.remember.Goals as goal
 
 -- what was there before is all that is left
 left : (c : Joined-len-ge5) (x : NodeId) → Has c.if-len-ge5.recent.items x → Has c.args.recent.now.items x

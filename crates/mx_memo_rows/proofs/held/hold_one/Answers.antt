@@ -3,8 +3,8 @@ use Rattle.mx_graph.specs.declared.ids.NodeId.{NodeId}
 use Rattle.mx_vertices.specs.Places.{Has}
 use Rattle.mx_vertices.specs.Kept.{IsHeld}
 use Rattle.mx_memo.specs.Memos.{Memory}
-use Rattle.mx_memo_bench.proofs.Recent.{still_held}
-use Rattle.mx_memo_bench.proofs.held.hold_one.Goals as goal
+use Rattle.mx_memo_rows.proofs.Recent.{still_held}
+use Rattle.mx_memo_rows.proofs.held.hold_one.Goals as goal
 
 pub hold-requires-clause-asks : goal.hold-requires-clause-asks
 hold-requires-clause-asks c id h =

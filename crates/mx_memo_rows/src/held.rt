@@ -1,15 +1,13 @@
-//! What is done with a memo.
+//! What is measured of a memo.
 ghost use Rattle.std.specs.Prelude.{◌≡◌, ◌⊎◌};
 ghost use Rattle.mx_graph.specs.declared.ids.NodeId.{NodeId as Id};
 ghost use Rattle.mx_vertices.specs.Places.{Has};
 ghost use Rattle.mx_memo.specs.Memos.{AreHeld};
 
+use crate::edits::Edited;
 use crate::nodes::Parts;
-use mx_edit::key::Key;
 use mx_graph::NodeId;
-use mx_memo::{KeyTest, Memo};
-use mx_value::label::Label;
-use mx_value::node::SharedNode;
+use mx_memo::Memo;
 use std::alloc::Global;
 
 /// Puts an id behind others, of which there are up to four.
@@ -71,39 +69,11 @@ pub fn find_all(alloc: Global, parts: &Parts, memo: &Memo, count: u32) -> u32 {
     found
 }
 
-/// An edit that changes a reference of the model.
-#[derive(Drop)]
-pub struct Edited<'k> {
-    pub name: &'k Label,
-}
-
-impl<'k> KeyTest for Edited<'k> {
-    ghost use Rattle.mx_memo_bench.specs.Edited.{is_global};
-
-    ghost changed = { λ s. is_global s.name.now };
-
-    fn is_changed(&self, key: &Key) -> bool {
-        match key {
-            Key::Global(name) => *name == *self.name,
-            Key::Input(_) => false,
-            Key::Name(_, _) => false,
-            Key::Cells(_, _) => false,
-            Key::Params(_) => false,
-            Key::Exists(_) => false,
-            Key::Table(_) => false,
-        }
-    }
-
-    fn changed_inputs(&self) -> &[SharedNode] {
-        &[]
-    }
-}
-
-/// How many nodes are dropped by so many edits of a reference.
-pub fn edit_often(memo: &mut Memo, name: &Label, times: u32) -> u32 {
+/// How many nodes are dropped by so many edits.
+pub fn edit_often(memo: &mut Memo, edited: &Edited, times: u32) -> u32 {
     let mut dropped = 0u32;
     for _ in 0..times {
-        dropped = dropped.wrapping_add(memo.keep_unchanged(&Edited { name }));
+        dropped = dropped.wrapping_add(memo.keep_unchanged(edited));
     }
     dropped
 }
