@@ -3,11 +3,10 @@
 //! Room: engine and scripts.
 #![tactic(auto)]
 
-mod host;
 mod sure;
 mod top;
 
-use host::{HostSink, HostSource};
+use mx_host::{HostSink, HostSource};
 use std::alloc::AllocError;
 use std::process::ExitCode;
 use std::{env, io};

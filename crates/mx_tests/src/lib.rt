@@ -14,6 +14,8 @@ mod formulas;
 #[cfg(test)]
 mod generated;
 #[cfg(test)]
+mod host;
+#[cfg(test)]
 mod keys;
 #[cfg(test)]
 mod names;
