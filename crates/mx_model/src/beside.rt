@@ -1,6 +1,8 @@
 //! What a text keeps beside its spaces: their paths and bases by place.
-ghost use Rattle.std.specs.Prelude.{◌≡◌, ◌<◌, ◌^◌, Some, length, map, slice_get, IfOk, IfSome, IsTrue, ◌↔◌};
+ghost use Rattle.std.specs.Prelude.{◌≡◌, ◌<◌, ◌^◌, [], ◌∷◌, Some, length, map, slice_get, IfOk, OnOk, IfSome, IsTrue, ◌↔◌};
 ghost use Rattle.std.specs.List.{filter_map};
+ghost use Rattle.indexmap.specs.IndexSet.{insert_key};
+ghost use Rattle.mx_value.specs.Name.{same_path};
 ghost use Rattle.mx_c3.specs.Lists.{Distinct};
 ghost use Rattle.mx_model.specs.Records.{Path as Names, SpaceRecord};
 ghost use Rattle.mx_model.specs.Indexed.{AreAll, AreBeside, IsFront};
@@ -43,50 +45,29 @@ pub(crate) fn copy_index(
     Ok(Index { paths, lists })
 }
 
-/// The index of spaces, from what is kept of others.
+/// The index of spaces, from what is kept of others where they begin with the paths of these.
 pub(crate) fn index_of(alloc: Global, kept: &Kept<'_>, spaces: &Spaces) -> Result<Index, AllocError>
     requires kept { AreBeside kept.now.paths.now kept.now.lists.now kept.now.spaces.now }
     requires once { Distinct (map (λ (s : SpaceRecord). s.path) spaces.now) }
     requires few { length spaces.now < 2 ^ 32 }
     ensures { IfOk result (λ i. AreBeside i.paths i.lists spaces.now) }
 {
-    let (paths, lists) = beside(alloc, kept, spaces)?;
-    shared_index(alloc, paths, lists)
-}
-
-/// An index of these paths and bases.
-fn shared_index(alloc: Global, paths: Keys<Path>, lists: BaseLists) -> Result<Index, AllocError>
-    ensures paths { IfOk result (λ i. i.paths ≡ paths) }
-    ensures lists { IfOk result (λ i. i.lists ≡ lists) }
-{
-    let paths = Shared::new(alloc, paths)?;
-    let lists = Shared::new(alloc, lists)?;
-    Ok(Index { paths, lists })
-}
-
-/// The paths of spaces and the bases of each, from what is kept of other spaces where they begin with the paths of these.
-fn beside(
-    alloc: Global,
-    kept: &Kept<'_>,
-    spaces: &Spaces,
-) -> Result<(Keys<Path>, BaseLists), AllocError>
-    requires kept { AreBeside kept.now.paths.now kept.now.lists.now kept.now.spaces.now }
-    requires once { Distinct (map (λ (s : SpaceRecord). s.path) spaces.now) }
-    requires few { length spaces.now < 2 ^ 32 }
-    ensures { IfOk result (λ both. AreBeside both.0 both.1 spaces.now) }
-{
     if are_first(kept.paths, spaces) {
         let paths = more_paths(alloc, kept.paths, spaces)?;
-        let lists = all_lists(alloc, Some(kept), spaces, &paths)?;
-        return Ok((paths, lists));
+        let lists = all_lists(alloc, Some(kept), spaces, paths.get())?;
+        return Ok(Index { paths, lists });
     }
-    let paths = all_paths(alloc, spaces)?;
-    let lists = all_lists(alloc, None, spaces, &paths)?;
-    return Ok((paths, lists));
+    let paths = Shared::new(alloc, all_paths(alloc, spaces)?)?;
+    let lists = all_lists(alloc, None, spaces, paths.get())?;
+    return Ok(Index { paths, lists });
 }
 
 /// The paths of spaces that begin with these.
-fn more_paths(alloc: Global, before: &Keys<Path>, spaces: &Spaces) -> Result<Keys<Path>, AllocError>
+fn more_paths(
+    alloc: Global,
+    before: &Keys<Path>,
+    spaces: &Spaces,
+) -> Result<Shared<Keys<Path>>, AllocError>
     requires once { Distinct (map (λ (s : SpaceRecord). s.path) spaces.now) }
     requires front { IsFront before.now (map (λ (s : SpaceRecord). s.path) spaces.now) }
     ensures { IfOk result (λ paths. paths ≡ map (λ (s : SpaceRecord). s.path) spaces.now) }
@@ -96,9 +77,17 @@ fn more_paths(alloc: Global, before: &Keys<Path>, spaces: &Spaces) -> Result<Key
         let Some(space) = spaces.get(place) else {
             unreachable!()
         };
-        paths.enter(space.get().path().copy()?)?;
+        enter_copy(&mut paths, space.get().path())?;
     }
-    Ok(paths)
+    Shared::new(alloc, paths)
+}
+
+/// Adds a path behind the others where it is none of them.
+fn enter_copy(paths: &mut Keys<Path>, path: &Path) -> Result<(), AllocError>
+    ensures { OnOk result (paths.new ≡ insert_key same_path paths.old path.now) }
+{
+    let path = path.copy()?;
+    paths.enter(path)
 }
 
 /// Whether the first spaces have these paths.
@@ -151,7 +140,7 @@ fn all_lists(
     kept: Option<&Kept<'_>>,
     spaces: &Spaces,
     paths: &Keys<Path>,
-) -> Result<BaseLists, AllocError>
+) -> Result<Shared<BaseLists>, AllocError>
     requires few { length paths.now < 2 ^ 32 }
     requires kept { IfSome kept (λ k. AreBeside k.now.paths.now k.now.lists.now k.now.spaces.now) }
     requires front { IfSome kept (λ k. IsFront k.now.paths.now paths.now) }
@@ -164,7 +153,7 @@ fn all_lists(
         };
         lists.push(list_of(alloc, kept, place, &space.get().bases, paths)?)?;
     }
-    Ok(lists)
+    Shared::new(alloc, lists)
 }
 
 /// The places of the bases of the space at a place.
@@ -238,4 +227,33 @@ pub(crate) fn id_in(paths: &Keys<Path>, path: &Path) -> Option<SpaceId>
         Some(place) => Some(SpaceId(place as u32)),
         None => None,
     }
+}
+
+/// The index of one space without bases, of this path.
+pub(crate) fn first_index(alloc: Global, path: Path) -> Result<Index, AllocError>
+    ensures paths { IfOk result (λ i. i.paths ≡ path ∷ []) }
+    ensures lists { IfOk result (λ i. i.lists ≡ [] ∷ []) }
+{
+    let paths = one_path(alloc, path)?;
+    let lists = one_list(alloc)?;
+    Ok(Index { paths, lists })
+}
+
+/// This path alone.
+fn one_path(alloc: Global, path: Path) -> Result<Shared<Keys<Path>>, AllocError>
+    ensures { IfOk result (λ paths. paths ≡ path ∷ []) }
+{
+    let mut paths = Keys::new(alloc)?;
+    paths.enter(path)?;
+    Shared::new(alloc, paths)
+}
+
+/// One space without bases.
+fn one_list(alloc: Global) -> Result<Shared<BaseLists>, AllocError>
+    ensures { IfOk result (λ lists. lists ≡ [] ∷ []) }
+{
+    let bases = Order::from_vec(alloc, Vec::new(alloc))?;
+    let mut lists = BaseLists::new(alloc);
+    lists.push(bases)?;
+    Shared::new(alloc, lists)
 }

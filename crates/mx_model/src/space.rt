@@ -5,6 +5,7 @@ ghost use Rattle.std.specs.Map.{lookup};
 ghost use Rattle.mx_value.specs.Name.{same_name};
 ghost use Rattle.mx_model.specs.Readers.{cells_of, name_at, or_false};
 
+use crate::held::no_members;
 use mx_code::compiled::{Compiled, CompiledParams};
 use mx_edit::reference::RefValue;
 use mx_list::hashed::Hashed;
@@ -67,12 +68,14 @@ impl Space {
     pub fn new(alloc: Global, path: Path, bases: List<Path>) -> Result<Space, AllocError>
         ensures { IfOk result (λ s. s ≡ record (empty_space path) { bases = bases }) }
     {
+        let cells = no_members(alloc)?;
+        let references = no_members(alloc)?;
         Ok(Space {
             path,
             bases,
             params: None,
-            cells: Shared::new(alloc, Members::new(alloc)?)?,
-            references: Shared::new(alloc, Members::new(alloc)?)?,
+            cells,
+            references,
         })
     }
 

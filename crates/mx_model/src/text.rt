@@ -9,8 +9,8 @@ ghost use Rattle.mx_model.specs.Lookup.{kind_in};
 ghost use Rattle.mx_model.specs.Indexed.{TellsAt, ArePlaced};
 ghost use Rattle.mx_model.specs.Readers.{path_in, cells_in, formula_in, allows_in, reference_in, params_in, name_at, cells_at, reference_at};
 
-use crate::beside::{Index, copy_index};
-use crate::held::copy_held;
+use crate::beside::{Index, copy_index, first_index};
+use crate::held::{copy_held, no_members, nothing_held};
 use crate::kind::Kind;
 use crate::space::{Cells, Space};
 use crate::spaces::Spaces;
@@ -25,13 +25,11 @@ use mx_list::shared::Shared;
 use mx_members::chunks::Chunks;
 use mx_members::keys::Keys;
 use mx_members::members::Members;
-use mx_members::share::Share;
 use mx_syntax::stmt::{Formula, Params};
 use mx_value::label::Label;
 use mx_value::node::{Node, Path};
 use mx_value::value::Value;
 use std::alloc::{AllocError, Global};
-use std::hash::Hash;
 use std::marker::Model;
 
 /// What a model is made of. Copies share what they are made of. Contracts see its `ModelRecord`.
@@ -74,21 +72,18 @@ impl ModelText {
         ensures { IfOk result (λ t. t ≡ beginning) }
     {
         let path = main_path(alloc)?;
-        let paths = one_path(alloc, path.copy()?)?;
-        let lists = one_list(alloc)?;
-        let globals = no_members(alloc)?;
-        let inputs = no_members(alloc)?;
-        let tables = no_members(alloc)?;
+        let index = first_index(alloc, path.copy()?)?;
+        let held = nothing_held(alloc)?;
         let kinds = one_table(alloc)?;
         let spaces = one_space(alloc, path)?;
         Ok(ModelText {
-            paths,
+            paths: index.paths,
             spaces,
             kinds,
-            lists,
-            globals,
-            inputs,
-            tables,
+            lists: index.lists,
+            globals: held.globals,
+            inputs: held.inputs,
+            tables: held.tables,
         })
     }
 
@@ -398,48 +393,22 @@ fn main_path(alloc: Global) -> Result<Path, AllocError>
     List::from_vec(alloc, names)
 }
 
-/// This path alone.
-fn one_path(alloc: Global, path: Path) -> Result<Shared<Keys<Path>>, AllocError>
-    ensures { IfOk result (λ paths. paths ≡ path ∷ []) }
-{
-    let mut paths = Keys::new(alloc)?;
-    paths.enter(path)?;
-    Shared::new(alloc, paths)
-}
-
-/// No members of a kind.
-fn no_members<K: Eq + Hash + Share, X: Share>(
-    alloc: Global,
-) -> Result<Shared<Members<K, X>>, AllocError>
-    ensures { IfOk result (λ members. members ≡ []) }
-{
-    Shared::new(alloc, Members::new(alloc)?)
-}
-
 /// The empty space of a path alone.
 fn one_space(alloc: Global, path: Path) -> Result<Spaces, AllocError>
     ensures { IfOk result (λ spaces. spaces ≡ empty_space path ∷ []) }
 {
-    let mut spaces = Spaces::new(alloc);
-    let space = Space::new(alloc, path, List::empty(alloc)?)?;
-    spaces.push(alloc, Shared::new(alloc, space)?)?;
-    Ok(spaces)
+    let bases = List::empty(alloc)?;
+    let space = Space::new(alloc, path, bases)?;
+    let none = Spaces::new(alloc);
+    none.with_more(alloc, space)
 }
 
 /// The kinds of one space without members.
 fn one_table(alloc: Global) -> Result<Chunks<Shared<Members<Label, Kind>>>, AllocError>
     ensures { IfOk result (λ kinds. kinds ≡ [] ∷ []) }
 {
+    let table = no_members(alloc)?;
     let mut kinds = Chunks::new(alloc);
-    kinds.push(alloc, Shared::new(alloc, Members::new(alloc)?)?)?;
+    kinds.push(alloc, table)?;
     Ok(kinds)
-}
-
-/// One space without bases.
-fn one_list(alloc: Global) -> Result<Shared<BaseLists>, AllocError>
-    ensures { IfOk result (λ lists. lists ≡ [] ∷ []) }
-{
-    let mut lists = BaseLists::new(alloc);
-    lists.push(Order::from_vec(alloc, Vec::new(alloc))?)?;
-    Shared::new(alloc, lists)
 }

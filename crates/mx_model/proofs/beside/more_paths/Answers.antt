@@ -12,4 +12,4 @@ loop-place-preserved c =
     let i = c.loop-place.place in
     let space = c.in-Some.space.now in
     let is = slice_get-map path spaces i ∙ ap (option_map path) (sym c.in-Some.ensures) in
-    path_more (map path spaces) c.loop-place.paths i space.path c.in_ok-copy.field-0 c.enter.new.self c.requires.once c.loop-place.invariant is (c.in_ok-copy.ensures ∙ c.path.ensures ∙ ap path c.get-in-loop-place.ensures) c.in_ok-enter.ensures.ok
+    path_more (map path spaces) c.loop-place.paths i space.path c.path.result.now c.enter_copy.new.paths c.requires.once c.loop-place.invariant is (c.path.ensures ∙ ap path c.get-in-loop-place.ensures) c.in_ok-enter_copy.ensures
