@@ -4,7 +4,7 @@ pub mod Expressions
 pub mod Statements
 pub mod Formulas
 pub mod Nodes
-pub mod Commands
+pub mod ProperCommands
 mod EditLiterals
 mod Defaults
 mod EditCommands
