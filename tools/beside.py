@@ -81,12 +81,12 @@ def commands_of(script):
 def blocks_of(output):
     """The blocks of an output: a line each, and where it counts reads or succs, so many lines more."""
     lines = output.split(b"\n")[:-1]
-    blocks = []
-    while lines:
-        lists = LISTS.fullmatch(lines[0])
-        count = 1 + (int(lists[1]) if lists else 0)
-        blocks.append(lines[:count])
-        del lines[:count]
+    blocks, at = [], 0
+    while at < len(lines):
+        lists = LISTS.fullmatch(lines[at])
+        end = at + 1 + (int(lists[1]) if lists else 0)
+        blocks.append(lines[at:end])
+        at = end
     return blocks
 
 
@@ -138,7 +138,7 @@ def node_length(text):
     return len(text)
 
 
-def behind_word(text, at):
+def after_word(text, at):
     """Where the next word begins, after the one that begins here."""
     return re.compile(rb"[^ \n]* *").match(text, at).end()
 
@@ -156,7 +156,7 @@ def start_of(text):
     text's first byte, and so do those of commands that have no such part."""
     lead = len(text) - len(text.lstrip(b" "))
     word = re.split(rb"[ \n]", text[lead:], maxsplit=1)[0]
-    at = behind_word(text, lead)
+    at = after_word(text, lead)
     if word in TAKES_LINES:
         opens = text.find(b"(", lead)
         end = len(text) if opens < 0 else opens
