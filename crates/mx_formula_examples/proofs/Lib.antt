@@ -4,6 +4,8 @@ pub mod NodeRules
 pub mod Rounds
 pub mod FormRules
 pub mod LoopRules
+pub mod OperatorRules
 pub mod Worked
 pub mod FurtherWorked
 pub mod LoopWorked
+pub mod FormWorked

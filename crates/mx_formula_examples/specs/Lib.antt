@@ -1,3 +1,4 @@
 pub mod Rows
 pub mod FurtherRows
 pub mod LoopRows
+pub mod FormRows

@@ -1,0 +1,41 @@
+use Rattle.mx_formula_examples.proofs.FormWorked.{powers_from_right, sign_of_power, chain_of_neighbours, chain_ends_early, none_is_none, zero_is_none, zero_is_not_none, or_ends_early, and_ends_early, or_gives_last, and_gives_last, double_not, tuple_from_left}
+use Rattle.mx_formula_examples.proofs.forms.forms.Goals as goal
+
+pub returns-clause-powers_from_right : goal.returns-clause-powers_from_right
+returns-clause-powers_from_right c = powers_from_right
+
+pub returns-clause-sign_of_power : goal.returns-clause-sign_of_power
+returns-clause-sign_of_power c = sign_of_power
+
+pub returns-clause-chain_of_neighbours : goal.returns-clause-chain_of_neighbours
+returns-clause-chain_of_neighbours c = chain_of_neighbours
+
+pub returns-clause-chain_ends_early : goal.returns-clause-chain_ends_early
+returns-clause-chain_ends_early c = chain_ends_early
+
+pub returns-clause-none_is_none : goal.returns-clause-none_is_none
+returns-clause-none_is_none c = none_is_none
+
+pub returns-clause-zero_is_none : goal.returns-clause-zero_is_none
+returns-clause-zero_is_none c = zero_is_none
+
+pub returns-clause-zero_is_not_none : goal.returns-clause-zero_is_not_none
+returns-clause-zero_is_not_none c = zero_is_not_none
+
+pub returns-clause-or_ends_early : goal.returns-clause-or_ends_early
+returns-clause-or_ends_early c = or_ends_early
+
+pub returns-clause-and_ends_early : goal.returns-clause-and_ends_early
+returns-clause-and_ends_early c = and_ends_early
+
+pub returns-clause-or_gives_last : goal.returns-clause-or_gives_last
+returns-clause-or_gives_last c = or_gives_last
+
+pub returns-clause-and_gives_last : goal.returns-clause-and_gives_last
+returns-clause-and_gives_last c = and_gives_last
+
+pub returns-clause-double_not : goal.returns-clause-double_not
+returns-clause-double_not c = double_not
+
+pub returns-clause-tuple_from_left : goal.returns-clause-tuple_from_left
+returns-clause-tuple_from_left c = tuple_from_left

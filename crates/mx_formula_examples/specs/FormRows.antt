@@ -1,0 +1,112 @@
+-- Worked examples of single forms: operators, chains of comparisons, statements that choose, generators, and faults.
+use Rattle.std.specs.Prelude.{ℕ, pos, neg_ℤ, List, [], ◌∷◌, ◌++◌, None, true, false}
+use Rattle.mx_value.specs.declared.label.Label.{Label}
+use Rattle.mx_value.specs.declared.value.Value.{Value}
+use Rattle.mx_value.specs.declared.value.Value.TheVariants.{Nothing, Int, Flag, Tup}
+use Rattle.mx_syntax.specs.declared.expr.Expr.{Expr}
+use Rattle.mx_syntax.specs.declared.expr.Expr.TheVariants.{Lit, Power, Signed, Compare, Or, And, Not, Tuple}
+use Rattle.mx_syntax.specs.declared.expr.PowerPart.{PowerPart, roll-PowerPart}
+use Rattle.mx_syntax.specs.declared.expr.Sign.{Sign}
+use Rattle.mx_syntax.specs.declared.expr.Sign.TheVariants as sign
+use Rattle.mx_syntax.specs.declared.expr.Comparison.TheVariants as comparison
+use Rattle.mx_syntax.specs.declared.expr.CmpOp.TheVariants.{Lt}
+use Rattle.mx_edit.specs.declared.key.Key.{Key}
+use Rattle.mx_edit.specs.declared.key.Key.TheVariants as key
+use Rattle.mx_edit.specs.declared.key.KeyResult.{KeyResult}
+use Rattle.mx_runs.specs.Runs.{Ends, Gives, Event, Looked, Asked}
+use Rattle.mx_runs.specs.Meaning.{Means, Leads}
+use Rattle.mx_meaning.specs.Nodes.{body}
+use Rattle.mx_meaning.specs.Laws.{model_of}
+use Rattle.mx_formula_examples.specs.Rows.{cells_of, cells_named, space_main, cell, whole, c}
+use Rattle.mx_formula_examples.specs.FurtherRows.{call_of, main, a, b}
+use Rattle.mx_formula_examples.specs.LoopRows.{main_cells, whole_lit}
+
+-- a() = 1, b() = 2, and c() of this line
+abbrev pub with_line : Expr → Key → KeyResult
+with_line e = main_cells (cells_named space_main a ∷ cells_named space_main b ∷ []) (cells_of space_main a (whole_lit 1) ∷ cells_of space_main b (whole_lit 2) ∷ cells_of space_main c e ∷ [])
+
+-- c() of this line means this value
+abbrev pub LineMeans : Expr → Value → Type 0
+LineMeans e v = Means (model_of (with_line e)) (cell main c) (Gives (record { value = v; namespace = None }))
+
+-- the run of c() of this line goes by these events behind its look at its formula, and ends with this value
+abbrev pub LineLeads : Expr → List Event → Value → Type 0
+LineLeads e es v = Leads (model_of (with_line e)) (body (cell main c)) (Looked (key.Input (cell main c)) ∷ Looked (key.Cells space_main c) ∷ es) (Ends (Gives (record { value = v; namespace = None })))
+
+-- what a call of a() or b(), which gives this number, does
+abbrev pub ask_events : Label → ℕ → List Event
+ask_events name j = Looked (key.Name space_main name) ∷ Looked (key.Cells space_main name) ∷ Asked (cell main name) (whole j) ∷ []
+
+-- ---- powers and signs
+
+abbrev pub power_part : List Sign → Expr → PowerPart
+power_part signs e = roll-PowerPart (record { signs = signs; of = e })
+
+-- 2 ** 3 ** 2 is 2 ** 9
+abbrev pub PowersFromRight : Type 0
+PowersFromRight = LineMeans (Power (whole_lit 2) (power_part [] (whole_lit 3) ∷ power_part [] (whole_lit 2) ∷ [])) (Int (pos 512))
+
+-- -2 ** 2 is the negative of 2 ** 2
+abbrev pub SignOfPower : Type 0
+SignOfPower = LineMeans (Signed (sign.Minus ∷ []) (Power (whole_lit 2) (power_part [] (whole_lit 2) ∷ []))) (Int (neg_ℤ (pos 4)))
+
+-- ---- chains of comparisons
+
+-- 1 < 2 < 2 is False, as 2 < 2 is
+abbrev pub ChainOfNeighbours : Type 0
+ChainOfNeighbours = LineMeans (Compare (whole_lit 1) (comparison.Op Lt (whole_lit 2) ∷ comparison.Op Lt (whole_lit 2) ∷ [])) (Flag false)
+
+abbrev pub short_chain : Expr
+short_chain = Compare (whole_lit 2) (comparison.Op Lt (call_of a []) ∷ comparison.Op Lt (call_of b []) ∷ [])
+
+-- 2 < a() < b() asks a() alone, which decides
+abbrev pub ChainEndsEarly : Type 0
+ChainEndsEarly = LineLeads short_chain (ask_events a 1) (Flag false)
+
+-- None is None, and 0 is not None
+abbrev pub NoneIsNone : Type 0
+NoneIsNone = LineMeans (Compare (Lit Nothing) (comparison.IsNone ∷ [])) (Flag true)
+
+abbrev pub ZeroIsNotNone : Type 0
+ZeroIsNotNone = LineMeans (Compare (whole_lit 0) (comparison.IsNotNone ∷ [])) (Flag true)
+
+-- 0 is None is False
+abbrev pub ZeroIsNone : Type 0
+ZeroIsNone = LineMeans (Compare (whole_lit 0) (comparison.IsNone ∷ [])) (Flag false)
+
+-- ---- `or`, `and` and `not`
+
+abbrev pub or_line : Expr
+or_line = Or (whole_lit 0 ∷ call_of b [] ∷ call_of a [] ∷ [])
+
+-- 0 or b() or a() is 2, and a() isn't asked
+abbrev pub OrEndsEarly : Type 0
+OrEndsEarly = LineLeads or_line (ask_events b 2) (Int (pos 2))
+
+abbrev pub and_line : Expr
+and_line = And (call_of a [] ∷ whole_lit 0 ∷ call_of b [] ∷ [])
+
+-- a() and 0 and b() is 0, and b() isn't asked
+abbrev pub AndEndsEarly : Type 0
+AndEndsEarly = LineLeads and_line (ask_events a 1) (Int (pos 0))
+
+-- False or 0 is 0, the last part
+abbrev pub OrGivesLast : Type 0
+OrGivesLast = LineMeans (Or (Lit (Flag false) ∷ whole_lit 0 ∷ [])) (Int (pos 0))
+
+-- 1 and 2 is 2, the last part
+abbrev pub AndGivesLast : Type 0
+AndGivesLast = LineMeans (And (whole_lit 1 ∷ whole_lit 2 ∷ [])) (Int (pos 2))
+
+-- not not 3 is True
+abbrev pub DoubleNot : Type 0
+DoubleNot = LineMeans (Not 2 (whole_lit 3)) (Flag true)
+
+-- ---- tuples
+
+abbrev pub tuple_line : Expr
+tuple_line = Tuple (call_of b [] ∷ call_of a [] ∷ [])
+
+-- (b(), a()) is (2, 1), and b() is asked first
+abbrev pub TupleFromLeft : Type 0
+TupleFromLeft = LineLeads tuple_line (ask_events b 2 ++ ask_events a 1) (Tup (Int (pos 2) ∷ Int (pos 1) ∷ []))

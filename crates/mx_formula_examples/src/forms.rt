@@ -1,0 +1,19 @@
+//! Worked examples of single forms, as theorems over the meaning of nodes.
+ghost use Rattle.mx_formula_examples.specs.FormRows.{PowersFromRight, SignOfPower, ChainOfNeighbours, ChainEndsEarly, NoneIsNone, ZeroIsNone, ZeroIsNotNone, OrEndsEarly, AndEndsEarly, OrGivesLast, AndGivesLast, DoubleNot, TupleFromLeft};
+
+/// What single operators, statements and faults mean. Does nothing when it runs.
+pub fn forms()
+    ensures powers_from_right { PowersFromRight }
+    ensures sign_of_power { SignOfPower }
+    ensures chain_of_neighbours { ChainOfNeighbours }
+    ensures chain_ends_early { ChainEndsEarly }
+    ensures none_is_none { NoneIsNone }
+    ensures zero_is_none { ZeroIsNone }
+    ensures zero_is_not_none { ZeroIsNotNone }
+    ensures or_ends_early { OrEndsEarly }
+    ensures and_ends_early { AndEndsEarly }
+    ensures or_gives_last { OrGivesLast }
+    ensures and_gives_last { AndGivesLast }
+    ensures double_not { DoubleNot }
+    ensures tuple_from_left { TupleFromLeft }
+{}
