@@ -5,7 +5,9 @@ pub mod Rounds
 pub mod FormRules
 pub mod LoopRules
 pub mod OperatorRules
+pub mod ChoiceRules
 pub mod Worked
 pub mod FurtherWorked
 pub mod LoopWorked
 pub mod FormWorked
+pub mod ChoiceWorked

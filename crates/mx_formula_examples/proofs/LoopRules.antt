@@ -220,7 +220,7 @@ pub none_decides : {look : Key → KeyResult} {env : Env} {decides : Bool} {elem
 none_decides = record { leads = λ go. refl }
 
 module _ (look : Key → KeyResult) (env : Env) (decides : Bool) (element : Expr) (name : Label) (over : Expr) (v w : Value) (vs : List Value) (es fs : List Event) (x : Value) (b : Bool) (p : Comes look (within name v env) element es w) (h : truth w ≡ Ok b) where
-  item_leads : (go : Value → Run) → Leads (model_of look) (if beq b decides then go (Flag decides) else decided_from decides (generator element name over) vs env go) fs (go x)
+  pub item_leads : (go : Value → Run) → Leads (model_of look) (if beq b decides then go (Flag decides) else decided_from decides (generator element name over) vs env go) fs (go x)
       → Leads (model_of look) (decided_from decides (generator element name over) (v ∷ vs) env go) (es ++ fs) (go x)
   item_leads go l =
       let pick : Bool → Run = λ c. if beq c decides then go (Flag decides) else decided_from decides (generator element name over) vs env go in

@@ -1,25 +1,30 @@
 -- Worked examples of single forms: operators, chains of comparisons, statements that choose, generators, and faults.
-use Rattle.std.specs.Prelude.{ℕ, pos, neg_ℤ, List, [], ◌∷◌, ◌++◌, None, true, false}
+use Rattle.std.specs.Prelude.{ℕ, pos, neg_ℤ, List, [], ◌∷◌, ◌++◌, None, Some, true, false}
 use Rattle.mx_value.specs.declared.label.Label.{Label}
 use Rattle.mx_value.specs.declared.value.Value.{Value}
 use Rattle.mx_value.specs.declared.value.Value.TheVariants.{Nothing, Int, Flag, Tup}
+use Rattle.mx_value.specs.declared.fault.FaultKind.TheVariants.{UnsetLocal}
 use Rattle.mx_syntax.specs.declared.expr.Expr.{Expr}
-use Rattle.mx_syntax.specs.declared.expr.Expr.TheVariants.{Lit, Power, Signed, Compare, Or, And, Not, Tuple}
+use Rattle.mx_syntax.specs.declared.expr.Expr.TheVariants.{Lit, Name, Power, Signed, Compare, Or, And, Not, Tuple}
 use Rattle.mx_syntax.specs.declared.expr.PowerPart.{PowerPart, roll-PowerPart}
 use Rattle.mx_syntax.specs.declared.expr.Sign.{Sign}
 use Rattle.mx_syntax.specs.declared.expr.Sign.TheVariants as sign
 use Rattle.mx_syntax.specs.declared.expr.Comparison.TheVariants as comparison
 use Rattle.mx_syntax.specs.declared.expr.CmpOp.TheVariants.{Lt}
+use Rattle.mx_syntax.specs.declared.stmt.Stmt.{Stmt}
+use Rattle.mx_syntax.specs.declared.stmt.Stmt.TheVariants.{Return, Assign, If}
+use Rattle.mx_syntax.specs.declared.stmt.IfArm.{IfArm, roll-IfArm}
 use Rattle.mx_edit.specs.declared.key.Key.{Key}
 use Rattle.mx_edit.specs.declared.key.Key.TheVariants as key
 use Rattle.mx_edit.specs.declared.key.KeyResult.{KeyResult}
-use Rattle.mx_runs.specs.Runs.{Ends, Gives, Event, Looked, Asked}
+use Rattle.mx_edit.specs.declared.key.KeyResult.TheVariants as found
+use Rattle.mx_runs.specs.Runs.{Ends, Gives, Faults, Event, Looked, Asked}
 use Rattle.mx_runs.specs.Meaning.{Means, Leads}
 use Rattle.mx_meaning.specs.Nodes.{body}
 use Rattle.mx_meaning.specs.Laws.{model_of}
-use Rattle.mx_formula_examples.specs.Rows.{cells_of, cells_named, space_main, cell, whole, c}
-use Rattle.mx_formula_examples.specs.FurtherRows.{call_of, main, a, b}
-use Rattle.mx_formula_examples.specs.LoopRows.{main_cells, whole_lit}
+use Rattle.mx_formula_examples.specs.Rows.{cells_of, cells_named, whole_reference, space_main, cell, whole, c, f, x}
+use Rattle.mx_formula_examples.specs.FurtherRows.{call_of, main, a, b, n}
+use Rattle.mx_formula_examples.specs.LoopRows.{main_cells, whole_lit, at_whole}
 
 -- a() = 1, b() = 2, and c() of this line
 abbrev pub with_line : Expr → Key → KeyResult
@@ -110,3 +115,44 @@ tuple_line = Tuple (call_of b [] ∷ call_of a [] ∷ [])
 -- (b(), a()) is (2, 1), and b() is asked first
 abbrev pub TupleFromLeft : Type 0
 TupleFromLeft = LineLeads tuple_line (ask_events b 2 ++ ask_events a 1) (Tup (Int (pos 2) ∷ Int (pos 1) ∷ []))
+
+-- ---- `if`, `elif` and `else`: def f(n): if n < 1: return 10, elif n < 3: return 20, else: return 30
+
+abbrev pub if_arm : Expr → List Stmt → IfArm
+if_arm test stmts = roll-IfArm (record { test = test; body = stmts })
+
+abbrev pub give : ℕ → List Stmt
+give j = Return (Some (whole_lit j)) ∷ []
+
+abbrev pub n_below : ℕ → Expr
+n_below j = Compare (Name n) (comparison.Op Lt (whole_lit j) ∷ [])
+
+-- def f(n) with these statements below its first line
+abbrev pub with_body : List Stmt → Key → KeyResult
+with_body stmts = main_cells (whole_reference space_main x 5 ∷ []) (record { path = space_main; name = f; is = found.Formula (record { params = record { name = n; default = None } ∷ []; body = stmts }) false } ∷ [])
+
+abbrev pub three_ways : List Stmt
+three_ways = If (if_arm (n_below 1) (give 10) ∷ if_arm (n_below 3) (give 20) ∷ []) (Some (give 30)) ∷ []
+
+-- f(0) means 10, f(2) means 20 and f(3) means 30
+abbrev pub IfTaken : Type 0
+IfTaken = Means (model_of (with_body three_ways)) (at_whole f 0) (Gives (whole 10))
+
+abbrev pub ElifTaken : Type 0
+ElifTaken = Means (model_of (with_body three_ways)) (at_whole f 2) (Gives (whole 20))
+
+abbrev pub ElseTaken : Type 0
+ElseTaken = Means (model_of (with_body three_ways)) (at_whole f 3) (Gives (whole 30))
+
+-- ---- a local that may not be set: ref Main.x = 5, def f(n): if n: x = 1, and then return x
+
+abbrev pub maybe_set : List Stmt
+maybe_set = If (if_arm (Name n) (Assign x (whole_lit 1) ∷ []) ∷ []) None ∷ Return (Some (Name x)) ∷ []
+
+-- f(1) means 1
+abbrev pub LocalSet : Type 0
+LocalSet = Means (model_of (with_body maybe_set)) (at_whole f 1) (Gives (whole 1))
+
+-- f(0) reads the local before it is set, at its fourth line, and not the reference
+abbrev pub LocalUnset : Type 0
+LocalUnset = Means (model_of (with_body maybe_set)) (at_whole f 0) (Faults UnsetLocal (at_whole f 0) 4)

@@ -1,5 +1,5 @@
 //! Worked examples of single forms, as theorems over the meaning of nodes.
-ghost use Rattle.mx_formula_examples.specs.FormRows.{PowersFromRight, SignOfPower, ChainOfNeighbours, ChainEndsEarly, NoneIsNone, ZeroIsNone, ZeroIsNotNone, OrEndsEarly, AndEndsEarly, OrGivesLast, AndGivesLast, DoubleNot, TupleFromLeft};
+ghost use Rattle.mx_formula_examples.specs.FormRows.{PowersFromRight, SignOfPower, ChainOfNeighbours, ChainEndsEarly, NoneIsNone, ZeroIsNone, ZeroIsNotNone, OrEndsEarly, AndEndsEarly, OrGivesLast, AndGivesLast, DoubleNot, TupleFromLeft, IfTaken, ElifTaken, ElseTaken, LocalSet, LocalUnset};
 
 /// What single operators, statements and faults mean. Does nothing when it runs.
 pub fn forms()
@@ -16,4 +16,9 @@ pub fn forms()
     ensures and_gives_last { AndGivesLast }
     ensures double_not { DoubleNot }
     ensures tuple_from_left { TupleFromLeft }
+    ensures if_taken { IfTaken }
+    ensures elif_taken { ElifTaken }
+    ensures else_taken { ElseTaken }
+    ensures local_set { LocalSet }
+    ensures unset_local { LocalUnset }
 {}

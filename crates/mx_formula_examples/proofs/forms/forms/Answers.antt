@@ -1,4 +1,5 @@
 use Rattle.mx_formula_examples.proofs.FormWorked.{powers_from_right, sign_of_power, chain_of_neighbours, chain_ends_early, none_is_none, zero_is_none, zero_is_not_none, or_ends_early, and_ends_early, or_gives_last, and_gives_last, double_not, tuple_from_left}
+use Rattle.mx_formula_examples.proofs.ChoiceWorked.{if_taken, elif_taken, else_taken, local_set, unset_local}
 use Rattle.mx_formula_examples.proofs.forms.forms.Goals as goal
 
 pub returns-clause-powers_from_right : goal.returns-clause-powers_from_right
@@ -39,3 +40,18 @@ returns-clause-double_not c = double_not
 
 pub returns-clause-tuple_from_left : goal.returns-clause-tuple_from_left
 returns-clause-tuple_from_left c = tuple_from_left
+
+pub returns-clause-if_taken : goal.returns-clause-if_taken
+returns-clause-if_taken c = if_taken
+
+pub returns-clause-elif_taken : goal.returns-clause-elif_taken
+returns-clause-elif_taken c = elif_taken
+
+pub returns-clause-else_taken : goal.returns-clause-else_taken
+returns-clause-else_taken c = else_taken
+
+pub returns-clause-local_set : goal.returns-clause-local_set
+returns-clause-local_set c = local_set
+
+pub returns-clause-unset_local : goal.returns-clause-unset_local
+returns-clause-unset_local c = unset_local

@@ -1,0 +1,109 @@
+-- The worked examples of statements that choose, by the rules.
+use Rattle.std.proofs.Common.{◌≡◌, ℕ, ◌+◌, pos, List, [], ◌∷◌, ◌++◌, None, Some, refl, ◌∙◌, ap, sym, subst, true, false, map}
+use Rattle.std.specs.Prelude.{codes}
+use Rattle.std.specs.List.{sum}
+use Rattle.mx_value.specs.declared.label.Label.{Label}
+use Rattle.mx_value.specs.declared.value.Value.TheVariants.{Int}
+use Rattle.mx_syntax.specs.declared.expr.Expr.TheVariants as expr
+use Rattle.mx_syntax.specs.declared.stmt.Stmt.{Stmt}
+use Rattle.mx_syntax.specs.declared.stmt.Stmt.TheVariants as stmt
+use Rattle.mx_syntax.specs.declared.stmt.IfArm.{IfArm}
+use Rattle.mx_syntax.specs.Lists.{flat}
+use Rattle.mx_syntax.specs.Heights.{height, arm_height, first_line}
+use Rattle.mx_syntax.specs.Locals.{bound_by, arm_bound, add_all}
+use Rattle.mx_edit.specs.declared.key.Key.{Key}
+use Rattle.mx_edit.specs.declared.key.KeyResult.{KeyResult}
+use Rattle.mx_runs.specs.Runs.{Event}
+use Rattle.mx_meaning.specs.Environments.{Env, Locals}
+use Rattle.mx_meaning.specs.Statements.{Returned}
+use Rattle.mx_meaning.specs.Nodes.{unset_locals}
+use Rattle.mx_formula_examples.specs.Rows as row
+use Rattle.mx_formula_examples.specs.FurtherRows as further
+use Rattle.mx_formula_examples.specs.LoopRows as loop
+use Rattle.mx_formula_examples.specs.FormRows as form
+use Rattle.mx_formula_examples.proofs.Equations.{bound-assign, bound-return, height-assign}
+use Rattle.mx_formula_examples.proofs.Rules.{top, lit, local}
+use Rattle.mx_formula_examples.proofs.NodeRules.{means}
+use Rattle.mx_formula_examples.proofs.FormRules.{compare, chain_more, chain_false, chain_end}
+use Rattle.mx_formula_examples.proofs.LoopRules.{DoneComes, then_returns, then_stops, returned, return_stops, assign_goes, one_goes, body_run, body_fault}
+use Rattle.mx_formula_examples.proofs.OperatorRules.{truth_int, truth_flag, less_int}
+use Rattle.mx_formula_examples.proofs.ChoiceRules.{first_line-if, height-if, height-arm, height-return, bound-if, bound-if_else, bound-arm, no_arm, other_returns, arm_returns, arm_goes, arm_fails, choose, choose_or, goes_on, statement_returns, local_unset}
+use Rattle.mx_formula_examples.proofs.Worked.{one_name, one_bound}
+
+abbrev as_locals : List Label → Locals
+as_locals names = map (λ (name : Label). (name, None)) (add_all [] names)
+
+-- ---- three ways
+
+gives_free : (j : ℕ) → flat (map bound_by (form.give j)) ≡ []
+gives_free j = ap (λ (names : List Label). names ++ []) (bound-return (Some (loop.whole_lit j)))
+
+abbrev way : ℕ → ℕ → IfArm
+way i j = form.if_arm (form.n_below i) (form.give j)
+
+way_free : (i j : ℕ) → arm_bound (way i j) ≡ []
+way_free i j = bound-arm (form.n_below i) (form.give j) ∙ gives_free j
+
+way_height : (i j : ℕ) → arm_height (way i j) ≡ 2
+way_height i j = height-arm (form.n_below i) (form.give j) ∙ ap (λ (a : ℕ). sum (a ∷ []) + 1) (height-return (loop.whole_lit j))
+
+abbrev ways : List IfArm
+ways = way 1 10 ∷ way 3 20 ∷ []
+
+none_set : unset_locals form.three_ways ≡ []
+none_set =
+    ap (λ (names : List Label). as_locals (names ++ [])) (bound-if_else ways (form.give 30))
+    ∙ ap (λ (names : List Label). as_locals (((names ++ (arm_bound (way 3 20) ++ [])) ++ flat (map bound_by (form.give 30))) ++ [])) (way_free 1 10)
+    ∙ ap (λ (names : List Label). as_locals ((([] ++ (names ++ [])) ++ flat (map bound_by (form.give 30))) ++ [])) (way_free 3 20) ∙ ap (λ (names : List Label). as_locals ((([] ++ []) ++ names) ++ [])) (gives_free 30)
+
+-- the one statement of a body, an `if`, stands in the second line
+in_second_line : {look : Key → KeyResult} {env : Env} {es : List Event} {x : Returned} → DoneComes look env form.three_ways 2 es x → DoneComes look env form.three_ways (first_line form.three_ways) es x
+in_second_line {look = look} {env = env} {es = es} {x = x} p = subst (λ (line : ℕ). DoneComes look env form.three_ways line es x) (sym (first_line-if ways (Some (form.give 30)))) p
+
+pub if_taken : form.IfTaken
+if_taken =
+    means (body_run (Int (pos 0) ∷ []) [] (one_name (codes "Main")) (top (codes "Main")) refl refl refl (one_bound further.n (pos 0)) none_set
+    (in_second_line (statement_returns (choose_or (arm_returns (compare (local refl) (chain_more lit (less_int (pos 0) (pos 1)) chain_end)) (truth_flag true) (returned lit))))) refl)
+
+pub elif_taken : form.ElifTaken
+elif_taken =
+    means (body_run (Int (pos 2) ∷ []) [] (one_name (codes "Main")) (top (codes "Main")) refl refl refl (one_bound further.n (pos 2)) none_set
+    (in_second_line (statement_returns (choose_or (arm_fails (compare (local refl) (chain_false lit (less_int (pos 2) (pos 1)))) (truth_flag false) (way_height 1 10)
+    (arm_returns (compare (local refl) (chain_more lit (less_int (pos 2) (pos 3)) chain_end)) (truth_flag true) (returned lit)))))) refl)
+
+pub else_taken : form.ElseTaken
+else_taken =
+    means (body_run (Int (pos 3) ∷ []) [] (one_name (codes "Main")) (top (codes "Main")) refl refl refl (one_bound further.n (pos 3)) none_set
+    (in_second_line (statement_returns (choose_or (arm_fails (compare (local refl) (chain_false lit (less_int (pos 3) (pos 1)))) (truth_flag false) (way_height 1 10)
+    (arm_fails (compare (local refl) (chain_false lit (less_int (pos 3) (pos 3)))) (truth_flag false) (way_height 3 20) (other_returns (returned lit))))))) refl)
+
+-- ---- a local that may not be set
+
+abbrev set_x : List Stmt
+set_x = stmt.Assign row.x (loop.whole_lit 1) ∷ []
+
+abbrev setting : IfArm
+setting = form.if_arm (expr.Name further.n) set_x
+
+setting_height : arm_height setting ≡ 2
+setting_height = height-arm (expr.Name further.n) set_x ∙ ap (λ (a : ℕ). sum (a ∷ []) + 1) (height-assign row.x (loop.whole_lit 1))
+
+if_height : height (stmt.If (setting ∷ []) None) ≡ 2
+if_height = height-if (setting ∷ []) ∙ ap (λ (a : ℕ). sum (a ∷ []) + 0) setting_height
+
+x_unset : unset_locals form.maybe_set ≡ (row.x, None) ∷ []
+x_unset =
+    ap (λ (names : List Label). as_locals (names ++ (bound_by (stmt.Return (Some (expr.Name row.x))) ++ []))) (bound-if (setting ∷ []))
+    ∙ ap (λ (names : List Label). as_locals (((names ++ []) ++ []) ++ (bound_by (stmt.Return (Some (expr.Name row.x))) ++ []))) (bound-arm (expr.Name further.n) set_x)
+    ∙ ap (λ (names : List Label). as_locals ((((names ++ []) ++ []) ++ []) ++ (bound_by (stmt.Return (Some (expr.Name row.x))) ++ []))) (bound-assign row.x (loop.whole_lit 1))
+    ∙ ap (λ (names : List Label). as_locals ((row.x ∷ []) ++ (names ++ []))) (bound-return (Some (expr.Name row.x)))
+
+pub local_set : form.LocalSet
+local_set =
+    means (body_run (Int (pos 1) ∷ []) ((row.x, None) ∷ []) (one_name (codes "Main")) (top (codes "Main")) refl refl refl (one_bound further.n (pos 1)) x_unset
+    (then_returns (goes_on (choose (arm_goes (local refl) (truth_int (pos 1)) (one_goes (assign_goes lit))))) if_height (returned (local refl))) refl)
+
+pub unset_local : form.LocalUnset
+unset_local =
+    body_fault (Int (pos 0) ∷ []) ((row.x, None) ∷ []) (one_name (codes "Main")) (top (codes "Main")) refl refl refl (one_bound further.n (pos 0)) x_unset
+    (then_stops (goes_on (choose (arm_fails (local refl) (truth_int (pos 0)) setting_height no_arm))) if_height (return_stops (local_unset refl)))
