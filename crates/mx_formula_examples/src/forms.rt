@@ -1,5 +1,6 @@
 //! Worked examples of single forms, as theorems over the meaning of nodes.
 ghost use Rattle.mx_formula_examples.specs.FormRows.{PowersFromRight, SignOfPower, ChainOfNeighbours, ChainEndsEarly, NoneIsNone, ZeroIsNone, ZeroIsNotNone, OrEndsEarly, AndEndsEarly, OrGivesLast, AndGivesLast, DoubleNot, TupleFromLeft, IfTaken, ElifTaken, ElseTaken, LocalSet, LocalUnset};
+ghost use Rattle.mx_formula_examples.specs.CallRows.{DefaultArgument, GlobalReference, InputGiven, GeneratorTest, AllEndsEarly, NoSum, NotPlain, NotCalled, TooManyInside, TooFewInside, ParameterReplaced};
 
 /// What single operators, statements and faults mean. Does nothing when it runs.
 pub fn forms()
@@ -21,4 +22,15 @@ pub fn forms()
     ensures else_taken { ElseTaken }
     ensures local_set { LocalSet }
     ensures unset_local { LocalUnset }
+    ensures default_argument { DefaultArgument }
+    ensures global_reference_read { GlobalReference }
+    ensures input_given { InputGiven }
+    ensures generator_test { GeneratorTest }
+    ensures all_ends_early { AllEndsEarly }
+    ensures no_sum { NoSum }
+    ensures not_plain_inside { NotPlain }
+    ensures not_called { NotCalled }
+    ensures too_many_inside { TooManyInside }
+    ensures too_few_inside { TooFewInside }
+    ensures parameter_replaced { ParameterReplaced }
 {}

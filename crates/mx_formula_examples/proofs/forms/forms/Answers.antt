@@ -1,5 +1,6 @@
 use Rattle.mx_formula_examples.proofs.FormWorked.{powers_from_right, sign_of_power, chain_of_neighbours, chain_ends_early, none_is_none, zero_is_none, zero_is_not_none, or_ends_early, and_ends_early, or_gives_last, and_gives_last, double_not, tuple_from_left}
 use Rattle.mx_formula_examples.proofs.ChoiceWorked.{if_taken, elif_taken, else_taken, local_set, unset_local}
+use Rattle.mx_formula_examples.proofs.CallWorked.{default_argument, global_reference_read, input_given, generator_test, all_ends_early, no_sum, not_plain_inside, not_called, too_many_inside, too_few_inside, parameter_replaced}
 use Rattle.mx_formula_examples.proofs.forms.forms.Goals as goal
 
 pub returns-clause-powers_from_right : goal.returns-clause-powers_from_right
@@ -55,3 +56,36 @@ returns-clause-local_set c = local_set
 
 pub returns-clause-unset_local : goal.returns-clause-unset_local
 returns-clause-unset_local c = unset_local
+
+pub returns-clause-default_argument : goal.returns-clause-default_argument
+returns-clause-default_argument c = default_argument
+
+pub returns-clause-global_reference_read : goal.returns-clause-global_reference_read
+returns-clause-global_reference_read c = global_reference_read
+
+pub returns-clause-input_given : goal.returns-clause-input_given
+returns-clause-input_given c = input_given
+
+pub returns-clause-generator_test : goal.returns-clause-generator_test
+returns-clause-generator_test c = generator_test
+
+pub returns-clause-all_ends_early : goal.returns-clause-all_ends_early
+returns-clause-all_ends_early c = all_ends_early
+
+pub returns-clause-no_sum : goal.returns-clause-no_sum
+returns-clause-no_sum c = no_sum
+
+pub returns-clause-not_plain_inside : goal.returns-clause-not_plain_inside
+returns-clause-not_plain_inside c = not_plain_inside
+
+pub returns-clause-not_called : goal.returns-clause-not_called
+returns-clause-not_called c = not_called
+
+pub returns-clause-too_many_inside : goal.returns-clause-too_many_inside
+returns-clause-too_many_inside c = too_many_inside
+
+pub returns-clause-too_few_inside : goal.returns-clause-too_few_inside
+returns-clause-too_few_inside c = too_few_inside
+
+pub returns-clause-parameter_replaced : goal.returns-clause-parameter_replaced
+returns-clause-parameter_replaced c = parameter_replaced
