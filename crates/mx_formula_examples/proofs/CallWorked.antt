@@ -1,8 +1,11 @@
 -- The worked examples of calls, names, generators and faults, by the rules.
-use Rattle.std.proofs.Common.{◌≡◌, ℕ, ℤ, pos, List, [], ◌∷◌, ◌++◌, None, Some, Option, Ok, Err, refl, ◌∙◌, ap, Bool, true, false, ◌&&◌, rules}
-use Rattle.std.specs.Prelude.{codes}
+use Rattle.std.proofs.Common.{◌≡◌, ℕ, zero, suc, ◌+◌, ℤ, pos, ◌+ℤ◌, ◌*ℤ◌, List, [], ◌∷◌, ◌++◌, None, Some, Option, Ok, Err, refl, ◌∙◌, ap, Bool, true, false, ◌&&◌, nat_le, if◌then◌else◌, map, rules, arith}
+use Rattle.std.specs.Prelude.{codes, sum as total}
 use Rattle.std.specs.List.{list_all}
 use Rattle.mx_value.specs.Plain.{is_plain}
+use Rattle.mx_ops.specs.Ranges.{numbers_from}
+use Rattle.mx_value.specs.Size.{size_of}
+use Rattle.mx_value.specs.Nesting.{nesting_of}
 use Rattle.mx_value.specs.Normal.{normal_of}
 use Rattle.mx_value.specs.declared.value.Value.{Value, the_lemmas as values}
 use Rattle.mx_value.specs.declared.value.Value.TheVariants as value
@@ -10,7 +13,7 @@ use Rattle.mx_value.specs.declared.value.Value.TheVariants.{Int, Flag, Nothing, 
 use Rattle.mx_value.specs.declared.value.CellsAt.{CellsAt}
 use Rattle.mx_value.specs.declared.namespace.Namespace.{Namespace}
 use Rattle.mx_value.specs.declared.node.Node.TheVariants.{Cell, Item}
-use Rattle.mx_value.specs.declared.fault.FaultKind.TheVariants.{TypeMismatch}
+use Rattle.mx_value.specs.declared.fault.FaultKind.TheVariants.{TypeMismatch, TooLarge}
 use Rattle.mx_syntax.specs.declared.expr.Expr.TheVariants as expr
 use Rattle.mx_syntax.specs.declared.expr.SumOp.TheVariants as sums
 use Rattle.mx_syntax.specs.Binding.{bound}
@@ -31,13 +34,14 @@ use Rattle.mx_formula_examples.specs.Rows as row
 use Rattle.mx_formula_examples.specs.FurtherRows as further
 use Rattle.mx_formula_examples.specs.LoopRows as loop
 use Rattle.mx_formula_examples.specs.CallRows as calls
-use Rattle.mx_formula_examples.proofs.Equations.{out_int, out_tuple, plain_int, normal_int}
+use Rattle.mx_ops.proofs.Sizes.{joined_sum}
+use Rattle.mx_formula_examples.proofs.Equations.{out_int, out_tuple, plain_int, normal_int, size_int, size_tuple}
 use Rattle.mx_formula_examples.proofs.Rules.{Comes, Walks, top, inside, item_events, lit, local, in_overlay, in_source, name_sought, plain_reference, cells_here, sum as summing, plus, joined_more, joined_end, post, call, none, more, trail_end, call_of_cells}
 use Rattle.mx_formula_examples.proofs.NodeRules.{RunsTo, means, static_run, within_run, line_env, displayed_item, display_refs, display_end, more_refs, no_refs}
 use Rattle.mx_formula_examples.proofs.FormRules.{compare, chain_more, chain_false, chain_end, function_named, call_of_function, post_turns, static_fault}
 use Rattle.mx_formula_examples.proofs.LoopRules.{ints_allowed}
 use Rattle.mx_formula_examples.proofs.OperatorRules.{truth_int, truth_flag, less_int}
-use Rattle.mx_formula_examples.proofs.CallRules.{global_reference, input_run, call_faults, number_called, wrong_count, not_plain, sum_fault}
+use Rattle.mx_formula_examples.proofs.CallRules.{function_faults, global_reference, input_run, call_faults, number_called, wrong_count, not_plain, sum_fault}
 use Rattle.mx_formula_examples.proofs.GeneratorRules.{tested_in, tested_out, tested_end, call_over_tested, fails_here, holds_here, all_over}
 use Rattle.mx_formula_examples.proofs.Worked.{ends, one_name, has_item, one_bound, small}
 use Rattle.mx_formula_examples.proofs.FurtherWorked.{one_plain}
@@ -149,6 +153,28 @@ pub too_few_inside : calls.TooFewInside
 too_few_inside =
     static_fault [] (one_name (codes "Main")) (top (codes "Main")) refl refl refl refl
     (post_turns (name_sought refl (in_source found.CellsHere refl refl cells_here)) (call_faults none (wrong_count (top (codes "Main")) refl refl refl)))
+
+-- the numbers below this one
+abbrev numbers : ℕ → List Value
+numbers n = numbers_from (pos 0) (pos 1) n
+
+numbers_size : (n : ℕ) → total (map size_of (numbers n)) ≡ n
+numbers_size zero = refl
+numbers_size (suc n) =
+    let last : ℤ = pos 0 +ℤ pos n *ℤ pos 1 in
+    let h : total (map size_of (numbers n)) ≡ n = numbers_size n in
+    let one : total (map size_of (Int last ∷ [])) ≡ 1 = ap (λ (a : ℕ). total (a ∷ [])) (size_int last) in
+    joined_sum (numbers n) (Int last ∷ []) ∙ omega (arith, h, one)
+
+too_many : (n : ℕ) → nat_le (1 + n) 1_000_000 ≡ false → made (Tup (numbers n)) ≡ Err TooLarge
+too_many n large =
+    let fits : Bool = nat_le (nesting_of (Tup (numbers n))) 64 in
+    ap (λ (size : ℕ). if nat_le size 1_000_000 && fits then Ok (Tup (numbers n)) else Err TooLarge) (size_tuple (numbers n) ∙ ap (λ (a : ℕ). 1 + a) (numbers_size n))
+    ∙ ap (λ (b : Bool). if b && fits then Ok (Tup (numbers n)) else Err TooLarge) large
+
+pub range_too_large : calls.RangeTooLarge
+range_too_large =
+    static_fault [] (one_name (codes "Main")) (top (codes "Main")) refl refl refl refl (post_turns (function_named refl refl refl refl refl) (call_faults (more lit none) (function_faults (too_many 1_000_000 refl))))
 
 -- ---- a display replaces a parameter
 

@@ -29,7 +29,7 @@ use Rattle.mx_meaning.specs.Laws.{model_of}
 use Rattle.mx_formula_examples.proofs.Equations.{part-name}
 use Rattle.mx_formula_examples.proofs.Rules.{from, with_value, Comes}
 use Rattle.mx_formula_examples.proofs.FormRules.{Turns}
-use Rattle.mx_formula_examples.proofs.LoopRules.{StmtGoes, BodyGoes, DoneComes}
+use Rattle.mx_formula_examples.proofs.LoopRules.{StmtGoes, BodyGoes, DoneComes, DoneStops}
 
 -- ---- what the folds give
 
@@ -161,6 +161,9 @@ goes_on p = record { leads = λ after back. p.leads after back }
 
 pub statement_returns : {look : Key → KeyResult} {env : Env} {s : Stmt} {more : List Stmt} {line : ℕ} {es : List Event} {x : Returned} → StmtComes look (at_line line env) s es (λ after back. back x) → DoneComes look env (s ∷ more) line es x
 statement_returns {s = s} {more = more} {line = line} p = record { leads = λ after back. p.leads (λ e. done_from (map done_by more) (line + height s) e after back) back }
+
+pub statement_stops : {look : Key → KeyResult} {env at : Env} {s : Stmt} {more : List Stmt} {line : ℕ} {es : List Event} {kind : FaultKind} → StmtComes look (at_line line env) s es (λ after back. fault kind at) → DoneStops look env (s ∷ more) line es kind at
+statement_stops {s = s} {more = more} {line = line} p = record { leads = λ after back. p.leads (λ e. done_from (map done_by more) (line + height s) e after back) back }
 
 -- ---- a local that is not set
 

@@ -4,7 +4,11 @@ use Rattle.std.specs.Prelude.{codes}
 use Rattle.std.specs.List.{sum}
 use Rattle.mx_value.specs.declared.label.Label.{Label}
 use Rattle.mx_value.specs.declared.value.Value.TheVariants.{Int}
+use Rattle.mx_value.specs.declared.fault.FaultKind.{FaultKind}
+use Rattle.mx_syntax.specs.declared.expr.Expr.{Expr}
 use Rattle.mx_syntax.specs.declared.expr.Expr.TheVariants as expr
+use Rattle.mx_syntax.specs.declared.expr.ProductPart.{roll-ProductPart}
+use Rattle.mx_syntax.specs.declared.expr.ProductOp.TheVariants as products
 use Rattle.mx_syntax.specs.declared.stmt.Stmt.{Stmt}
 use Rattle.mx_syntax.specs.declared.stmt.Stmt.TheVariants as stmt
 use Rattle.mx_syntax.specs.declared.stmt.IfArm.{IfArm}
@@ -14,6 +18,7 @@ use Rattle.mx_syntax.specs.Locals.{bound_by, arm_bound, add_all}
 use Rattle.mx_edit.specs.declared.key.Key.{Key}
 use Rattle.mx_edit.specs.declared.key.KeyResult.{KeyResult}
 use Rattle.mx_runs.specs.Runs.{Event}
+use Rattle.mx_meaning.specs.Namespaces.{root, child}
 use Rattle.mx_meaning.specs.Environments.{Env, Locals}
 use Rattle.mx_meaning.specs.Statements.{Returned}
 use Rattle.mx_meaning.specs.Nodes.{unset_locals}
@@ -25,10 +30,11 @@ use Rattle.mx_formula_examples.proofs.Equations.{bound-assign, bound-return, hei
 use Rattle.mx_formula_examples.proofs.Rules.{top, lit, local}
 use Rattle.mx_formula_examples.proofs.NodeRules.{means}
 use Rattle.mx_formula_examples.proofs.FormRules.{compare, chain_more, chain_false, chain_end}
-use Rattle.mx_formula_examples.proofs.LoopRules.{DoneComes, then_returns, then_stops, returned, return_stops, assign_goes, one_goes, body_run, body_fault}
+use Rattle.mx_formula_examples.proofs.LoopRules.{DoneComes, DoneStops, product_fault, then_returns, then_stops, returned, return_stops, assign_goes, one_goes, body_run, body_fault}
 use Rattle.mx_formula_examples.proofs.OperatorRules.{truth_int, truth_flag, less_int}
-use Rattle.mx_formula_examples.proofs.ChoiceRules.{first_line-if, height-if, height-arm, height-return, bound-if, bound-if_else, bound-arm, no_arm, other_returns, arm_returns, arm_goes, arm_fails, choose, choose_or, goes_on, statement_returns, local_unset}
+use Rattle.mx_formula_examples.proofs.ChoiceRules.{first_line-if, height-if, height-arm, height-return, bound-if, bound-if_else, bound-arm, no_arm, other_returns, arm_returns, arm_goes, arm_fails, arm_stops, statement_stops, choose, choose_or, goes_on, statement_returns, local_unset}
 use Rattle.mx_formula_examples.proofs.Worked.{one_name, one_bound}
+use Rattle.mx_formula_examples.proofs.LoopWorked.{by_zero}
 
 abbrev as_locals : List Label → Locals
 as_locals names = map (λ (name : Label). (name, None)) (add_all [] names)
@@ -76,6 +82,31 @@ else_taken =
     means (body_run (Int (pos 3) ∷ []) [] (one_name (codes "Main")) (top (codes "Main")) refl refl refl (one_bound further.n (pos 3)) none_set
     (in_second_line (statement_returns (choose_or (arm_fails (compare (local refl) (chain_false lit (less_int (pos 3) (pos 1)))) (truth_flag false) (way_height 1 10)
     (arm_fails (compare (local refl) (chain_false lit (less_int (pos 3) (pos 3)))) (truth_flag false) (way_height 3 20) (other_returns (returned lit))))))) refl)
+
+-- ---- a fault of a test
+
+abbrev quotient : Expr
+quotient = expr.Product (expr.Name further.n) (roll-ProductPart (record { op = products.Over; of = loop.whole_lit 0 }) ∷ [])
+
+abbrev test_ways : List IfArm
+test_ways = way 1 10 ∷ form.if_arm quotient (form.give 20) ∷ []
+
+no_locals : unset_locals form.dividing_test ≡ []
+no_locals =
+    ap (λ (names : List Label). as_locals (names ++ [])) (bound-if test_ways) ∙ ap (λ (names : List Label). as_locals (((names ++ (arm_bound (form.if_arm quotient (form.give 20)) ++ [])) ++ []) ++ [])) (way_free 1 10)
+    ∙ ap (λ (names : List Label). as_locals ((([] ++ (names ++ [])) ++ []) ++ [])) (bound-arm quotient (form.give 20) ∙ gives_free 20)
+
+-- where the second test is computed
+abbrev at_elif : Env
+at_elif = record { node = loop.at_whole row.f 4; namespace = child (codes "Main") root; line = 4; locals = (further.n, Some (Int (pos 4))) ∷ [] }
+
+pub fault_at_elif : form.FaultAtElif
+fault_at_elif =
+    body_fault (Int (pos 4) ∷ []) [] (one_name (codes "Main")) (top (codes "Main")) refl refl refl (one_bound further.n (pos 4)) no_locals
+    (stops_in_second_line (statement_stops {at = at_elif} (choose (arm_fails (compare (local refl) (chain_false lit (less_int (pos 4) (pos 1)))) (truth_flag false) (way_height 1 10) (arm_stops (product_fault products.Over (loop.whole_lit 0) [] (local refl) lit by_zero))))))
+  where
+    stops_in_second_line : {look : Key → KeyResult} {env at : Env} {es : List Event} {kind : FaultKind} → DoneStops look env form.dividing_test 2 es kind at → DoneStops look env form.dividing_test (first_line form.dividing_test) es kind at
+    stops_in_second_line {look = look} {env = env} {at = at} {es = es} {kind = kind} p = subst (λ (line : ℕ). DoneStops look env form.dividing_test line es kind at) (sym (first_line-if test_ways None)) p
 
 -- ---- a local that may not be set
 

@@ -148,7 +148,7 @@ dividing_unset =
     ap (λ (names : List Label). as_locals (names ++ (bound_by (stmt.Return (Some quotient)) ++ []))) (bound-assign row.x (further.call_of further.g (expr.Name further.n ∷ [])))
     ∙ ap (λ (names : List Label). as_locals ((row.x ∷ []) ++ (names ++ []))) (bound-return (Some quotient))
 
-by_zero : of_two (multiplying products.Over) (Int (pos 4)) (Int (pos 0)) ≡ Err ZeroDivision
+pub by_zero : of_two (multiplying products.Over) (Int (pos 4)) (Int (pos 0)) ≡ Err ZeroDivision
 unfolding fixed_div
 by_zero = refl
 

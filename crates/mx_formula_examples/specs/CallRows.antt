@@ -5,20 +5,17 @@ use Rattle.mx_value.specs.declared.value.Value.TheVariants.{Nothing, Int, Flag}
 use Rattle.mx_value.specs.declared.node.Node.{Node}
 use Rattle.mx_value.specs.declared.node.Node.TheVariants.{Cell}
 use Rattle.mx_value.specs.declared.read.Read.TheVariants as read
-use Rattle.mx_value.specs.declared.fault.FaultKind.TheVariants.{TypeMismatch, NotCallable, WrongCountInside, TooLarge, ZeroDivision}
+use Rattle.mx_value.specs.declared.fault.FaultKind.TheVariants.{TypeMismatch, NotCallable, WrongCountInside, TooLarge}
 use Rattle.mx_syntax.specs.declared.expr.Expr.{Expr}
-use Rattle.mx_syntax.specs.declared.expr.Expr.TheVariants.{Lit, Name, Compare, Sum, Product, Post}
+use Rattle.mx_syntax.specs.declared.expr.Expr.TheVariants.{Lit, Name, Compare, Sum, Post}
 use Rattle.mx_syntax.specs.declared.expr.Comparison.TheVariants as comparison
 use Rattle.mx_syntax.specs.declared.expr.CmpOp.TheVariants.{Lt}
 use Rattle.mx_syntax.specs.declared.expr.SumPart.{roll-SumPart}
 use Rattle.mx_syntax.specs.declared.expr.SumOp.{SumOp}
 use Rattle.mx_syntax.specs.declared.expr.SumOp.TheVariants as sums
-use Rattle.mx_syntax.specs.declared.expr.ProductPart.{roll-ProductPart}
-use Rattle.mx_syntax.specs.declared.expr.ProductOp.TheVariants as products
 use Rattle.mx_syntax.specs.declared.expr.Trailer.TheVariants as trailer
 use Rattle.mx_syntax.specs.declared.expr.Args.TheVariants as arguments
-use Rattle.mx_syntax.specs.declared.stmt.Stmt.{Stmt}
-use Rattle.mx_syntax.specs.declared.stmt.Stmt.TheVariants.{Return, ReturnItem, If}
+use Rattle.mx_syntax.specs.declared.stmt.Stmt.TheVariants.{Return, ReturnItem}
 use Rattle.mx_syntax.specs.declared.stmt.Param.{Param}
 use Rattle.mx_syntax.specs.declared.stmt.ItemEntry.TheVariants as entry
 use Rattle.mx_edit.specs.declared.reference.RefValue.TheVariants as reference
@@ -33,7 +30,6 @@ use Rattle.mx_meaning.specs.Laws.{model_of}
 use Rattle.mx_formula_examples.specs.Rows.{look_in, cells_of, cells_named, whole_reference, space_s, space_main, cell, whole, s_item, c, f, k, rate, x}
 use Rattle.mx_formula_examples.specs.FurtherRows.{cells_over_n, call_of, main, n}
 use Rattle.mx_formula_examples.specs.LoopRows.{main_cells, range_to, call_over, whole_lit, at_whole, function_events, i}
-use Rattle.mx_formula_examples.specs.FormRows.{if_arm, give, n_below, with_body}
 
 abbrev pub c_node : Node
 c_node = cell main c
@@ -136,14 +132,6 @@ TooFewInside = Means (model_of (faulting (call_of f []))) c_node (Faults WrongCo
 -- c() = range(1000000): the tuple would have a size of 1,000,001
 abbrev pub RangeTooLarge : Type 0
 RangeTooLarge = Means (model_of (faulting (range_to (whole_lit 1_000_000)))) c_node (Faults TooLarge c_node 1)
-
--- def f(n): if n < 1: return 10, elif n / 0: return 20
-abbrev pub dividing_test : List Stmt
-dividing_test = If (if_arm (n_below 1) (give 10) ∷ if_arm (Product (Name n) (roll-ProductPart (record { op = products.Over; of = whole_lit 0 }) ∷ [])) (give 20) ∷ []) None ∷ []
-
--- f(4) divides by 0 at the line of `elif`
-abbrev pub FaultAtElif : Type 0
-FaultAtElif = Means (model_of (with_body dividing_test)) (at_whole f 4) (Faults ZeroDivision (at_whole f 4) 4)
 
 -- ---- a display replaces a parameter: params S(k) = {"refs": {"k": k + 1}}, cells S.c() = k
 

@@ -3,9 +3,11 @@ use Rattle.std.specs.Prelude.{ℕ, pos, neg_ℤ, List, [], ◌∷◌, ◌++◌, 
 use Rattle.mx_value.specs.declared.label.Label.{Label}
 use Rattle.mx_value.specs.declared.value.Value.{Value}
 use Rattle.mx_value.specs.declared.value.Value.TheVariants.{Nothing, Int, Flag, Tup}
-use Rattle.mx_value.specs.declared.fault.FaultKind.TheVariants.{UnsetLocal}
+use Rattle.mx_value.specs.declared.fault.FaultKind.TheVariants.{UnsetLocal, ZeroDivision}
 use Rattle.mx_syntax.specs.declared.expr.Expr.{Expr}
-use Rattle.mx_syntax.specs.declared.expr.Expr.TheVariants.{Lit, Name, Power, Signed, Compare, Or, And, Not, Tuple}
+use Rattle.mx_syntax.specs.declared.expr.Expr.TheVariants.{Lit, Name, Product, Power, Signed, Compare, Or, And, Not, Tuple}
+use Rattle.mx_syntax.specs.declared.expr.ProductPart.{roll-ProductPart}
+use Rattle.mx_syntax.specs.declared.expr.ProductOp.TheVariants as products
 use Rattle.mx_syntax.specs.declared.expr.PowerPart.{PowerPart, roll-PowerPart}
 use Rattle.mx_syntax.specs.declared.expr.Sign.{Sign}
 use Rattle.mx_syntax.specs.declared.expr.Sign.TheVariants as sign
@@ -143,6 +145,14 @@ ElifTaken = Means (model_of (with_body three_ways)) (at_whole f 2) (Gives (whole
 
 abbrev pub ElseTaken : Type 0
 ElseTaken = Means (model_of (with_body three_ways)) (at_whole f 3) (Gives (whole 30))
+
+-- def f(n): if n < 1: return 10, elif n / 0: return 20
+abbrev pub dividing_test : List Stmt
+dividing_test = If (if_arm (n_below 1) (give 10) ∷ if_arm (Product (Name n) (roll-ProductPart (record { op = products.Over; of = whole_lit 0 }) ∷ [])) (give 20) ∷ []) None ∷ []
+
+-- f(4) divides by 0 at the line of `elif`
+abbrev pub FaultAtElif : Type 0
+FaultAtElif = Means (model_of (with_body dividing_test)) (at_whole f 4) (Faults ZeroDivision (at_whole f 4) 4)
 
 -- ---- a local that may not be set: ref Main.x = 5, def f(n): if n: x = 1, and then return x
 

@@ -1,6 +1,6 @@
 //! Worked examples of single forms, as theorems over the meaning of nodes.
-ghost use Rattle.mx_formula_examples.specs.FormRows.{PowersFromRight, SignOfPower, ChainOfNeighbours, ChainEndsEarly, NoneIsNone, ZeroIsNone, ZeroIsNotNone, OrEndsEarly, AndEndsEarly, OrGivesLast, AndGivesLast, DoubleNot, TupleFromLeft, IfTaken, ElifTaken, ElseTaken, LocalSet, LocalUnset};
-ghost use Rattle.mx_formula_examples.specs.CallRows.{DefaultArgument, GlobalReference, InputGiven, GeneratorTest, AllEndsEarly, NoSum, NotPlain, NotCalled, TooManyInside, TooFewInside, ParameterReplaced};
+ghost use Rattle.mx_formula_examples.specs.FormRows.{PowersFromRight, SignOfPower, ChainOfNeighbours, ChainEndsEarly, NoneIsNone, ZeroIsNone, ZeroIsNotNone, OrEndsEarly, AndEndsEarly, OrGivesLast, AndGivesLast, DoubleNot, TupleFromLeft, IfTaken, ElifTaken, ElseTaken, FaultAtElif, LocalSet, LocalUnset};
+ghost use Rattle.mx_formula_examples.specs.CallRows.{DefaultArgument, GlobalReference, InputGiven, GeneratorTest, AllEndsEarly, NoSum, NotPlain, NotCalled, TooManyInside, TooFewInside, RangeTooLarge, ParameterReplaced};
 
 /// What single operators, statements and faults mean. Does nothing when it runs.
 pub fn forms()
@@ -20,6 +20,7 @@ pub fn forms()
     ensures if_taken { IfTaken }
     ensures elif_taken { ElifTaken }
     ensures else_taken { ElseTaken }
+    ensures fault_at_elif { FaultAtElif }
     ensures local_set { LocalSet }
     ensures unset_local { LocalUnset }
     ensures default_argument { DefaultArgument }
@@ -32,5 +33,6 @@ pub fn forms()
     ensures not_called { NotCalled }
     ensures too_many_inside { TooManyInside }
     ensures too_few_inside { TooFewInside }
+    ensures range_too_large { RangeTooLarge }
     ensures parameter_replaced { ParameterReplaced }
 {}

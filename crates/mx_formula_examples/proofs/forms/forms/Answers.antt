@@ -1,6 +1,6 @@
 use Rattle.mx_formula_examples.proofs.FormWorked.{powers_from_right, sign_of_power, chain_of_neighbours, chain_ends_early, none_is_none, zero_is_none, zero_is_not_none, or_ends_early, and_ends_early, or_gives_last, and_gives_last, double_not, tuple_from_left}
-use Rattle.mx_formula_examples.proofs.ChoiceWorked.{if_taken, elif_taken, else_taken, local_set, unset_local}
-use Rattle.mx_formula_examples.proofs.CallWorked.{default_argument, global_reference_read, input_given, generator_test, all_ends_early, no_sum, not_plain_inside, not_called, too_many_inside, too_few_inside, parameter_replaced}
+use Rattle.mx_formula_examples.proofs.ChoiceWorked.{if_taken, elif_taken, else_taken, fault_at_elif, local_set, unset_local}
+use Rattle.mx_formula_examples.proofs.CallWorked.{default_argument, global_reference_read, input_given, generator_test, all_ends_early, no_sum, not_plain_inside, not_called, too_many_inside, too_few_inside, range_too_large, parameter_replaced}
 use Rattle.mx_formula_examples.proofs.forms.forms.Goals as goal
 
 pub returns-clause-powers_from_right : goal.returns-clause-powers_from_right
@@ -51,6 +51,9 @@ returns-clause-elif_taken c = elif_taken
 pub returns-clause-else_taken : goal.returns-clause-else_taken
 returns-clause-else_taken c = else_taken
 
+pub returns-clause-fault_at_elif : goal.returns-clause-fault_at_elif
+returns-clause-fault_at_elif c = fault_at_elif
+
 pub returns-clause-local_set : goal.returns-clause-local_set
 returns-clause-local_set c = local_set
 
@@ -86,6 +89,9 @@ returns-clause-too_many_inside c = too_many_inside
 
 pub returns-clause-too_few_inside : goal.returns-clause-too_few_inside
 returns-clause-too_few_inside c = too_few_inside
+
+pub returns-clause-range_too_large : goal.returns-clause-range_too_large
+returns-clause-range_too_large c = range_too_large
 
 pub returns-clause-parameter_replaced : goal.returns-clause-parameter_replaced
 returns-clause-parameter_replaced c = parameter_replaced
