@@ -80,6 +80,14 @@ given_run = input_run (one_name (codes "Main")) refl
 pub input_given : calls.InputGiven
 input_given = given_run.leads
 
+asking_run : RunsTo calls.with_input (row.cell further.main row.d) calls.input_events (Gives (row.whole 9))
+asking_run =
+    static_run [] (one_name (codes "Main")) (top (codes "Main")) refl refl refl refl
+    (post (name_sought refl (in_source found.CellsHere refl refl cells_here)) (call none (call_of_cells (top (codes "Main")) refl refl refl refl (means given_run)) trail_end)) refl
+
+pub input_asked : calls.InputAsked
+input_asked = asking_run.leads
+
 -- ---- generators
 
 sum_5 : gives op.Sum (Tup (Int (pos 2) ∷ Int (pos 3) ∷ []) ∷ []) ≡ Ok (Int (pos 5))

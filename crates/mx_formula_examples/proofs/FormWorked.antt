@@ -2,10 +2,13 @@
 use Rattle.std.proofs.Common.{◌≡◌, pos, List, [], ◌∷◌, ◌++◌, refl, ◌∙◌, ap, Ok, true, false, rules}
 use Rattle.std.specs.Prelude.{codes}
 use Rattle.std.specs.Bool.{beq}
+use Rattle.mx_value.specs.Fixed.{checked, fixed_from_int, power_of, fixed_pow, fixed_mul, fixed_div}
+use Rattle.mx_value.specs.Rounding.{half_even, nearest}
 use Rattle.mx_value.specs.declared.value.Value.{Value, out-Value, the_lemmas as values}
-use Rattle.mx_value.specs.declared.value.Value.TheVariants.{Int, Flag, Nothing, Tup}
+use Rattle.mx_value.specs.declared.value.Value.TheVariants.{Int, Flag, Nothing, Tup, Fix}
 use Rattle.mx_value.specs.declared.value.Segment.TheOpen.{Value-F}
 use Rattle.mx_syntax.specs.declared.expr.Expr.{Expr}
+use Rattle.mx_syntax.specs.declared.expr.Sign.TheVariants as sign
 use Rattle.mx_edit.specs.declared.key.Key.TheVariants as key
 use Rattle.mx_edit.specs.declared.key.KeyResult.TheVariants as found
 use Rattle.mx_ops.specs.Kinds.{Content}
@@ -15,7 +18,7 @@ use Rattle.mx_runs.specs.Runs.{Gives, Event, Looked}
 use Rattle.mx_runs.specs.Meaning.{Means}
 use Rattle.mx_meaning.specs.Namespaces.{root, child}
 use Rattle.mx_meaning.specs.Environments.{Env}
-use Rattle.mx_meaning.specs.Operations.{and_then, denied}
+use Rattle.mx_meaning.specs.Operations.{and_then, denied, powered}
 use Rattle.mx_meaning.specs.Expressions.{nothing_in}
 use Rattle.mx_meaning.specs.Laws.{model_of}
 use Rattle.mx_formula_examples.specs.Rows as row
@@ -53,6 +56,13 @@ powers_from_right = means (static_run [] (one_name (codes "Main")) (top (codes "
 
 pub sign_of_power : form.SignOfPower
 sign_of_power = means (static_run [] (one_name (codes "Main")) (top (codes "Main")) refl refl refl refl (with_signs (power lit (powers_more _ _ lit powers_end) refl) refl) refl)
+
+half : powered (Int (pos 2)) ((sign.Minus ∷ [], Int (pos 1)) ∷ ([], Int (pos 2)) ∷ []) ≡ Ok (Fix (pos 500_000_000))
+unfolding fixed_from_int fixed_pow power_of fixed_mul fixed_div checked half_even nearest
+half = refl
+
+pub sign_within_power : form.SignWithinPower
+sign_within_power = means (static_run [] (one_name (codes "Main")) (top (codes "Main")) refl refl refl refl (power lit (powers_more _ _ lit (powers_more _ _ lit powers_end)) half) refl)
 
 pub chain_of_neighbours : form.ChainOfNeighbours
 chain_of_neighbours = means (static_run [] (one_name (codes "Main")) (top (codes "Main")) refl refl refl refl (compare lit (chain_more lit (less_int (pos 1) (pos 2)) (chain_false lit (less_int (pos 2) (pos 2))))) refl)

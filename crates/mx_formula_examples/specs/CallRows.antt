@@ -27,7 +27,7 @@ use Rattle.mx_runs.specs.Runs.{Ends, Gives, Faults, Event, Looked, Asked, Noted}
 use Rattle.mx_runs.specs.Meaning.{Means, Leads}
 use Rattle.mx_meaning.specs.Nodes.{body}
 use Rattle.mx_meaning.specs.Laws.{model_of}
-use Rattle.mx_formula_examples.specs.Rows.{look_in, cells_of, cells_named, whole_reference, space_s, space_main, cell, whole, s_item, c, f, k, rate, x}
+use Rattle.mx_formula_examples.specs.Rows.{look_in, cells_of, cells_named, whole_reference, space_s, space_main, cell, whole, s_item, c, d, f, k, rate, x}
 use Rattle.mx_formula_examples.specs.FurtherRows.{cells_over_n, call_of, main, n}
 use Rattle.mx_formula_examples.specs.LoopRows.{main_cells, range_to, call_over, whole_lit, at_whole, function_events, i}
 
@@ -66,15 +66,22 @@ global_events = Looked (key.Input c_node) ∷ Looked (key.Cells space_main c) �
 abbrev pub GlobalReference : Type 0
 GlobalReference = Leads (model_of with_global) (body c_node) global_events (Ends (Gives (whole 5)))
 
--- ---- an input: c() = 1, and 9 is put in for c()
+-- ---- an input: c() = 1, d() = c(), and 9 is put in for c()
 
 abbrev pub with_input : Key → KeyResult
 with_input (key.Input (Cell at name [])) = if same_name name c then found.Value (Int (pos 9)) else found.Missing
-with_input other = main_cells [] (cells_of space_main c (whole_lit 1) ∷ []) other
+with_input other = main_cells (cells_named space_main c ∷ []) (cells_of space_main c (whole_lit 1) ∷ cells_of space_main d (call_of c []) ∷ []) other
 
 -- c() gives 9, and its formula isn't run
 abbrev pub InputGiven : Type 0
 InputGiven = Leads (model_of with_input) (body c_node) (Looked (key.Input c_node) ∷ []) (Ends (Gives (whole 9)))
+
+abbrev pub input_events : List Event
+input_events = Looked (key.Input (cell main d)) ∷ Looked (key.Cells space_main d) ∷ Looked (key.Name space_main c) ∷ Looked (key.Cells space_main c) ∷ Asked c_node (whole 9) ∷ []
+
+-- d() asks c(), which gives 9
+abbrev pub InputAsked : Type 0
+InputAsked = Leads (model_of with_input) (body (cell main d)) input_events (Ends (Gives (whole 9)))
 
 -- ---- a generator's test: c() = sum(i for i in range(4) if 1 < i)
 

@@ -2,7 +2,7 @@
 use Rattle.std.specs.Prelude.{ℕ, pos, neg_ℤ, List, [], ◌∷◌, ◌++◌, None, Some, true, false}
 use Rattle.mx_value.specs.declared.label.Label.{Label}
 use Rattle.mx_value.specs.declared.value.Value.{Value}
-use Rattle.mx_value.specs.declared.value.Value.TheVariants.{Nothing, Int, Flag, Tup}
+use Rattle.mx_value.specs.declared.value.Value.TheVariants.{Nothing, Int, Fix, Flag, Tup}
 use Rattle.mx_value.specs.declared.fault.FaultKind.TheVariants.{UnsetLocal, ZeroDivision}
 use Rattle.mx_syntax.specs.declared.expr.Expr.{Expr}
 use Rattle.mx_syntax.specs.declared.expr.Expr.TheVariants.{Lit, Name, Product, Power, Signed, Compare, Or, And, Not, Tuple}
@@ -56,6 +56,10 @@ PowersFromRight = LineMeans (Power (whole_lit 2) (power_part [] (whole_lit 3) �
 -- -2 ** 2 is the negative of 2 ** 2
 abbrev pub SignOfPower : Type 0
 SignOfPower = LineMeans (Signed (sign.Minus ∷ []) (Power (whole_lit 2) (power_part [] (whole_lit 2) ∷ []))) (Int (neg_ℤ (pos 4)))
+
+-- 2 ** -1 ** 2 is 2 ** -1, 0.5: the sign applies to 1 ** 2
+abbrev pub SignWithinPower : Type 0
+SignWithinPower = LineMeans (Power (whole_lit 2) (power_part (sign.Minus ∷ []) (whole_lit 1) ∷ power_part [] (whole_lit 2) ∷ [])) (Fix (pos 500_000_000))
 
 -- ---- chains of comparisons
 

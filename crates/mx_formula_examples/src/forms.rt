@@ -1,11 +1,12 @@
 //! Worked examples of single forms, as theorems over the meaning of nodes.
-ghost use Rattle.mx_formula_examples.specs.FormRows.{PowersFromRight, SignOfPower, ChainOfNeighbours, ChainEndsEarly, NoneIsNone, ZeroIsNone, ZeroIsNotNone, OrEndsEarly, AndEndsEarly, OrGivesLast, AndGivesLast, DoubleNot, TupleFromLeft, IfTaken, ElifTaken, ElseTaken, FaultAtElif, LocalSet, LocalUnset};
-ghost use Rattle.mx_formula_examples.specs.CallRows.{DefaultArgument, GlobalReference, InputGiven, GeneratorTest, AllEndsEarly, NoSum, NotPlain, NotCalled, TooManyInside, TooFewInside, RangeTooLarge, ParameterReplaced};
+ghost use Rattle.mx_formula_examples.specs.FormRows.{PowersFromRight, SignOfPower, SignWithinPower, ChainOfNeighbours, ChainEndsEarly, NoneIsNone, ZeroIsNone, ZeroIsNotNone, OrEndsEarly, AndEndsEarly, OrGivesLast, AndGivesLast, DoubleNot, TupleFromLeft, IfTaken, ElifTaken, ElseTaken, FaultAtElif, LocalSet, LocalUnset};
+ghost use Rattle.mx_formula_examples.specs.CallRows.{DefaultArgument, GlobalReference, InputGiven, InputAsked, GeneratorTest, AllEndsEarly, NoSum, NotPlain, NotCalled, TooManyInside, TooFewInside, RangeTooLarge, ParameterReplaced};
 
 /// What single operators, statements and faults mean. Does nothing when it runs.
 pub fn forms()
     ensures powers_from_right { PowersFromRight }
     ensures sign_of_power { SignOfPower }
+    ensures sign_within_power { SignWithinPower }
     ensures chain_of_neighbours { ChainOfNeighbours }
     ensures chain_ends_early { ChainEndsEarly }
     ensures none_is_none { NoneIsNone }
@@ -26,6 +27,7 @@ pub fn forms()
     ensures default_argument { DefaultArgument }
     ensures global_reference_read { GlobalReference }
     ensures input_given { InputGiven }
+    ensures input_asked { InputAsked }
     ensures generator_test { GeneratorTest }
     ensures all_ends_early { AllEndsEarly }
     ensures no_sum { NoSum }

@@ -1,6 +1,6 @@
-use Rattle.mx_formula_examples.proofs.FormWorked.{powers_from_right, sign_of_power, chain_of_neighbours, chain_ends_early, none_is_none, zero_is_none, zero_is_not_none, or_ends_early, and_ends_early, or_gives_last, and_gives_last, double_not, tuple_from_left}
+use Rattle.mx_formula_examples.proofs.FormWorked.{powers_from_right, sign_of_power, sign_within_power, chain_of_neighbours, chain_ends_early, none_is_none, zero_is_none, zero_is_not_none, or_ends_early, and_ends_early, or_gives_last, and_gives_last, double_not, tuple_from_left}
 use Rattle.mx_formula_examples.proofs.ChoiceWorked.{if_taken, elif_taken, else_taken, fault_at_elif, local_set, unset_local}
-use Rattle.mx_formula_examples.proofs.CallWorked.{default_argument, global_reference_read, input_given, generator_test, all_ends_early, no_sum, not_plain_inside, not_called, too_many_inside, too_few_inside, range_too_large, parameter_replaced}
+use Rattle.mx_formula_examples.proofs.CallWorked.{default_argument, global_reference_read, input_given, input_asked, generator_test, all_ends_early, no_sum, not_plain_inside, not_called, too_many_inside, too_few_inside, range_too_large, parameter_replaced}
 use Rattle.mx_formula_examples.proofs.forms.forms.Goals as goal
 
 pub returns-clause-powers_from_right : goal.returns-clause-powers_from_right
@@ -8,6 +8,9 @@ returns-clause-powers_from_right c = powers_from_right
 
 pub returns-clause-sign_of_power : goal.returns-clause-sign_of_power
 returns-clause-sign_of_power c = sign_of_power
+
+pub returns-clause-sign_within_power : goal.returns-clause-sign_within_power
+returns-clause-sign_within_power c = sign_within_power
 
 pub returns-clause-chain_of_neighbours : goal.returns-clause-chain_of_neighbours
 returns-clause-chain_of_neighbours c = chain_of_neighbours
@@ -68,6 +71,9 @@ returns-clause-global_reference_read c = global_reference_read
 
 pub returns-clause-input_given : goal.returns-clause-input_given
 returns-clause-input_given c = input_given
+
+pub returns-clause-input_asked : goal.returns-clause-input_asked
+returns-clause-input_asked c = input_asked
 
 pub returns-clause-generator_test : goal.returns-clause-generator_test
 returns-clause-generator_test c = generator_test
