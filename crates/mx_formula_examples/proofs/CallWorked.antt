@@ -39,7 +39,7 @@ use Rattle.mx_formula_examples.proofs.Equations.{out_int, out_tuple, plain_int, 
 use Rattle.mx_formula_examples.proofs.Rules.{Comes, Walks, top, inside, item_events, lit, local, in_overlay, in_source, name_sought, plain_reference, cells_here, sum as summing, plus, joined_more, joined_end, post, call, none, more, trail_end, call_of_cells}
 use Rattle.mx_formula_examples.proofs.NodeRules.{RunsTo, means, static_run, within_run, line_env, displayed_item, display_refs, display_end, more_refs, no_refs}
 use Rattle.mx_formula_examples.proofs.FormRules.{compare, chain_more, chain_false, chain_end, function_named, call_of_function, post_turns, static_fault}
-use Rattle.mx_formula_examples.proofs.LoopRules.{ints_allowed}
+use Rattle.mx_formula_examples.proofs.LoopRules.{ints_allowed, gen_more, gen_end, call_over}
 use Rattle.mx_formula_examples.proofs.OperatorRules.{truth_int, truth_flag, less_int}
 use Rattle.mx_formula_examples.proofs.CallRules.{function_faults, global_reference, input_run, call_faults, number_called, wrong_count, not_plain, sum_fault}
 use Rattle.mx_formula_examples.proofs.GeneratorRules.{tested_in, tested_out, tested_end, call_over_tested, fails_here, holds_here, all_over}
@@ -103,6 +103,17 @@ generator_test =
     (tested_in (compare lit (chain_more (local refl) (less_int (pos 1) (pos 2)) chain_end)) (truth_flag true) (local refl)
     (tested_in (compare lit (chain_more (local refl) (less_int (pos 1) (pos 3)) chain_end)) (truth_flag true) (local refl) tested_end))))
     (ints_allowed (pos 2 ∷ pos 3 ∷ [])) (call_of_function sum_5) trail_end)) refl)
+
+sum_3 : gives op.Sum (Tup (Int (pos 0) ∷ Int (pos 1) ∷ Int (pos 2) ∷ []) ∷ []) ≡ Ok (Int (pos 3))
+sum_3 = ap (λ (o : Option (List Value)). or_else (of_part (sum_from (Ok (Int (pos 0)))) o) (Err TypeMismatch)) (ap items_in (out_tuple (Int (pos 0) ∷ Int (pos 1) ∷ Int (pos 2) ∷ [])))
+
+pub generator_scope : calls.GeneratorScope
+generator_scope =
+    means (static_run (Int (pos 3) ∷ []) (one_name (codes "Main")) (top (codes "Main")) refl refl refl (one_bound further.n (pos 3))
+    (summing _ (post (function_named refl refl refl refl refl)
+    (call_over refl (post (function_named refl refl refl refl refl) (call (more (local refl) none) (call_of_function range_3) trail_end))
+    (gen_more (local refl) (gen_more (local refl) (gen_more (local refl) gen_end))) (ints_allowed (pos 0 ∷ pos 1 ∷ pos 2 ∷ [])) (call_of_function sum_3) trail_end))
+    (plus _ _ (joined_more _ _ (local refl) refl joined_end))) refl)
 
 abbrev all_env : Env
 all_env = line_env calls.c_node (child (codes "Main") root) []

@@ -1,8 +1,12 @@
--- Rules for statements that choose, and what they count and bind.
-use Rattle.std.proofs.Common.{◌≡◌, refl, None, Some, Ok, List, [], ◌∷◌, ◌++◌, ℕ, ◌+◌, ap, sym, ◌∙◌, Option, Bool, true, false, if◌then◌else◌, map}
+-- Rules for statements that choose, with what they count and bind, for `pass`, and for bodies that come to their end.
+use Rattle.std.proofs.Common.{◌≡◌, refl, None, Some, Ok, List, [], ◌∷◌, ◌++◌, ℕ, ◌+◌, ap, sym, ◌∙◌, subst, length, Option, Bool, true, false, if◌then◌else◌, map}
 use Rattle.std.specs.List.{sum}
 use Rattle.mx_value.specs.declared.label.Label.{Label}
 use Rattle.mx_value.specs.declared.value.Value.{Value}
+use Rattle.mx_value.specs.declared.value.Value.TheVariants.{Nothing}
+use Rattle.mx_value.specs.declared.namespace.Namespace.{Namespace}
+use Rattle.mx_value.specs.declared.node.Node.{Node}
+use Rattle.mx_value.specs.declared.node.Node.TheVariants.{Cell}
 use Rattle.mx_value.specs.declared.fault.FaultKind.{FaultKind}
 use Rattle.mx_value.specs.declared.fault.FaultKind.TheVariants.{UnsetLocal}
 use Rattle.mx_syntax.specs.declared.expr.Expr.{Expr}
@@ -12,24 +16,31 @@ use Rattle.mx_syntax.specs.declared.stmt.Stmt.TheVariants as stmt
 use Rattle.mx_syntax.specs.declared.stmt.Stmt.TheOpen.{Stmt-F}
 use Rattle.mx_syntax.specs.declared.stmt.Stmt.TheFolds.{para-roll-Stmt}
 use Rattle.mx_syntax.specs.declared.stmt.IfArm.{IfArm, roll-IfArm, para-IfArm, para-roll-IfArm, fold-roll-IfArm}
+use Rattle.mx_syntax.specs.declared.stmt.Param.{Param}
+use Rattle.mx_syntax.specs.Binding.{bound, is_wrong_count}
 use Rattle.mx_syntax.specs.Lists.{flat}
 use Rattle.mx_syntax.specs.Heights.{height, arm_height, first_line, returns, returns_step, any_arm, stmt_step as height_step, arm_step as height_arm}
 use Rattle.mx_syntax.specs.Locals.{bound_by, arm_bound, stmt_step as bound_step, arm_step as bound_arm}
 use Rattle.mx_edit.specs.declared.key.Key.{Key}
+use Rattle.mx_edit.specs.declared.key.Key.TheVariants as key
 use Rattle.mx_edit.specs.declared.key.KeyResult.{KeyResult}
+use Rattle.mx_edit.specs.declared.key.KeyResult.TheVariants as found
 use Rattle.mx_ops.specs.Truth.{truth}
-use Rattle.mx_runs.specs.Runs.{Run, Event}
+use Rattle.mx_runs.specs.Runs.{Run, Gives, Event, Looked}
 use Rattle.mx_runs.specs.Meaning.{Leads}
+use Rattle.mx_runs.specs.Inputs.{is_static}
 use Rattle.mx_runs.proofs.Levels.{leads_append}
-use Rattle.mx_meaning.specs.Environments.{Env, tested, fault, at_line, local_of}
+use Rattle.mx_meaning.specs.Environments.{Env, Locals, tested, fault, at_line, local_of}
 use Rattle.mx_meaning.specs.Lookup.{local_or, as_value}
 use Rattle.mx_meaning.specs.Expressions.{reading}
-use Rattle.mx_meaning.specs.Statements.{Returned, Done, Doing, ArmDoing, stmt_step, arm_step, doing, done_by, done_from, arms_from}
+use Rattle.mx_meaning.specs.Statements.{Returned, Plain, Done, Doing, ArmDoing, stmt_step, arm_step, doing, done_by, done_from, arms_from}
+use Rattle.mx_meaning.specs.Nodes.{arguments_of, unset_locals, value_given, cells_returned}
 use Rattle.mx_meaning.specs.Laws.{model_of}
 use Rattle.mx_formula_examples.proofs.Equations.{part-name}
-use Rattle.mx_formula_examples.proofs.Rules.{from, with_value, Comes}
+use Rattle.mx_formula_examples.proofs.Rules.{from, with_value, Walks, Comes}
+use Rattle.mx_formula_examples.proofs.NodeRules.{RunsTo, given_value, static_lead}
 use Rattle.mx_formula_examples.proofs.FormRules.{Turns}
-use Rattle.mx_formula_examples.proofs.LoopRules.{StmtGoes, BodyGoes, DoneComes, DoneStops}
+use Rattle.mx_formula_examples.proofs.LoopRules.{StmtGoes, BodyGoes, DoneComes, DoneStops, lines_env, body_leads}
 
 -- ---- what the folds give
 
@@ -169,3 +180,30 @@ statement_stops {s = s} {more = more} {line = line} p = record { leads = λ afte
 
 pub local_unset : {look : Key → KeyResult} {env : Env} {name : Label} → local_of env.locals name ≡ Some None → Turns look env (expr.Name name) [] (λ go. fault UnsetLocal env)
 local_unset {env = env} {name = name} e = record { leads = λ go. part-name name env go ∙ ap (λ (o : Option (Option Value)). local_or o name env go) e }
+
+-- ---- `pass`, and a body that comes to its end
+
+doing-pass : doing stmt.Pass ≡ (λ env after back. after env)
+doing-pass = ap doing (sym stmt.rolls-Pass) ∙ para-roll-Stmt Doing ArmDoing stmt_step arm_step Stmt-F.Pass
+
+pub bound-pass : bound_by stmt.Pass ≡ []
+bound-pass = ap bound_by (sym stmt.rolls-Pass) ∙ fold-roll-Stmt (List Label) (List Label) bound_step bound_arm Stmt-F.Pass
+
+pub first_line-pass : first_line (stmt.Pass ∷ []) ≡ 2
+first_line-pass = ap (λ (b : Bool). if b then 1 else 2) (ap returns (sym stmt.rolls-Pass) ∙ fold-roll-Stmt Bool (Unit {0}) returns_step any_arm Stmt-F.Pass)
+
+pub pass_goes : {look : Key → KeyResult} {env : Env} → StmtGoes look env stmt.Pass [] env
+pass_goes {env = env} = record { leads = λ after back. ap (λ (d : Doing). d env after back) doing-pass }
+
+-- at an address without items
+pub end_run : {look : Key → KeyResult} {ns : Namespace} {name : Label} {params : List Param} {stmts : List Stmt} {allow : Bool} {es fs : List Event} {next : Env} (vs : List Value) (later : Locals) → is_static ns.at ≡ true → Walks look ns es → look (key.Input (Cell ns.at name vs)) ≡ found.Missing
+    → look (key.Cells ns.source name) ≡ found.Formula (record { params = params; body = stmts }) allow → is_wrong_count params (length vs) ≡ false → bound params vs ≡ vs → unset_locals stmts ≡ later
+    → BodyGoes look (lines_env (Cell ns.at name vs) ns (arguments_of params vs) later) stmts (first_line stmts) fs next → cells_returned allow (Cell ns.at name vs) (Plain Nothing) ≡ value_given Nothing
+    → RunsTo look (Cell ns.at name vs) (Looked (key.Input (Cell ns.at name vs)) ∷ es ++ Looked (key.Cells ns.source name) ∷ fs) (Gives (given_value Nothing))
+end_run {look = look} {ns = ns} {name = name} {params = params} {stmts = stmts} {allow = allow} {es = es} {fs = fs} vs later s w input here count binds unset p ends =
+    let n : Node = Cell ns.at name vs in
+    let back : Returned → Run = cells_returned allow n in
+    let env : Env = lines_env n ns (arguments_of params vs) later in
+    let l : Leads (model_of look) (done_from (done_all stmts) (first_line stmts) env (λ e. back (Plain Nothing)) back) fs (value_given Nothing) =
+    subst (λ r. Leads (model_of look) (done_from (done_all stmts) (first_line stmts) env (λ e. back (Plain Nothing)) back) fs r) ends (p.leads (λ e. back (Plain Nothing)) back) in
+    record { leads = static_lead look ns name params stmts allow vs es fs (value_given Nothing) w here count binds (body_leads look n ns (arguments_of params vs) stmts later back fs (value_given Nothing) unset l) s input }

@@ -1,10 +1,11 @@
--- The worked examples of statements that choose, by the rules.
-use Rattle.std.proofs.Common.{◌≡◌, ℕ, ◌+◌, pos, List, [], ◌∷◌, ◌++◌, None, Some, refl, ◌∙◌, ap, sym, subst, true, false, map}
+-- The worked examples of statements, by the rules.
+use Rattle.std.proofs.Common.{◌≡◌, ℕ, ◌+◌, pos, List, [], ◌∷◌, ◌++◌, None, Some, refl, ◌∙◌, ap, sym, subst, Ok, Err, Bool, true, false, if◌then◌else◌, map}
 use Rattle.std.specs.Prelude.{codes}
 use Rattle.std.specs.List.{sum}
 use Rattle.mx_value.specs.declared.label.Label.{Label}
-use Rattle.mx_value.specs.declared.value.Value.TheVariants.{Int}
+use Rattle.mx_value.specs.declared.value.Value.TheVariants.{Int, Tup}
 use Rattle.mx_value.specs.declared.fault.FaultKind.{FaultKind}
+use Rattle.mx_value.specs.declared.fault.FaultKind.TheVariants.{TooLarge}
 use Rattle.mx_syntax.specs.declared.expr.Expr.{Expr}
 use Rattle.mx_syntax.specs.declared.expr.Expr.TheVariants as expr
 use Rattle.mx_syntax.specs.declared.expr.ProductPart.{roll-ProductPart}
@@ -17,6 +18,8 @@ use Rattle.mx_syntax.specs.Heights.{height, arm_height, first_line}
 use Rattle.mx_syntax.specs.Locals.{bound_by, arm_bound, add_all}
 use Rattle.mx_edit.specs.declared.key.Key.{Key}
 use Rattle.mx_edit.specs.declared.key.KeyResult.{KeyResult}
+use Rattle.mx_syntax.specs.declared.op.Op.TheVariants as op
+use Rattle.mx_ops.specs.Table.{gives}
 use Rattle.mx_runs.specs.Runs.{Event}
 use Rattle.mx_meaning.specs.Namespaces.{root, child}
 use Rattle.mx_meaning.specs.Environments.{Env, Locals}
@@ -26,15 +29,15 @@ use Rattle.mx_formula_examples.specs.Rows as row
 use Rattle.mx_formula_examples.specs.FurtherRows as further
 use Rattle.mx_formula_examples.specs.LoopRows as loop
 use Rattle.mx_formula_examples.specs.FormRows as form
-use Rattle.mx_formula_examples.proofs.Equations.{bound-assign, bound-return, height-assign}
-use Rattle.mx_formula_examples.proofs.Rules.{top, lit, local}
+use Rattle.mx_formula_examples.proofs.Equations.{bound-assign, bound-for, bound-return, height-assign, height-for}
+use Rattle.mx_formula_examples.proofs.Rules.{top, lit, local, post, call, none, more, trail_end}
 use Rattle.mx_formula_examples.proofs.NodeRules.{means}
-use Rattle.mx_formula_examples.proofs.FormRules.{compare, chain_more, chain_false, chain_end}
-use Rattle.mx_formula_examples.proofs.LoopRules.{DoneComes, DoneStops, product_fault, then_returns, then_stops, returned, return_stops, assign_goes, one_goes, body_run, body_fault}
+use Rattle.mx_formula_examples.proofs.FormRules.{function_named, call_of_function, compare, chain_more, chain_false, chain_end}
+use Rattle.mx_formula_examples.proofs.LoopRules.{BodyGoes, for_goes, loop_more, loop_end, ints_allowed, DoneComes, DoneStops, product_fault, then_returns, then_stops, returned, return_stops, assign_goes, one_goes, body_run, body_fault}
 use Rattle.mx_formula_examples.proofs.OperatorRules.{truth_int, truth_flag, less_int}
-use Rattle.mx_formula_examples.proofs.ChoiceRules.{first_line-if, height-if, height-arm, height-return, bound-if, bound-if_else, bound-arm, no_arm, other_returns, arm_returns, arm_goes, arm_fails, arm_stops, statement_stops, choose, choose_or, goes_on, statement_returns, local_unset}
+use Rattle.mx_formula_examples.proofs.ChoiceRules.{first_line-if, height-if, height-arm, height-return, bound-if, bound-if_else, bound-arm, no_arm, other_returns, arm_returns, arm_goes, arm_fails, arm_stops, statement_stops, choose, choose_or, goes_on, statement_returns, local_unset, bound-pass, first_line-pass, pass_goes, end_run}
 use Rattle.mx_formula_examples.proofs.Worked.{one_name, one_bound}
-use Rattle.mx_formula_examples.proofs.LoopWorked.{by_zero}
+use Rattle.mx_formula_examples.proofs.LoopWorked.{by_zero, range_3}
 
 abbrev as_locals : List Label → Locals
 as_locals names = map (λ (name : Label). (name, None)) (add_all [] names)
@@ -138,3 +141,47 @@ pub unset_local : form.LocalUnset
 unset_local =
     body_fault (Int (pos 0) ∷ []) ((row.x, None) ∷ []) (one_name (codes "Main")) (top (codes "Main")) refl refl refl (one_bound further.n (pos 0)) x_unset
     (then_stops (goes_on (choose (arm_fails (local refl) (truth_int (pos 0)) setting_height no_arm))) if_height (return_stops (local_unset refl)))
+
+-- ---- the name of a loop
+
+abbrev over_range : Expr
+over_range = loop.range_to (expr.Name further.n)
+
+abbrev loop_set : List Stmt
+loop_set = stmt.Assign row.x (expr.Name loop.i) ∷ []
+
+abbrev later : Locals
+later = (loop.i, None) ∷ (row.x, None) ∷ []
+
+both_unset : unset_locals form.last_of_loop ≡ later
+both_unset =
+    ap (λ (names : List Label). as_locals (names ++ (bound_by (stmt.Return (Some (expr.Name loop.i))) ++ []))) (bound-for loop.i over_range loop_set)
+    ∙ ap (λ (names : List Label). as_locals ((loop.i ∷ (names ++ [])) ++ (bound_by (stmt.Return (Some (expr.Name loop.i))) ++ []))) (bound-assign row.x (expr.Name loop.i))
+    ∙ ap (λ (names : List Label). as_locals ((loop.i ∷ row.x ∷ []) ++ (names ++ []))) (bound-return (Some (expr.Name loop.i)))
+
+loop_height : height (stmt.For loop.i over_range loop_set) ≡ 2
+loop_height = height-for loop.i over_range loop_set ∙ ap (λ (a : ℕ). sum (a ∷ []) + 1) (height-assign row.x (expr.Name loop.i))
+
+pub loop_name_stays : form.LoopNameStays
+loop_name_stays =
+    means (body_run (Int (pos 3) ∷ []) later (one_name (codes "Main")) (top (codes "Main")) refl refl refl (one_bound further.n (pos 3)) both_unset
+    (then_returns (for_goes (post (function_named refl refl refl refl refl) (call (more (local refl) none) (call_of_function range_3) trail_end))
+    (loop_more (one_goes (assign_goes (local refl))) (loop_more (one_goes (assign_goes (local refl))) (loop_more (one_goes (assign_goes (local refl))) loop_end)))) loop_height (returned (local refl))) refl)
+
+range_0 : gives op.Range (Int (pos 0) ∷ []) ≡ Ok (Tup [])
+range_0 = ap (λ (b : Bool). if b then Ok (Tup []) else Err TooLarge) (ints_allowed [])
+
+pub loop_name_unset : form.LoopNameUnset
+loop_name_unset =
+    body_fault (Int (pos 0) ∷ []) later (one_name (codes "Main")) (top (codes "Main")) refl refl refl (one_bound further.n (pos 0)) both_unset
+    (then_stops (for_goes (post (function_named refl refl refl refl refl) (call (more (local refl) none) (call_of_function range_0) trail_end)) loop_end) loop_height (return_stops (local_unset refl)))
+
+-- ---- a body that comes to its end
+
+pub end_gives_none : form.EndGivesNone
+end_gives_none =
+    means (end_run (Int (pos 1) ∷ []) [] (one_name (codes "Main")) (top (codes "Main")) refl refl refl (one_bound further.n (pos 1)) (ap (λ (names : List Label). as_locals (names ++ [])) bound-pass)
+    (passes_in_second_line (one_goes pass_goes)) refl)
+  where
+    passes_in_second_line : {look : Key → KeyResult} {env next : Env} {es : List Event} → BodyGoes look env (stmt.Pass ∷ []) 2 es next → BodyGoes look env (stmt.Pass ∷ []) (first_line (stmt.Pass ∷ [])) es next
+    passes_in_second_line {look = look} {env = env} {next = next} {es = es} p = subst (λ (line : ℕ). BodyGoes look env (stmt.Pass ∷ []) line es next) (sym first_line-pass) p

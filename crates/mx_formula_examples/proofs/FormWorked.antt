@@ -1,4 +1,4 @@
--- The worked examples of single forms, by the rules.
+-- The worked examples of operators, by the rules.
 use Rattle.std.proofs.Common.{◌≡◌, pos, List, [], ◌∷◌, ◌++◌, refl, ◌∙◌, ap, Ok, true, false, rules}
 use Rattle.std.specs.Prelude.{codes}
 use Rattle.std.specs.Bool.{beq}

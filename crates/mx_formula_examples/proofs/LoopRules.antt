@@ -258,7 +258,7 @@ abbrev pub lines_env : Node → Namespace → Overlay → Locals → Env
 lines_env n ns given later = record { node = n; namespace = ns; line = 1; locals = set_locals given ++ later }
 
 -- the body comes to what its statements come to
-body_leads : (look : Key → KeyResult) (n : Node) (ns : Namespace) (given : Overlay) (stmts : List Stmt) (later : Locals) (back : Returned → Run) (fs : List Event) (rest : Run) → unset_locals stmts ≡ later
+pub body_leads : (look : Key → KeyResult) (n : Node) (ns : Namespace) (given : Overlay) (stmts : List Stmt) (later : Locals) (back : Returned → Run) (fs : List Event) (rest : Run) → unset_locals stmts ≡ later
     → Leads (model_of look) (done_from (map done_by stmts) (first_line stmts) (lines_env n ns given later) (λ e. back (Plain Nothing)) back) fs rest → Leads (model_of look) (body_done stmts (first_env n ns given stmts) back) fs rest
 body_leads look n ns given stmts later back fs rest e l =
     from look _ (done_from (map done_by stmts) (first_line stmts) (lines_env n ns given later) (λ x. back (Plain Nothing)) back) rest fs

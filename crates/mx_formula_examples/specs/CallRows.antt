@@ -1,4 +1,4 @@
--- Worked examples of calls, of names of the model and inputs, of generators, and of faults with their node and line.
+-- Worked examples of calls, of names of the model and inputs, of generators, and of faults inside an expression.
 use Rattle.std.specs.Prelude.{ℕ, pos, List, [], ◌∷◌, ◌++◌, None, Some, false, codes, if◌then◌else◌}
 use Rattle.mx_value.specs.Name.{same_name}
 use Rattle.mx_value.specs.declared.value.Value.TheVariants.{Nothing, Int, Flag}
@@ -94,6 +94,15 @@ passing = main_cells [] (cells_of space_main c (Post (Name (codes "sum")) (trail
 -- c() means 5, the sum of 2 and 3
 abbrev pub GeneratorTest : Type 0
 GeneratorTest = Means (model_of passing) c_node (Gives (whole 5))
+
+-- ---- a generator's scope: f(n) = sum(n for n in range(n)) + n
+
+abbrev pub scoping : Key → KeyResult
+scoping = main_cells [] (cells_over_n space_main f (joined (call_over (codes "sum") (Name n) n (range_to (Name n))) sums.Plus (Name n)) ∷ [])
+
+-- f(3) means 6: the name of the generator hides the parameter within it alone, and not in what it goes over
+abbrev pub GeneratorScope : Type 0
+GeneratorScope = Means (model_of scoping) (at_whole f 3) (Gives (whole 6))
 
 -- ---- all: f(n) = 1 - n, c() = all(f(i) for i in range(3))
 

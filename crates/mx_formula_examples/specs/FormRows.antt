@@ -1,4 +1,4 @@
--- Worked examples of single forms: operators, chains of comparisons, statements that choose, generators, and faults.
+-- Worked examples of single forms: operators, chains of comparisons, tuples, and statements with the lines of their faults.
 use Rattle.std.specs.Prelude.{ℕ, pos, neg_ℤ, List, [], ◌∷◌, ◌++◌, None, Some, true, false}
 use Rattle.mx_value.specs.declared.label.Label.{Label}
 use Rattle.mx_value.specs.declared.value.Value.{Value}
@@ -14,7 +14,7 @@ use Rattle.mx_syntax.specs.declared.expr.Sign.TheVariants as sign
 use Rattle.mx_syntax.specs.declared.expr.Comparison.TheVariants as comparison
 use Rattle.mx_syntax.specs.declared.expr.CmpOp.TheVariants.{Lt}
 use Rattle.mx_syntax.specs.declared.stmt.Stmt.{Stmt}
-use Rattle.mx_syntax.specs.declared.stmt.Stmt.TheVariants.{Return, Assign, If}
+use Rattle.mx_syntax.specs.declared.stmt.Stmt.TheVariants.{Pass, Return, Assign, If, For}
 use Rattle.mx_syntax.specs.declared.stmt.IfArm.{IfArm, roll-IfArm}
 use Rattle.mx_edit.specs.declared.key.Key.{Key}
 use Rattle.mx_edit.specs.declared.key.Key.TheVariants as key
@@ -26,7 +26,7 @@ use Rattle.mx_meaning.specs.Nodes.{body}
 use Rattle.mx_meaning.specs.Laws.{model_of}
 use Rattle.mx_formula_examples.specs.Rows.{cells_of, cells_named, whole_reference, space_main, cell, whole, c, f, x}
 use Rattle.mx_formula_examples.specs.FurtherRows.{call_of, main, a, b, n}
-use Rattle.mx_formula_examples.specs.LoopRows.{main_cells, whole_lit, at_whole}
+use Rattle.mx_formula_examples.specs.LoopRows.{main_cells, range_to, whole_lit, at_whole, i}
 
 -- a() = 1, b() = 2, and c() of this line
 abbrev pub with_line : Expr → Key → KeyResult
@@ -170,3 +170,24 @@ LocalSet = Means (model_of (with_body maybe_set)) (at_whole f 1) (Gives (whole 1
 -- f(0) reads the local before it is set, at its fourth line, and not the reference
 abbrev pub LocalUnset : Type 0
 LocalUnset = Means (model_of (with_body maybe_set)) (at_whole f 0) (Faults UnsetLocal (at_whole f 0) 4)
+
+-- ---- the name of a loop is a local: def f(n): for i in range(n): x = i, and then return i
+
+abbrev pub last_of_loop : List Stmt
+last_of_loop = For i (range_to (Name n)) (Assign x (Name i) ∷ []) ∷ Return (Some (Name i)) ∷ []
+
+-- f(3) means 2
+abbrev pub LoopNameStays : Type 0
+LoopNameStays = Means (model_of (with_body last_of_loop)) (at_whole f 3) (Gives (whole 2))
+
+-- f(0) reads the name, which the loop has not set, at its fourth line
+abbrev pub LoopNameUnset : Type 0
+LoopNameUnset = Means (model_of (with_body last_of_loop)) (at_whole f 0) (Faults UnsetLocal (at_whole f 0) 4)
+
+-- ---- a body that comes to its end gives None: def f(n): pass, where None is allowed
+
+abbrev pub coming_to_end : Key → KeyResult
+coming_to_end = main_cells [] (record { path = space_main; name = f; is = found.Formula (record { params = record { name = n; default = None } ∷ []; body = Pass ∷ [] }) true } ∷ [])
+
+abbrev pub EndGivesNone : Type 0
+EndGivesNone = Means (model_of coming_to_end) (at_whole f 1) (Gives (record { value = Nothing; namespace = None }))

@@ -1,6 +1,6 @@
 //! Worked examples of single forms, as theorems over the meaning of nodes.
-ghost use Rattle.mx_formula_examples.specs.FormRows.{PowersFromRight, SignOfPower, SignWithinPower, ChainOfNeighbours, ChainEndsEarly, NoneIsNone, ZeroIsNone, ZeroIsNotNone, OrEndsEarly, AndEndsEarly, OrGivesLast, AndGivesLast, DoubleNot, TupleFromLeft, IfTaken, ElifTaken, ElseTaken, FaultAtElif, LocalSet, LocalUnset};
-ghost use Rattle.mx_formula_examples.specs.CallRows.{DefaultArgument, GlobalReference, InputGiven, InputAsked, GeneratorTest, AllEndsEarly, NoSum, NotPlain, NotCalled, TooManyInside, TooFewInside, RangeTooLarge, ParameterReplaced};
+ghost use Rattle.mx_formula_examples.specs.FormRows.{PowersFromRight, SignOfPower, SignWithinPower, ChainOfNeighbours, ChainEndsEarly, NoneIsNone, ZeroIsNone, ZeroIsNotNone, OrEndsEarly, AndEndsEarly, OrGivesLast, AndGivesLast, DoubleNot, TupleFromLeft, IfTaken, ElifTaken, ElseTaken, FaultAtElif, LocalSet, LocalUnset, LoopNameStays, LoopNameUnset, EndGivesNone};
+ghost use Rattle.mx_formula_examples.specs.CallRows.{DefaultArgument, GlobalReference, InputGiven, InputAsked, GeneratorTest, GeneratorScope, AllEndsEarly, NoSum, NotPlain, NotCalled, TooManyInside, TooFewInside, RangeTooLarge, ParameterReplaced};
 
 /// What single operators, statements and faults mean. Does nothing when it runs.
 pub fn forms()
@@ -24,11 +24,15 @@ pub fn forms()
     ensures fault_at_elif { FaultAtElif }
     ensures local_set { LocalSet }
     ensures unset_local { LocalUnset }
+    ensures loop_name_stays { LoopNameStays }
+    ensures loop_name_unset { LoopNameUnset }
+    ensures end_gives_none { EndGivesNone }
     ensures default_argument { DefaultArgument }
     ensures global_reference_read { GlobalReference }
     ensures input_given { InputGiven }
     ensures input_asked { InputAsked }
     ensures generator_test { GeneratorTest }
+    ensures generator_scope { GeneratorScope }
     ensures all_ends_early { AllEndsEarly }
     ensures no_sum { NoSum }
     ensures not_plain_inside { NotPlain }

@@ -1,6 +1,6 @@
 use Rattle.mx_formula_examples.proofs.FormWorked.{powers_from_right, sign_of_power, sign_within_power, chain_of_neighbours, chain_ends_early, none_is_none, zero_is_none, zero_is_not_none, or_ends_early, and_ends_early, or_gives_last, and_gives_last, double_not, tuple_from_left}
-use Rattle.mx_formula_examples.proofs.ChoiceWorked.{if_taken, elif_taken, else_taken, fault_at_elif, local_set, unset_local}
-use Rattle.mx_formula_examples.proofs.CallWorked.{default_argument, global_reference_read, input_given, input_asked, generator_test, all_ends_early, no_sum, not_plain_inside, not_called, too_many_inside, too_few_inside, range_too_large, parameter_replaced}
+use Rattle.mx_formula_examples.proofs.ChoiceWorked.{if_taken, elif_taken, else_taken, fault_at_elif, local_set, unset_local, loop_name_stays, loop_name_unset, end_gives_none}
+use Rattle.mx_formula_examples.proofs.CallWorked.{default_argument, global_reference_read, input_given, input_asked, generator_test, generator_scope, all_ends_early, no_sum, not_plain_inside, not_called, too_many_inside, too_few_inside, range_too_large, parameter_replaced}
 use Rattle.mx_formula_examples.proofs.forms.forms.Goals as goal
 
 pub returns-clause-powers_from_right : goal.returns-clause-powers_from_right
@@ -63,6 +63,15 @@ returns-clause-local_set c = local_set
 pub returns-clause-unset_local : goal.returns-clause-unset_local
 returns-clause-unset_local c = unset_local
 
+pub returns-clause-loop_name_stays : goal.returns-clause-loop_name_stays
+returns-clause-loop_name_stays c = loop_name_stays
+
+pub returns-clause-loop_name_unset : goal.returns-clause-loop_name_unset
+returns-clause-loop_name_unset c = loop_name_unset
+
+pub returns-clause-end_gives_none : goal.returns-clause-end_gives_none
+returns-clause-end_gives_none c = end_gives_none
+
 pub returns-clause-default_argument : goal.returns-clause-default_argument
 returns-clause-default_argument c = default_argument
 
@@ -77,6 +86,9 @@ returns-clause-input_asked c = input_asked
 
 pub returns-clause-generator_test : goal.returns-clause-generator_test
 returns-clause-generator_test c = generator_test
+
+pub returns-clause-generator_scope : goal.returns-clause-generator_scope
+returns-clause-generator_scope c = generator_scope
 
 pub returns-clause-all_ends_early : goal.returns-clause-all_ends_early
 returns-clause-all_ends_early c = all_ends_early
