@@ -16,6 +16,7 @@ use Rattle.mx_syntax.specs.declared.stmt.Stmt.TheVariants as stmt
 use Rattle.mx_syntax.specs.declared.stmt.Stmt.TheOpen.{Stmt-F}
 use Rattle.mx_syntax.specs.declared.stmt.Stmt.TheFolds.{para-roll-Stmt}
 use Rattle.mx_syntax.specs.declared.stmt.IfArm.{IfArm, roll-IfArm, para-IfArm, para-roll-IfArm, fold-roll-IfArm}
+use Rattle.mx_syntax.specs.declared.stmt.ArithOp.{ArithOp}
 use Rattle.mx_syntax.specs.declared.stmt.Param.{Param}
 use Rattle.mx_syntax.specs.Binding.{bound, is_wrong_count}
 use Rattle.mx_syntax.specs.Lists.{flat}
@@ -30,13 +31,14 @@ use Rattle.mx_runs.specs.Runs.{Run, Gives, Event, Looked}
 use Rattle.mx_runs.specs.Meaning.{Leads}
 use Rattle.mx_runs.specs.Inputs.{is_static}
 use Rattle.mx_runs.proofs.Levels.{leads_append}
-use Rattle.mx_meaning.specs.Environments.{Env, Locals, tested, fault, at_line, local_of}
+use Rattle.mx_meaning.specs.Environments.{Env, Locals, computed, tested, with_local, fault, at_line, local_of}
 use Rattle.mx_meaning.specs.Lookup.{local_or, as_value}
+use Rattle.mx_meaning.specs.Operations.{changing, of_two}
 use Rattle.mx_meaning.specs.Expressions.{reading}
 use Rattle.mx_meaning.specs.Statements.{Returned, Plain, Done, Doing, ArmDoing, stmt_step, arm_step, doing, done_by, done_from, arms_from}
 use Rattle.mx_meaning.specs.Nodes.{arguments_of, unset_locals, value_given, cells_returned}
 use Rattle.mx_meaning.specs.Laws.{model_of}
-use Rattle.mx_formula_examples.proofs.Equations.{part-name}
+use Rattle.mx_formula_examples.proofs.Equations.{part-name, doing-change}
 use Rattle.mx_formula_examples.proofs.Rules.{from, with_value, Walks, Comes}
 use Rattle.mx_formula_examples.proofs.NodeRules.{RunsTo, given_value, static_lead}
 use Rattle.mx_formula_examples.proofs.FormRules.{Turns}
@@ -180,6 +182,13 @@ statement_stops {s = s} {more = more} {line = line} p = record { leads = λ afte
 
 pub local_unset : {look : Key → KeyResult} {env : Env} {name : Label} → local_of env.locals name ≡ Some None → Turns look env (expr.Name name) [] (λ go. fault UnsetLocal env)
 local_unset {env = env} {name = name} e = record { leads = λ go. part-name name env go ∙ ap (λ (o : Option (Option Value)). local_or o name env go) e }
+
+pub change_unset : {look : Key → KeyResult} {env : Env} {name : Label} {op : ArithOp} {e : Expr} → local_of env.locals name ≡ Some None → StmtComes look env (stmt.Change name op e) [] (λ after back. fault UnsetLocal env)
+change_unset {env = env} {name = name} {op = op} {e = e} here = record {
+  leads = λ after back.
+      let one : Value → Run = λ old. reading e env (λ v. computed (of_two (changing op) old v) env (λ new. after (with_local name new env))) in
+      ap (λ (d : Doing). d env after back) (doing-change name op e) ∙ ap (λ (o : Option (Option Value)). local_or o name env (λ c. as_value c env one)) here;
+}
 
 -- ---- `pass`, and a body that comes to its end
 

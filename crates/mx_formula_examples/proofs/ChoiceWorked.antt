@@ -12,6 +12,7 @@ use Rattle.mx_syntax.specs.declared.expr.ProductPart.{roll-ProductPart}
 use Rattle.mx_syntax.specs.declared.expr.ProductOp.TheVariants as products
 use Rattle.mx_syntax.specs.declared.stmt.Stmt.{Stmt}
 use Rattle.mx_syntax.specs.declared.stmt.Stmt.TheVariants as stmt
+use Rattle.mx_syntax.specs.declared.stmt.ArithOp.TheVariants as arithmetic
 use Rattle.mx_syntax.specs.declared.stmt.IfArm.{IfArm}
 use Rattle.mx_syntax.specs.Lists.{flat}
 use Rattle.mx_syntax.specs.Heights.{height, arm_height, first_line}
@@ -29,13 +30,13 @@ use Rattle.mx_formula_examples.specs.Rows as row
 use Rattle.mx_formula_examples.specs.FurtherRows as further
 use Rattle.mx_formula_examples.specs.LoopRows as loop
 use Rattle.mx_formula_examples.specs.FormRows as form
-use Rattle.mx_formula_examples.proofs.Equations.{bound-assign, bound-for, bound-return, height-assign, height-for}
+use Rattle.mx_formula_examples.proofs.Equations.{bound-change, bound-assign, bound-for, bound-return, height-assign, height-for}
 use Rattle.mx_formula_examples.proofs.Rules.{top, lit, local, post, call, none, more, trail_end}
 use Rattle.mx_formula_examples.proofs.NodeRules.{means}
 use Rattle.mx_formula_examples.proofs.FormRules.{function_named, call_of_function, compare, chain_more, chain_false, chain_end}
 use Rattle.mx_formula_examples.proofs.LoopRules.{BodyGoes, for_goes, loop_more, loop_end, ints_allowed, DoneComes, DoneStops, product_fault, then_returns, then_stops, returned, return_stops, assign_goes, one_goes, body_run, body_fault}
 use Rattle.mx_formula_examples.proofs.OperatorRules.{truth_int, truth_flag, less_int}
-use Rattle.mx_formula_examples.proofs.ChoiceRules.{first_line-if, height-if, height-arm, height-return, bound-if, bound-if_else, bound-arm, no_arm, other_returns, arm_returns, arm_goes, arm_fails, arm_stops, statement_stops, choose, choose_or, goes_on, statement_returns, local_unset, bound-pass, first_line-pass, pass_goes, end_run}
+use Rattle.mx_formula_examples.proofs.ChoiceRules.{first_line-if, height-if, height-arm, height-return, bound-if, bound-if_else, bound-arm, no_arm, other_returns, arm_returns, arm_goes, arm_fails, arm_stops, statement_stops, choose, choose_or, goes_on, statement_returns, local_unset, change_unset, bound-pass, first_line-pass, pass_goes, end_run}
 use Rattle.mx_formula_examples.proofs.Worked.{one_name, one_bound}
 use Rattle.mx_formula_examples.proofs.LoopWorked.{by_zero, range_3}
 
@@ -141,6 +142,21 @@ pub unset_local : form.LocalUnset
 unset_local =
     body_fault (Int (pos 0) ∷ []) ((row.x, None) ∷ []) (one_name (codes "Main")) (top (codes "Main")) refl refl refl (one_bound further.n (pos 0)) x_unset
     (then_stops (goes_on (choose (arm_fails (local refl) (truth_int (pos 0)) setting_height no_arm))) if_height (return_stops (local_unset refl)))
+
+-- ---- a change
+
+changed_unset : unset_locals form.changing_first ≡ (row.x, None) ∷ []
+changed_unset =
+    ap (λ (names : List Label). as_locals (names ++ (bound_by (stmt.Return (Some (expr.Name row.x))) ++ []))) (bound-change row.x arithmetic.Add quotient)
+    ∙ ap (λ (names : List Label). as_locals ((row.x ∷ []) ++ (names ++ []))) (bound-return (Some (expr.Name row.x)))
+
+-- where the change is done
+abbrev at_change : Env
+at_change = record { node = loop.at_whole row.f 4; namespace = child (codes "Main") root; line = 2; locals = (further.n, Some (Int (pos 4))) ∷ (row.x, None) ∷ [] }
+
+pub change_reads_first : form.ChangeReadsFirst
+change_reads_first =
+    body_fault (Int (pos 4) ∷ []) ((row.x, None) ∷ []) (one_name (codes "Main")) (top (codes "Main")) refl refl refl (one_bound further.n (pos 4)) changed_unset (statement_stops {at = at_change} (change_unset refl))
 
 -- ---- the name of a loop
 

@@ -14,7 +14,8 @@ use Rattle.mx_syntax.specs.declared.expr.Sign.TheVariants as sign
 use Rattle.mx_syntax.specs.declared.expr.Comparison.TheVariants as comparison
 use Rattle.mx_syntax.specs.declared.expr.CmpOp.TheVariants.{Lt}
 use Rattle.mx_syntax.specs.declared.stmt.Stmt.{Stmt}
-use Rattle.mx_syntax.specs.declared.stmt.Stmt.TheVariants.{Pass, Return, Assign, If, For}
+use Rattle.mx_syntax.specs.declared.stmt.Stmt.TheVariants.{Pass, Return, Assign, Change, If, For}
+use Rattle.mx_syntax.specs.declared.stmt.ArithOp.TheVariants.{Add}
 use Rattle.mx_syntax.specs.declared.stmt.IfArm.{IfArm, roll-IfArm}
 use Rattle.mx_edit.specs.declared.key.Key.{Key}
 use Rattle.mx_edit.specs.declared.key.Key.TheVariants as key
@@ -170,6 +171,15 @@ LocalSet = Means (model_of (with_body maybe_set)) (at_whole f 1) (Gives (whole 1
 -- f(0) reads the local before it is set, at its fourth line, and not the reference
 abbrev pub LocalUnset : Type 0
 LocalUnset = Means (model_of (with_body maybe_set)) (at_whole f 0) (Faults UnsetLocal (at_whole f 0) 4)
+
+-- ---- a change reads the local first: def f(n): x += n / 0, and then return x
+
+abbrev pub changing_first : List Stmt
+changing_first = Change x Add (Product (Name n) (roll-ProductPart (record { op = products.Over; of = whole_lit 0 }) ∷ [])) ∷ Return (Some (Name x)) ∷ []
+
+-- f(4) doesn't come to divide by 0
+abbrev pub ChangeReadsFirst : Type 0
+ChangeReadsFirst = Means (model_of (with_body changing_first)) (at_whole f 4) (Faults UnsetLocal (at_whole f 4) 2)
 
 -- ---- the name of a loop is a local: def f(n): for i in range(n): x = i, and then return i
 

@@ -1,5 +1,5 @@
 //! Worked examples of single forms, as theorems over the meaning of nodes.
-ghost use Rattle.mx_formula_examples.specs.FormRows.{PowersFromRight, SignOfPower, SignWithinPower, ChainOfNeighbours, ChainEndsEarly, NoneIsNone, ZeroIsNone, ZeroIsNotNone, OrEndsEarly, AndEndsEarly, OrGivesLast, AndGivesLast, DoubleNot, TupleFromLeft, IfTaken, ElifTaken, ElseTaken, FaultAtElif, LocalSet, LocalUnset, LoopNameStays, LoopNameUnset, EndGivesNone};
+ghost use Rattle.mx_formula_examples.specs.FormRows.{PowersFromRight, SignOfPower, SignWithinPower, ChainOfNeighbours, ChainEndsEarly, NoneIsNone, ZeroIsNone, ZeroIsNotNone, OrEndsEarly, AndEndsEarly, OrGivesLast, AndGivesLast, DoubleNot, TupleFromLeft, IfTaken, ElifTaken, ElseTaken, FaultAtElif, LocalSet, LocalUnset, ChangeReadsFirst, LoopNameStays, LoopNameUnset, EndGivesNone};
 ghost use Rattle.mx_formula_examples.specs.CallRows.{DefaultArgument, GlobalReference, InputGiven, InputAsked, GeneratorTest, GeneratorScope, AllEndsEarly, NoSum, NotPlain, NotCalled, TooManyInside, TooFewInside, RangeTooLarge, ParameterReplaced};
 
 /// What single operators, statements and faults mean. Does nothing when it runs.
@@ -24,6 +24,7 @@ pub fn forms()
     ensures fault_at_elif { FaultAtElif }
     ensures local_set { LocalSet }
     ensures unset_local { LocalUnset }
+    ensures change_reads_first { ChangeReadsFirst }
     ensures loop_name_stays { LoopNameStays }
     ensures loop_name_unset { LoopNameUnset }
     ensures end_gives_none { EndGivesNone }

@@ -1,5 +1,5 @@
 use Rattle.mx_formula_examples.proofs.FormWorked.{powers_from_right, sign_of_power, sign_within_power, chain_of_neighbours, chain_ends_early, none_is_none, zero_is_none, zero_is_not_none, or_ends_early, and_ends_early, or_gives_last, and_gives_last, double_not, tuple_from_left}
-use Rattle.mx_formula_examples.proofs.ChoiceWorked.{if_taken, elif_taken, else_taken, fault_at_elif, local_set, unset_local, loop_name_stays, loop_name_unset, end_gives_none}
+use Rattle.mx_formula_examples.proofs.ChoiceWorked.{if_taken, elif_taken, else_taken, fault_at_elif, local_set, unset_local, change_reads_first, loop_name_stays, loop_name_unset, end_gives_none}
 use Rattle.mx_formula_examples.proofs.CallWorked.{default_argument, global_reference_read, input_given, input_asked, generator_test, generator_scope, all_ends_early, no_sum, not_plain_inside, not_called, too_many_inside, too_few_inside, range_too_large, parameter_replaced}
 use Rattle.mx_formula_examples.proofs.forms.forms.Goals as goal
 
@@ -62,6 +62,9 @@ returns-clause-local_set c = local_set
 
 pub returns-clause-unset_local : goal.returns-clause-unset_local
 returns-clause-unset_local c = unset_local
+
+pub returns-clause-change_reads_first : goal.returns-clause-change_reads_first
+returns-clause-change_reads_first c = change_reads_first
 
 pub returns-clause-loop_name_stays : goal.returns-clause-loop_name_stays
 returns-clause-loop_name_stays c = loop_name_stays
