@@ -4,6 +4,13 @@ pub mod NodeRules
 pub mod Rounds
 pub mod FormRules
 pub mod LoopRules
+pub mod OperatorRules
+pub mod ChoiceRules
+pub mod CallRules
+pub mod GeneratorRules
 pub mod Worked
 pub mod FurtherWorked
 pub mod LoopWorked
+pub mod FormWorked
+pub mod ChoiceWorked
+pub mod CallWorked

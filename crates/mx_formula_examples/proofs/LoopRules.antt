@@ -220,7 +220,7 @@ pub none_decides : {look : Key → KeyResult} {env : Env} {decides : Bool} {elem
 none_decides = record { leads = λ go. refl }
 
 module _ (look : Key → KeyResult) (env : Env) (decides : Bool) (element : Expr) (name : Label) (over : Expr) (v w : Value) (vs : List Value) (es fs : List Event) (x : Value) (b : Bool) (p : Comes look (within name v env) element es w) (h : truth w ≡ Ok b) where
-  item_leads : (go : Value → Run) → Leads (model_of look) (if beq b decides then go (Flag decides) else decided_from decides (generator element name over) vs env go) fs (go x)
+  pub item_leads : (go : Value → Run) → Leads (model_of look) (if beq b decides then go (Flag decides) else decided_from decides (generator element name over) vs env go) fs (go x)
       → Leads (model_of look) (decided_from decides (generator element name over) (v ∷ vs) env go) (es ++ fs) (go x)
   item_leads go l =
       let pick : Bool → Run = λ c. if beq c decides then go (Flag decides) else decided_from decides (generator element name over) vs env go in
@@ -258,7 +258,7 @@ abbrev pub lines_env : Node → Namespace → Overlay → Locals → Env
 lines_env n ns given later = record { node = n; namespace = ns; line = 1; locals = set_locals given ++ later }
 
 -- the body comes to what its statements come to
-body_leads : (look : Key → KeyResult) (n : Node) (ns : Namespace) (given : Overlay) (stmts : List Stmt) (later : Locals) (back : Returned → Run) (fs : List Event) (rest : Run) → unset_locals stmts ≡ later
+pub body_leads : (look : Key → KeyResult) (n : Node) (ns : Namespace) (given : Overlay) (stmts : List Stmt) (later : Locals) (back : Returned → Run) (fs : List Event) (rest : Run) → unset_locals stmts ≡ later
     → Leads (model_of look) (done_from (map done_by stmts) (first_line stmts) (lines_env n ns given later) (λ e. back (Plain Nothing)) back) fs rest → Leads (model_of look) (body_done stmts (first_env n ns given stmts) back) fs rest
 body_leads look n ns given stmts later back fs rest e l =
     from look _ (done_from (map done_by stmts) (first_line stmts) (lines_env n ns given later) (λ x. back (Plain Nothing)) back) rest fs

@@ -53,10 +53,10 @@ use Rattle.mx_formula_examples.proofs.FurtherWorked.{one_plain}
 
 -- ---- ranges
 
-range_3 : gives op.Range (Int (pos 3) ∷ []) ≡ Ok (Tup (Int (pos 0) ∷ Int (pos 1) ∷ Int (pos 2) ∷ []))
+pub range_3 : gives op.Range (Int (pos 3) ∷ []) ≡ Ok (Tup (Int (pos 0) ∷ Int (pos 1) ∷ Int (pos 2) ∷ []))
 range_3 = ap (λ (b : Bool). if b then Ok (Tup (Int (pos 0) ∷ Int (pos 1) ∷ Int (pos 2) ∷ [])) else Err TooLarge) (ints_allowed (pos 0 ∷ pos 1 ∷ pos 2 ∷ []))
 
-range_4 : gives op.Range (Int (pos 4) ∷ []) ≡ Ok (Tup (Int (pos 0) ∷ Int (pos 1) ∷ Int (pos 2) ∷ Int (pos 3) ∷ []))
+pub range_4 : gives op.Range (Int (pos 4) ∷ []) ≡ Ok (Tup (Int (pos 0) ∷ Int (pos 1) ∷ Int (pos 2) ∷ Int (pos 3) ∷ []))
 range_4 = ap (λ (b : Bool). if b then Ok (Tup (Int (pos 0) ∷ Int (pos 1) ∷ Int (pos 2) ∷ Int (pos 3) ∷ [])) else Err TooLarge) (ints_allowed (pos 0 ∷ pos 1 ∷ pos 2 ∷ pos 3 ∷ []))
 
 -- ---- a loop
@@ -148,7 +148,7 @@ dividing_unset =
     ap (λ (names : List Label). as_locals (names ++ (bound_by (stmt.Return (Some quotient)) ++ []))) (bound-assign row.x (further.call_of further.g (expr.Name further.n ∷ [])))
     ∙ ap (λ (names : List Label). as_locals ((row.x ∷ []) ++ (names ++ []))) (bound-return (Some quotient))
 
-by_zero : of_two (multiplying products.Over) (Int (pos 4)) (Int (pos 0)) ≡ Err ZeroDivision
+pub by_zero : of_two (multiplying products.Over) (Int (pos 4)) (Int (pos 0)) ≡ Err ZeroDivision
 unfolding fixed_div
 by_zero = refl
 

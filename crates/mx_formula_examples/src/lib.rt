@@ -4,4 +4,5 @@
 //! Room: checks.
 #![tactic(auto)]
 
+pub mod forms;
 pub mod rows;
