@@ -6,7 +6,8 @@
     tools/wrong_bodies.py --check       whether each, also each of the gate's, can be applied still; no proofs, a moment
 
 An edit has the form that `rt ci` reads in crates/CRATE/must-fail: a line `file: PATH`, then pairs of lines `old: TEXT` and `new: TEXT`,
-where TEXT of `old:` stands in that file once. They are tried by `rt ci CRATE..` in a copy of the crates that has these edits and no others, so
+where TEXT of `old:` stands in that file once. A line `above: NAME` names a crate above, whose theorems pin what the edit turns where
+its own crate proves it all the same. They are tried by `rt ci CRATE..` in a copy of the crates that has these edits and no others, so
 proofs and edits that the machine has kept are used again. What is new costs: with one edit the crate's whole proof, with several that
 proof and up to a minute each. So this runs before a release and where a crate changes, and not in the gate; there, `--check` sees that none rots.
 The status is 1 where one was not refused, or could not be applied.
@@ -23,6 +24,8 @@ TOP = os.path.dirname(os.path.dirname(os.path.abspath(__file__)))
 CRATES = os.path.join(TOP, "crates")
 KEPT = os.path.join(TOP, "tools", "wrong_bodies")
 NAME = re.compile(r"[A-Za-z0-9_-][A-Za-z0-9_.-]*\.edit")
+ABOVE = re.compile(r"^above: (\w+)$", re.M)
+UNPROVED = re.compile(r"rt: (\w+) NOT PROVED(: its library)?")
 TOLD = re.compile(r"rt: must-fail (\w+/[\w.-]+\.edit): (refused, as it must be)?")
 
 
@@ -73,6 +76,9 @@ def why_not(crate, file):
                 return f"'{old.strip()}' stands in {path} {times} times, and not once"
             texts[path] = texts[path].replace(old, line[len("new:") :].removeprefix(" "))
             old, pairs = None, pairs + 1
+        elif line.startswith("above: "):
+            if not os.path.isdir(os.path.join(CRATES, line[len("above: ") :].strip())):
+                return "there is no crate of the name behind 'above:'"
         elif line.strip():
             return f"a line begins with none of 'file: ', 'old: ' and 'new:': {line.strip()[:60]}"
     if not pairs or old:
@@ -119,20 +125,55 @@ def copy_of_crates(room, chosen):
             shutil.copy(os.path.join(KEPT, crate, name), folder)
 
 
-def attempt(chosen):
-    """Tries these edits, prints what `rt` says of them as it says it, and returns the status."""
-    refused = set()
+def lines_of_run(room, crates):
+    """The lines of `rt ci` over some crates in a folder; those that `rt` says itself are printed as it says them."""
     environment = {name: value for name, value in os.environ.items() if name != "CI"}
+    how = {"cwd": room, "env": environment, "stdout": subprocess.PIPE, "stderr": subprocess.STDOUT}
+    with subprocess.Popen(["rt", "ci", *crates], encoding="utf-8", errors="replace", **how) as run:
+        for line in run.stdout:
+            if line.startswith("rt: "):
+                print(line, end="", flush=True)
+            yield line
+
+
+def refused_by_own(chosen):
+    """Those of these edits that their own crates refuse."""
     with tempfile.TemporaryDirectory(prefix="wrong-bodies-") as room:
         copy_of_crates(room, chosen)
-        how = {"cwd": room, "env": environment, "stdout": subprocess.PIPE, "stderr": subprocess.STDOUT}
-        with subprocess.Popen(["rt", "ci", *chosen], encoding="utf-8", errors="replace", **how) as run:
-            for line in run.stdout:
-                if line.startswith("rt: "):
-                    print(line, end="", flush=True)
-                told = TOLD.match(line)
-                if told and told[2]:
-                    refused.add(told[1])
+        told = [TOLD.match(line) for line in lines_of_run(room, chosen)]
+    return {it[1] for it in told if it and it[2]}
+
+
+def apply_edit(room, crate, name):
+    """Makes an edit in a copy of the crates."""
+    path, old = "", ""
+    for line in text_of(os.path.join(KEPT, crate, name)).splitlines():
+        if line.startswith("file: "):
+            path = os.path.join(room, "crates", crate, line[len("file: ") :].strip())
+        elif line.startswith("old: "):
+            old = line[len("old: ") :]
+        elif line.startswith("new:"):
+            text = text_of(path).replace(old, line[len("new:") :].removeprefix(" "))
+            with open(path, "w", encoding="utf-8") as f:
+                f.write(text)
+
+
+def is_refused_above(crate, name, above):
+    """Whether a crate above is not proved over the crate with this edit, which is proved itself."""
+    with tempfile.TemporaryDirectory(prefix="wrong-bodies-") as room:
+        copy_of_crates(room, {})
+        apply_edit(room, crate, name)
+        told = [UNPROVED.match(line) for line in lines_of_run(room, [above])]
+    return [it.groups() for it in told if it] == [(above, None)]
+
+
+def attempt(chosen):
+    """Tries these edits, prints what `rt` says of them as it says it, and returns the status."""
+    above = {(crate, name): ABOVE.search(text_of(os.path.join(KEPT, crate, name))) for crate, names in chosen.items() for name in names}
+    own = {crate: [it for it in names if not above[crate, it]] for crate, names in chosen.items()}
+    own = {crate: names for crate, names in own.items() if names}
+    refused = refused_by_own(own) if own else set()
+    refused |= {f"{crate}/{name}" for (crate, name), it in above.items() if it and is_refused_above(crate, name, it[1])}
     wanted = [f"{crate}/{name}" for crate, names in chosen.items() for name in names]
     lacking = [it for it in wanted if it not in refused]
     print(f"wrong_bodies: {len(wanted) - len(lacking)} of {len(wanted)} refused")
