@@ -24,7 +24,7 @@ use Rattle.mx_model.proofs.SoundLemmas.{valid_sound}
 use Rattle.mx_model.proofs.Defined.{some_not, split_push, same_ends, defined_has}
 use Rattle.mx_changes.proofs.Free.{either, new_free, free_of}
 use Rattle.mx_changes.proofs.NewSpaces.{grown}
-use Rattle.mx_apply.specs.Chain.{IsRingless, MakesNoRing, CanGoOn, ValidGoesOn}
+use Rattle.mx_apply.specs.Chain.{BasesAreOnce, IsRingless, MakesNoRing, CanGoOn, ValidGoesOn}
 
 -- ---- spaces that were there
 
@@ -64,9 +64,12 @@ was_led : (text made : ModelRecord) → AllWere text made → (from : Path) (pat
 was_led text made were from [] to l = was_step text made were from to l
 was_led text made were from (next ∷ paths) to l = (was_step text made were from next l.0, was_led text made were next paths to l.1)
 
+kept_once : (text made : ModelRecord) → AllWere text made → BasesAreOnce text → BasesAreOnce made
+kept_once text made were d s h = let w = were s h in let P : List Path → Type 0 = λ bs. Distinct bs in subst P w.bases (d w.old w.among)
+
 kept : (text made : ModelRecord) → AllWere text made → IsRingless text → IsRingless made
 kept text made were r = record {
-  bases = λ s h. let w = were s h in let P : List Path → Type 0 = λ bs. Distinct bs in subst P w.bases (r.bases w.old w.among);
+  bases = kept_once text made were r.bases;
   no_ring = λ path paths l. r.no_ring path paths (was_led text made were path paths path l);
 }
 
@@ -186,11 +189,14 @@ old_led text new n from (next ∷ paths) to last l = (
   old_led text new n next paths to last l.1,
 )
 
+pub grown_once : (text : ModelRecord) (new : Path) → BasesAreOnce text → BasesAreOnce (grown text new)
+grown_once text new d s h =
+    let P : SpaceRecord → Type 0 = λ z. Distinct z.bases in
+    elim (has_push_cases text.spaces (empty_space new) s h) [ inl i ↦ d s i | inr e ↦ subst P e tt ]
+
 grown_ringless : (text : ModelRecord) (new : Path) → IsNew text new → IsRingless text → IsRingless (grown text new)
 grown_ringless text new n r = record {
-  bases = λ s h.
-      let P : SpaceRecord → Type 0 = λ z. Distinct z.bases in
-      elim (has_push_cases text.spaces (empty_space new) s h) [ inl i ↦ r.bases s i | inr e ↦ subst P e tt ];
+  bases = grown_once text new r.bases;
   no_ring = λ path paths l. r.no_ring path paths (old_led text new n path paths path (begins_old text new n path paths path l) l);
 }
 
@@ -221,10 +227,15 @@ based_once : (bases : List Path) (s old : SpaceRecord) (b : Bool) → Distinct b
 based_once bases s old true d was e = let P : SpaceRecord → Type 0 = λ z. Distinct z.bases in subst P e d
 based_once bases s old false d was e = let P : SpaceRecord → Type 0 = λ z. Distinct z.bases in subst P e was
 
-based_bases : (text : ModelRecord) (path : Path) (bases : List Path) → Distinct bases → IsRingless text → (s : SpaceRecord) → Has (at_space text path (based bases)).spaces s → Distinct s.bases
+based_bases : (text : ModelRecord) (path : Path) (bases : List Path) → Distinct bases → BasesAreOnce text → BasesAreOnce (at_space text path (based bases))
 based_bases text path bases d r s h =
     let m = map_has (λ (z : SpaceRecord). if same_path z.path path then based bases z else z) text.spaces s h in
-    based_once bases s m.from (same_path m.from.path path) d (r.bases m.from m.among) m.is
+    based_once bases s m.from (same_path m.from.path path) d (r m.from m.among) m.is
+
+pub set_once : (text : ModelRecord) (path : Path) (bases : List Path) → record_trouble text (edit.SetBases path bases) ≡ None → BasesAreOnce text → BasesAreOnce (change text (edit.SetBases path bases))
+set_once text path bases none r =
+    let f = free_of text (edit.SetBases path bases) none in
+    based_bases text path bases (once bases (either (has_double bases) _ f.values).0) r
 
 -- ---- the edits
 
@@ -241,9 +252,7 @@ changed_ringless text tables (edit.NewSpace parent name) placed none r m =
     let f = free_of text (edit.NewSpace parent name) none in
     grown_ringless text (parent ++ name ∷ []) (new_is text tables parent name placed (new_free text parent name f.names)) r
 changed_ringless text tables (edit.DelSpace path) placed none r m = kept text (change text (edit.DelSpace path)) (rest_were text path) r
-changed_ringless text tables (edit.SetBases path bases) placed none r m =
-    let f = free_of text (edit.SetBases path bases) none in
-    record { bases = based_bases text path bases (once bases (either (has_double bases) _ f.values).0) r; no_ring = m }
+changed_ringless text tables (edit.SetBases path bases) placed none r m = record { bases = set_once text path bases none r.bases; no_ring = m }
 changed_ringless text tables (edit.SetCells path name formula) placed none r m =
     kept text (change text (edit.SetCells path name formula)) (members_were text path (λ (s : SpaceRecord). record s { cells = define_cells s.cells name formula }) (λ s. record { path = refl; bases = refl })) r
 changed_ringless text tables (edit.DelCells path name) placed none r m =

@@ -9,9 +9,13 @@ use Rattle.mx_model.specs.Rings.{HasNoRing}
 use Rattle.mx_model.specs.Sound.{IsSound}
 use Rattle.mx_model.specs.Valid.{Valid}
 
--- no space has a base twice, and there is no ring
+-- no space has a base twice
+abbrev pub BasesAreOnce : ModelRecord → Type 0
+BasesAreOnce text = (s : SpaceRecord) → Has text.spaces s → Distinct s.bases
+
+-- nor is there a ring
 pub record IsRingless (text : ModelRecord) : Type 0 where
-  pub bases : (s : SpaceRecord) → Has text.spaces s → Distinct s.bases
+  pub bases : BasesAreOnce text
   pub no_ring : HasNoRing text
 
 -- new bases can make a ring; no other edit does

@@ -1,3 +1,4 @@
 pub mod Chain
 pub mod Made
+pub mod Needs
 pub mod Room

@@ -1,9 +1,9 @@
 //! Edits of a model text.
 ghost use Rattle.std.specs.Prelude.{◌≡◌, None, true, IfOk};
-ghost use Rattle.mx_model.specs.Sound.{IsSound};
 ghost use Rattle.mx_model.specs.Change.{change, bound_edit, set_reference, remove_reference};
 ghost use Rattle.mx_model.specs.Refused.{is_holder, record_trouble};
 ghost use Rattle.mx_apply.specs.Made.{IsMade};
+ghost use Rattle.mx_apply.specs.Needs.{CanTell};
 ghost use Rattle.mx_apply.specs.Chain.{IsRingless, MakesNoRing, CanGoOn, GoesOn};
 
 use crate::bound::bound_node;
@@ -25,7 +25,7 @@ use std::alloc::{AllocError, Global};
 /// The text that an edit makes of another one, or the first refusal that applies by what the text holds. Rings, numbers and
 /// the walk over static paths are not looked at, and inputs that no longer fit stay.
 pub fn with_edit(alloc: Global, text: &ModelText, edit: &Edit) -> Result<ModelText, EditRefusal>
-    requires { IsSound text.now }
+    requires { CanTell text.now edit.now }
     ensures made { IsMade text.now edit.now result }
     ensures next { GoesOn text.now edit.now result }
 {
@@ -55,7 +55,7 @@ fn keep_on(text: &ModelText, edit: &Edit, made: &ModelText)
 
 /// The change of an edit to which no refusal applies.
 fn changed(alloc: Global, text: &ModelText, edit: &Edit) -> Result<ModelText, AllocError>
-    requires sound { IsSound text.now }
+    requires can { CanTell text.now edit.now }
     requires free { record_trouble text.now edit.now ≡ None }
     ensures { IfOk result (λ t. t ≡ change text.now (bound_edit text.now edit.now)) }
 {

@@ -6,6 +6,7 @@ ghost use Rattle.mx_model.specs.Paths.{is_defined};
 ghost use Rattle.mx_model.specs.Change.{is_within};
 ghost use Rattle.mx_model.specs.Sound.{IsSound};
 ghost use Rattle.mx_model.specs.Inputs.{cells_params, path_of};
+ghost use Rattle.mx_apply.specs.Needs.{CanTell};
 ghost use Rattle.mx_model.specs.Refused.{bad_name, no_such_space, no_such_member, name_taken, wrong_count, do_not_bind, item_address, bad_value, first_user, uses, in_use, record_trouble};
 
 use crate::bound::bound_node;
@@ -69,7 +70,7 @@ fn lacks_one(text: &ModelText, paths: &[Path]) -> bool
 
 /// Whether a path of the edit is that of no defined space, or for an input no static one.
 fn no_such_space(alloc: Global, text: &ModelText, edit: &Edit) -> Result<bool, AllocError>
-    requires { IsSound text.now }
+    requires { CanTell text.now edit.now }
     ensures { IfOk result (λ told. told ≡ no_such_space text.now edit.now) }
 {
     match edit {
@@ -113,7 +114,7 @@ fn no_such_space(alloc: Global, text: &ModelText, edit: &Edit) -> Result<bool, A
 
 /// Whether what the edit is to change, or names as a target, is not there.
 fn no_such_member(alloc: Global, text: &ModelText, edit: &Edit) -> Result<bool, AllocError>
-    requires { IsSound text.now }
+    requires { CanTell text.now edit.now }
     ensures { IfOk result (λ told. told ≡ no_such_member text.now edit.now) }
 {
     match edit {
@@ -206,7 +207,7 @@ fn do_not_bind(
 
 /// Whether the arguments of an input do not bind.
 fn wrong_count(alloc: Global, text: &ModelText, edit: &Edit) -> Result<bool, AllocError>
-    requires { IsSound text.now }
+    requires { CanTell text.now edit.now }
     ensures { IfOk result (λ told. told ≡ wrong_count text.now edit.now) }
 {
     match edit {
@@ -249,7 +250,7 @@ fn item_address(alloc: Global, edit: &Edit) -> Result<bool, AllocError>
 
 /// Whether a base is named twice, or the edit holds what may not stand in a model text.
 fn bad_value(alloc: Global, text: &ModelText, edit: &Edit) -> Result<bool, AllocError>
-    requires sound { IsSound text.now }
+    requires can { CanTell text.now edit.now }
     requires binds { wrong_count text.now edit.now ≡ false }
     ensures { IfOk result (λ told. told ≡ bad_value text.now edit.now) }
 {
@@ -351,7 +352,7 @@ pub fn record_trouble(
     text: &ModelText,
     edit: &Edit,
 ) -> Result<Option<EditRefusal>, AllocError>
-    requires { IsSound text.now }
+    requires { CanTell text.now edit.now }
     ensures { IfOk result (λ why. why ≡ record_trouble text.now edit.now) }
 {
     if bad_name(edit) {

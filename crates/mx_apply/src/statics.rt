@@ -8,6 +8,7 @@ ghost use Rattle.mx_model.specs.Inputs.{path_of, params_of, cells_params};
 ghost use Rattle.mx_model.specs.Refused.{lacks_path, lacks_cells, is_cells, is_target};
 ghost use Rattle.mx_model.specs.Paths.{split_last};
 ghost use Rattle.mx_model.specs.Sound.{IsSound};
+ghost use Rattle.mx_apply.specs.Needs.{CanFind};
 
 use mx_c3::lists::Order;
 use mx_edit::reference::RefValue;
@@ -151,7 +152,7 @@ fn copy_names(alloc: Global, names: &[Label]) -> Result<Path, AllocError>
 
 /// Whether what a reference names is there.
 pub fn is_target(alloc: Global, text: &ModelText, value: &RefValue) -> Result<bool, AllocError>
-    requires { IsSound text.now }
+    requires { CanFind text.now value.now }
     ensures { IfOk result (λ told. told ≡ is_target text.now value.now) }
 {
     match value {

@@ -8,7 +8,6 @@ use Rattle.mx_value.specs.declared.value.Value.TheVariants as values
 use Rattle.mx_edit.specs.Rows.{TableRows}
 use Rattle.mx_edit.specs.declared.table.TableRefusal.{TableRefusal}
 use Rattle.mx_edit.specs.declared.table.TableRefusal.TheVariants.{TooBig, BadRow, BadNumber, NoMemory}
-use Rattle.mx_edit.specs.declared.table.Table.{Table}
 
 -- ---- when rows make a table
 
@@ -73,8 +72,13 @@ table_trouble t =
     else if not (is_header t.columns) then Some (BadRow 0)
     else rows_trouble (length t.columns - 1) 1 [] t.keys t.rows
 
+-- a row for each key, and no trouble: what every table keeps
+pub record IsTable (t : TableRows) : Type 0 where
+  pub even : length t.keys ≡ length t.rows
+  pub sound : table_trouble t ≡ None
+
 -- the answer to rows that have this trouble, or none
-abbrev pub Answers : Result Table TableRefusal → Option TableRefusal → Type 0
+abbrev pub Answers : Result TableRows TableRefusal → Option TableRefusal → Type 0
 Answers result (Some trouble) = result ≡ Err trouble
 Answers result None = IsOkUnless result NoMemory
 

@@ -1,6 +1,6 @@
 //! Tables: numbers by a whole key and by the name of a column.
 ghost use Rattle.std.specs.Prelude.{◌≡◌, ◌<◌, ◌≤◌, [], slice_get, length, option_copied, IsTrue, IfOk, IfSome};
-ghost use Rattle.mx_edit.specs.Table.{Answers, is_number, is_column, are_columns, is_header, row_trouble, rows_trouble, table_trouble, entry_at, place_of, place_of_key, item_at, first_other, is_among};
+ghost use Rattle.mx_edit.specs.Table.{Answers, IsTable, is_number, is_column, are_columns, is_header, row_trouble, rows_trouble, table_trouble, entry_at, place_of, place_of_key, item_at, first_other, is_among};
 
 use mx_list::items::Items;
 use mx_list::list::List;
@@ -20,7 +20,8 @@ const ROWS: usize = 10_000;
 const NAME: usize = 64;
 
 /// A table: in each row a key, which stands in no other row, and a number for each column but the first, which is that
-/// of the keys. Contracts see its `TableRows`.
+/// of the keys. It has 2 to 120 columns, names of 1 to 64 bytes, each once, and at most 10,000 rows. Contracts see its
+/// `TableRows`.
 #[derive(Drop)]
 pub struct Table {
     columns: List<Label>,
@@ -63,12 +64,15 @@ impl Model for Table {
     ghost use Rattle.std.specs.Coded.{codes};
     ghost use Rattle.mx_value.specs.contracts.value.Value as value;
     ghost use Rattle.mx_edit.specs.Rows.{TableRows};
+    ghost use Rattle.mx_edit.specs.Table.{IsTable};
 
     ghost Value = { TableRows };
 
     ghost coded = { Prim.hlevel (codes, value.the_row.coded) };
 
     ghost view = { λ t. record { columns = t.columns; keys = t.keys; rows = t.rows } };
+
+    ghost invariant = { λ t. IsTable (record { columns = t.columns; keys = t.keys; rows = t.rows }) };
 }
 
 /// Two tables are equal where their columns, keys and rows are, whatever they share.
@@ -134,6 +138,14 @@ impl Table {
             keys: self.keys.copy()?,
             rows: self.rows.copy()?,
         })
+    }
+
+    /// What every table keeps, for proofs: it has a row for each key, and there is no trouble with it. Does nothing when it
+    /// runs.
+    pub fn limits(&self)
+        ensures { IsTable self.now }
+    {
+        let _ = &self.keys;
     }
 
     /// What stands in the row of a key and in a column, where both are there. The column of the keys is none of these.

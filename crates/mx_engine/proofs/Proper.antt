@@ -8,6 +8,7 @@ use Rattle.mx_edit.specs.declared.edit.Edit.{Edit}
 use Rattle.mx_edit.specs.declared.refusal.EditRefusal.{EditRefusal}
 use Rattle.mx_edit.specs.declared.scope.Scope.{Scope}
 use Rattle.mx_model.specs.Records.{ModelRecord, beginning}
+use Rattle.mx_model.specs.Tables.{HasTables}
 use Rattle.mx_model.specs.Valid.{Valid}
 use Rattle.mx_vertices.specs.Kept.{Kept}
 use Rattle.mx_memo.specs.Memos.{Memory, nothing_held}
@@ -17,8 +18,9 @@ use Rattle.mx_state.specs.Proper.{IsProper}
 use Rattle.mx_state.specs.State.{State, AreProper}
 use Rattle.mx_state.specs.Evaluations.{Evaluates, HasPrecedents}
 use Rattle.mx_state.specs.Changes.{Edits, Clearing}
-use Rattle.mx_limit_laws.specs.Texts.{IsSmallText, IsSmallEdit}
+use Rattle.mx_limit_laws.specs.Texts.{HasSmallFormulas, IsSmallText, IsSmallEdit}
 use Rattle.mx_limit_laws.proofs.Edits.{begins_small, edits_keep_small}
+use Rattle.mx_limit_laws.proofs.Tables.{text_tables_are_small}
 use Rattle.mx_limit_laws.proofs.States.{begins_proper, proper_after_evaluation, proper_after_edit, proper_after_clearing}
 use Rattle.mx_engine.specs.Edited.{HasEdited}
 use Rattle.mx_engine.specs.Engine.{first_limit, IsSound}
@@ -52,6 +54,10 @@ module _ (w v : ModelRecord) (m k : Memory) (e : Edit) (limit : ℕ) (sound : Is
   proper_told (Ok n) done text held small p = after_edit (state_of w m limit) (state_of v k limit) e small (done limit sound).edits p
   proper_told (Err why) done text held small p =
       subst IsProperState (sym (same_told w v m k e limit sound (state_of w m limit) refl (Err why) text held)) p
+
+-- the tables of a text keep their limits by themselves
+pub small_text : (text same : ModelRecord) → same ≡ text → HasSmallFormulas text → HasTables same → IsSmallText text
+small_text text same is formulas has = record { formulas = formulas; tables = text_tables_are_small text (subst HasTables is has) }
 
 -- nothing held is proper
 pub proper_empty : (text : ModelRecord) (m : Memory) (limit : ℕ) → m.held ≡ [] → IsSmallText text → IsProperState (state_of text m limit)

@@ -1,7 +1,7 @@
 //! Clearings, and other worlds.
 ghost use Rattle.std.specs.Prelude.{◌≡◌, ◌+◌, [], length};
 ghost use Rattle.mx_state.specs.Changes.{Clearing};
-ghost use Rattle.mx_limit_laws.specs.Texts.{IsSmallText};
+ghost use Rattle.mx_limit_laws.specs.Texts.{HasSmallFormulas};
 ghost use Rattle.mx_engine.specs.Scopes.{DropsScope};
 
 use crate::engine::Engine;
@@ -22,13 +22,14 @@ impl Engine {
         clear_in(&mut self.memo, scope)
     }
 
-    /// Puts another world in the place of the engine's own. Nothing is held then, and the limit stays. Takes no memory.
+    /// Puts another world in the place of the engine's own. Nothing is held then, and the limit stays. Takes no memory. Goes
+    /// once over the tables of the text.
     pub fn replace(&mut self, world: World)
-        requires { IsSmallText world }
+        requires { HasSmallFormulas world }
         ensures { self.new ≡ record self.old { text = world; held = [] } }
     {
         mx_state::laws::laws();
-        let _ = world.text();
+        world.text().table_limits();
         clear_all(&mut self.memo);
         self.world = world;
     }

@@ -2,7 +2,7 @@
 ghost use Rattle.std.specs.Prelude.{◌≡◌, ◌+◌, ℕ, IfOk, OnErr, OnOk, length};
 ghost use Rattle.mx_model.specs.Literals.{IsRead};
 ghost use Rattle.mx_state.specs.Changes.{Edits};
-ghost use Rattle.mx_limit_laws.specs.Texts.{IsSmallEdit};
+ghost use Rattle.mx_limit_laws.specs.Texts.{HasSmallFormula, HasSmallTable};
 ghost use Rattle.mx_engine.specs.Edited.{HasEdited};
 ghost use Rattle.mx_engine.specs.Refused.{IsRefusedBy};
 
@@ -21,13 +21,25 @@ impl Engine {
     /// one of them. A refused edit changes nothing. All memory is taken before anything changes.
     pub fn edit(&mut self, edit: &Edit) -> Result<u32, EditRefusal>
         requires read { IsRead edit.now }
-        requires small { IsSmallEdit edit.now }
+        requires small { HasSmallFormula edit.now }
         ensures accepted { OnOk result (Edits self.old edit.now self.new) }
         ensures dropped { IfOk result (λ n. n + length self.new.held ≡ length self.old.held) }
         ensures refused { OnErr result (self.new ≡ self.old) }
         ensures exact { IsRefusedBy self.old.text edit.now result }
     {
+        table_limits(edit);
         change(self.alloc, edit, &mut self.world, &mut self.memo)
+    }
+}
+
+/// The numbers of a table that an edit sets are within the limits, for proofs. Changes nothing.
+fn table_limits(edit: &Edit)
+    ensures { HasSmallTable edit.now }
+{
+    mx_limit_laws::laws::laws();
+    match edit {
+        Edit::SetTable { name: _, table } => table.limits(),
+        _ => {}
     }
 }
 

@@ -1,19 +1,22 @@
 -- The entries of a table without a trouble are numbers, and so arguments.
 use Rattle.std.proofs.Common.{◌≡◌, ℕ, ◌+◌, ◌-◌, ◌==◌, ◌||◌, Bool, true, false, not, nat_lt, List, [], ◌∷◌, ◌++◌, length, Option, None, Some, ℤ, inl, inr, refl, sym, ap, ◌∙◌, arith}
-use Rattle.std.specs.List.{list_all, position, prefix_len}
+use Rattle.std.specs.List.{All, list_all, position, prefix_len}
 use Rattle.std.proofs.lemmas.Bool.{cases_Bool}
 use Rattle.std.proofs.lemmas.Bool.Decides.{nat_tests}
+use Rattle.std.proofs.lemmas.List.Elements.{All-head, All-tail}
 use Rattle.mx_value.specs.Plain.{is_plain}
 use Rattle.mx_value.specs.declared.value.Value.{Value}
 use Rattle.mx_value.specs.declared.value.Value.TheVariants as made
 use Rattle.mx_value.specs.declared.value.Segment.TheOpen.{Value-F}
 use Rattle.mx_value.specs.declared.value.Segment.TheFolds.{fold-roll-Value}
 use Rattle.mx_edit.specs.Rows.{TableRows}
-use Rattle.mx_edit.specs.Table.{is_number, first_other, number_trouble, key_trouble, place_of_key, or_else, row_trouble, rows_trouble, is_header, table_trouble}
+use Rattle.mx_edit.specs.Table.{is_number, first_other, number_trouble, key_trouble, place_of_key, or_else, row_trouble, rows_trouble, is_header, table_trouble, IsTable}
 use Rattle.mx_edit.specs.declared.table.TableRefusal.{TableRefusal}
+use Rattle.mx_model.specs.Records.{Name}
 use Rattle.mx_state.specs.Proper.{IsArgument}
 use Rattle.mx_limit_laws.specs.Values.{Each}
-use Rattle.mx_limit_laws.specs.Laws.{TablesAreSmall}
+use Rattle.mx_limit_laws.specs.Replies.{IsSmallTable}
+use Rattle.mx_limit_laws.specs.Laws.{TablesAreSmall, TextTablesAreSmall}
 use Rattle.mx_limit_laws.proofs.Values.{both, int_within, fix_within, plain_argument}
 
 -- ---- where nothing fails a test, all pass it
@@ -87,4 +90,16 @@ no_trouble t e =
     ]
 
 pub tables_are_small : TablesAreSmall
-tables_are_small t even none = rows_arguments t.keys t.rows (length t.columns - 1) 1 [] even (no_trouble t none)
+tables_are_small t h = rows_arguments t.keys t.rows (length t.columns - 1) 1 [] h.even (no_trouble t h.sound)
+
+-- ---- the tables of a text
+
+all_small : (tables : List (Name × TableRows)) → All (λ (t : Name × TableRows). IsTable t.1) tables → Each (λ (t : Name × TableRows). IsSmallTable t.1) tables
+all_small [] h = tt
+all_small (t ∷ tables) h =
+    let first = All-head (λ (x : Name × TableRows). IsTable x.1) t tables h in
+    let rest = All-tail (λ (x : Name × TableRows). IsTable x.1) t tables h in
+    (tables_are_small t.1 first, all_small tables rest)
+
+pub text_tables_are_small : TextTablesAreSmall
+text_tables_are_small text h = all_small text.tables h

@@ -78,7 +78,7 @@ module _ (text : ModelRecord) (valid : Valid text) (small : IsSmallText text) wh
 
   spaces_small : Each OfSpace text.spaces
   spaces_small =
-      each_both IsSmallSpace (λ s. Each (λ (r : Name × RefValue). IsSmallReference r.1) s.references) text.spaces small.spaces
+      each_both IsSmallSpace (λ s. Each (λ (r : Name × RefValue). IsSmallReference r.1) s.references) text.spaces small.formulas
       (each_of (λ s. Each (λ (r : Name × RefValue). IsSmallReference r.1) s.references) text.spaces (λ s i. each_of (λ (r : Name × RefValue). IsSmallReference r.1) s.references (λ r j. reference_small r.1 (valid.references.owned s r i j))))
 
   -- ---- what the first layer has

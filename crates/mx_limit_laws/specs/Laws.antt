@@ -1,10 +1,10 @@
 -- Laws: what runs give and ask is within the limits, and held nodes stay proper.
-use Rattle.std.specs.Prelude.{◌≡◌, ℕ, List, [], length, None, Result, Ok}
+use Rattle.std.specs.Prelude.{ℕ, List, [], Result, Ok}
 use Rattle.mx_value.specs.declared.node.Node.{Node}
 use Rattle.mx_value.specs.declared.value.Value.{Value}
 use Rattle.mx_value.specs.declared.refusal.EvalRefusal.{EvalRefusal}
 use Rattle.mx_edit.specs.Rows.{TableRows}
-use Rattle.mx_edit.specs.Table.{table_trouble}
+use Rattle.mx_edit.specs.Table.{IsTable}
 use Rattle.mx_edit.specs.declared.edit.Edit.{Edit}
 use Rattle.mx_edit.specs.declared.key.Key.{Key}
 use Rattle.mx_edit.specs.declared.key.KeyResult.{KeyResult}
@@ -19,6 +19,7 @@ use Rattle.mx_meaning.specs.Laws.{model_of, BindsTo}
 use Rattle.mx_model.specs.Apply.{Apply}
 use Rattle.mx_model.specs.Records.{ModelRecord, beginning}
 use Rattle.mx_model.specs.Keys.{key_result}
+use Rattle.mx_model.specs.Tables.{HasTables}
 use Rattle.mx_model.specs.Valid.{Valid}
 use Rattle.mx_state.specs.Proper.{HasArguments, IsProper}
 use Rattle.mx_state.specs.State.{State, AreProper}
@@ -26,7 +27,7 @@ use Rattle.mx_state.specs.Evaluations.{Evaluates}
 use Rattle.mx_state.specs.Changes.{Edits, Clearing}
 use Rattle.mx_limit_laws.specs.Values.{Each, IsWithin, IsAnswerWithin}
 use Rattle.mx_limit_laws.specs.Replies.{IsSmallTable, HasSmallResults, IsSmallReply}
-use Rattle.mx_limit_laws.specs.Texts.{IsSmallText, IsSmallEdit}
+use Rattle.mx_limit_laws.specs.Texts.{HasSmallFormulas, HasSmallTables, IsSmallText, HasSmallFormula, IsSmallEdit}
 
 -- what an operator gives for values within the limits is within them
 abbrev pub OperatorsStayWithin : Type 0
@@ -59,16 +60,25 @@ ReachedAreProper =
 abbrev pub TextsHaveSmallResults : Type 0
 TextsHaveSmallResults = (text : ModelRecord) → Valid text → IsSmallText text → HasSmallResults (key_result text)
 
--- the entries of a table that is not refused are numbers
+-- the entries of a table are numbers
 abbrev pub TablesAreSmall : Type 0
-TablesAreSmall =
-    (t : TableRows) → length t.keys ≡ length t.rows → table_trouble t ≡ None → IsSmallTable t
+TablesAreSmall = (t : TableRows) → IsTable t → IsSmallTable t
+
+-- also those of a text's tables
+abbrev pub TextTablesAreSmall : Type 0
+TextTablesAreSmall = (text : ModelRecord) → HasTables text → HasSmallTables text
 
 -- a model begins with small literals
 abbrev pub BeginsSmall : Type 0
 BeginsSmall = IsSmallText beginning
 
--- and an edit with small literals keeps it so
+-- an edit with small literals of formulas and parameter lists keeps those of a text small
+abbrev pub EditsKeepFormulasSmall : Type 0
+EditsKeepFormulasSmall =
+    (text next : ModelRecord) (e : Edit) → HasSmallFormulas text → HasSmallFormula e
+    → Apply text e (Ok next) → HasSmallFormulas next
+
+-- and one with small literals keeps all of them so
 abbrev pub EditsKeepSmall : Type 0
 EditsKeepSmall =
     (text next : ModelRecord) (e : Edit) → IsSmallText text → IsSmallEdit e

@@ -12,4 +12,5 @@ pub mod Places
 mod SmallModels
 pub mod SoundLemmas
 pub mod SpaceLemmas
+mod TableLemmas
 mod Totals

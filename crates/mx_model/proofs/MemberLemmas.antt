@@ -3,7 +3,7 @@ use Rattle.std.proofs.Common.{◌≡◌, ◌∙◌, ℕ, List, [], ◌∷◌, Op
 use Rattle.std.specs.Prelude.{position, option_map}
 use Rattle.mx_value.specs.Name.{same_path}
 use Rattle.mx_c3.specs.declared.space.SpaceId.{SpaceId}
-use Rattle.mx_model.specs.Records.{Path, SpaceRecord, beginning}
+use Rattle.mx_model.specs.Records.{Path, SpaceRecord, beginning, empty_text}
 use Rattle.mx_model.specs.Parents.{HasParent}
 use Rattle.mx_c3.specs.Lists.{Has}
 use Rattle.mx_model.specs.Layers.{paths_of}
@@ -27,4 +27,12 @@ begin_index = record {
   paths = refl;
   bases = refl;
   placed = record { once = (λ h. h, tt); kinds = (λ name. refl, tt); parents = main_parent; few = lit< tt };
+}
+
+-- what stands beside a text without spaces
+pub empty_index : IsIndexed [] [] [] empty_text
+empty_index = record {
+  paths = refl;
+  bases = refl;
+  placed = record { once = tt; kinds = tt; parents = λ path h. absurd h; few = lit< tt };
 }

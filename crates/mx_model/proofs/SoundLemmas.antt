@@ -24,7 +24,7 @@ use Rattle.mx_edit.specs.declared.refusal.Limit.TheVariants as limit
 use Rattle.mx_model.specs.Walk.{MeetsNothing, layers_trouble}
 use Rattle.mx_model.specs.Parents.{HasParent}
 use Rattle.mx_model.specs.Valid.{Valid, names_of}
-use Rattle.mx_model.specs.Sound.{IsSound, AreSpaces, HasSpaces, ValidIsSound, ChildrenAreDistinct, LayersAreSpaces, ValidHasOrders}
+use Rattle.mx_model.specs.Sound.{IsSound, AreSpaces, HasSpaces, ValidIsSound, RinglessIsSound, ChildrenAreDistinct, LayersAreSpaces, ValidHasOrders}
 use Rattle.mx_model.proofs.Filtered.{IsTold, distinct_map, distinct_left, distinct_filter, has_filter, one_place}
 use Rattle.mx_model.proofs.Places.{bases_sound, defined_space, id_within, one_path}
 
@@ -60,11 +60,13 @@ path_told text valid s (Some (parent, name)) e h = record {
   distinct = child_names_distinct text valid parent h;
 }
 
+pub ringless_sound : RinglessIsSound
+ringless_sound text paths bases no_ring = record { bases = bases_sound text bases no_ring; paths = paths }
+
 pub valid_sound : ValidIsSound
-valid_sound text valid = record {
-  bases = bases_sound text (λ s h. (valid.bases s h).0) valid.no_ring;
-  paths = distinct_map Name path_in text.spaces (λ s h. path_told text valid s (split_last s.path) refl (valid.names.parents s h));
-}
+valid_sound text valid =
+    let paths = distinct_map Name path_in text.spaces (λ s h. path_told text valid s (split_last s.path) refl (valid.names.parents s h)) in
+    ringless_sound text paths (λ s h. (valid.bases s h).0) valid.no_ring
 
 -- ---- children
 

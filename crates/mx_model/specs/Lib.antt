@@ -19,5 +19,6 @@ pub mod Refused
 pub mod Rings
 pub mod Rows
 pub mod Sound
+pub mod Tables
 pub mod Valid
 pub mod Walk

@@ -40,6 +40,10 @@ pub record ModelRecord : Type 0 where
 abbrev pub empty_space : Path → SpaceRecord
 empty_space path = record { path = path; bases = []; params = None; cells = []; references = [] }
 
+-- nothing at all stands in it
+abbrev pub empty_text : ModelRecord
+empty_text = record { spaces = []; globals = []; inputs = []; tables = [] }
+
 -- a model begins with the one empty space Main
 abbrev pub beginning : ModelRecord
 beginning = record { spaces = empty_space (codes "Main" ∷ []) ∷ []; globals = []; inputs = []; tables = [] }

@@ -6,11 +6,12 @@ use Rattle.mx_c3.specs.declared.refusal.C3Refusal.TheVariants as refusal
 use Rattle.mx_c3.specs.declared.space.SpaceId.{SpaceId}
 use Rattle.mx_c3.specs.InOrder.{AllBelow}
 use Rattle.mx_c3.specs.Linearisation.{AreSound}
-use Rattle.mx_c3.specs.Lists.{Distinct}
-use Rattle.mx_model.specs.Records.{Name, Path, ModelRecord}
+use Rattle.mx_c3.specs.Lists.{Has, Distinct}
+use Rattle.mx_model.specs.Records.{Name, Path, SpaceRecord, ModelRecord}
 use Rattle.mx_model.specs.declared.layers.Layered.{Layered}
 use Rattle.mx_model.specs.declared.layers.Layered.TheVariants.{Layers, NoOrder, NotStatic}
 use Rattle.mx_model.specs.Layers.{paths_of, base_lists, child_of, layers}
+use Rattle.mx_model.specs.Rings.{HasNoRing}
 use Rattle.mx_model.specs.Valid.{Valid}
 
 -- the bases can be linearised, and no path stands twice
@@ -32,6 +33,12 @@ HasSpaces text NotStatic = Unit {0}
 
 abbrev pub ValidIsSound : Type 0
 ValidIsSound = (text : ModelRecord) → Valid text → IsSound text
+
+-- so is any text in which no path stands twice, no space has a base twice, and there is no ring
+abbrev pub RinglessIsSound : Type 0
+RinglessIsSound =
+    (text : ModelRecord) → Distinct (paths_of text)
+    → ((s : SpaceRecord) → Has text.spaces s → Distinct s.bases) → HasNoRing text → IsSound text
 
 -- spaces that are distinct have distinct children of a name
 abbrev pub ChildrenAreDistinct : Type 0

@@ -229,6 +229,16 @@ pub(crate) fn id_in(paths: &Keys<Path>, path: &Path) -> Option<SpaceId>
     }
 }
 
+/// The index of no spaces.
+pub(crate) fn empty_index(alloc: Global) -> Result<Index, AllocError>
+    ensures paths { IfOk result (λ i. i.paths ≡ []) }
+    ensures lists { IfOk result (λ i. i.lists ≡ []) }
+{
+    let paths = Shared::new(alloc, Keys::new(alloc)?)?;
+    let lists = Shared::new(alloc, BaseLists::new(alloc))?;
+    Ok(Index { paths, lists })
+}
+
 /// The index of one space without bases, of this path.
 pub(crate) fn first_index(alloc: Global, path: Path) -> Result<Index, AllocError>
     ensures paths { IfOk result (λ i. i.paths ≡ path ∷ []) }

@@ -1,6 +1,6 @@
 //! Laws of the definitions.
 ghost use Rattle.mx_model.specs.Laws.{ChangesAreTold};
-ghost use Rattle.mx_model.specs.Sound.{ValidIsSound, ChildrenAreDistinct, LayersAreSpaces, ValidHasOrders};
+ghost use Rattle.mx_model.specs.Sound.{ValidIsSound, RinglessIsSound, ChildrenAreDistinct, LayersAreSpaces, ValidHasOrders};
 ghost use Rattle.mx_model.specs.Rows.{DiamondInOrder, CrossedHasNoOrder, ChildIsDerived, HiddenChildStays, NoBaseNoChild, BaseBringsItsRecord, RefusalsInTurn, ChildAsBaseIsRing};
 
 /// The test of changed keys says exactly where what a key leads to differs, for proofs. Does nothing when it runs.
@@ -21,11 +21,12 @@ pub fn small_models()
     ensures ring { ChildAsBaseIsRing }
 {}
 
-/// What holds of all layers, for proofs: a valid text has bases that can be linearised and distinct paths; then distinct
-/// spaces have distinct children and layers are distinct spaces; and no path of a valid text lacks an order. Does nothing
-/// when it runs.
+/// What holds of all layers, for proofs: a valid text has bases that can be linearised and distinct paths, and so has any
+/// without rings whose paths and bases are distinct; then distinct spaces have distinct children and layers are distinct
+/// spaces; and no path of a valid text lacks an order. Does nothing when it runs.
 pub fn layer_laws()
     ensures sound { ValidIsSound }
+    ensures ringless { RinglessIsSound }
     ensures children { ChildrenAreDistinct }
     ensures layers { LayersAreSpaces }
     ensures orders { ValidHasOrders }

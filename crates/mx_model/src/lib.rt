@@ -15,4 +15,5 @@ mod replace;
 mod share;
 pub mod space;
 pub mod spaces;
+pub mod tables;
 pub mod text;

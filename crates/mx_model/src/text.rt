@@ -2,14 +2,14 @@
 ghost use Rattle.std.specs.Prelude.{◌≡◌, ◌<◌, ◌∷◌, [], codes, Some, length, slice_get, option_copied, option_map, IfOk};
 ghost use Rattle.std.specs.Map.{lookup};
 ghost use Rattle.mx_value.specs.Name.{same_name};
-ghost use Rattle.mx_model.specs.Records.{beginning, empty_space};
+ghost use Rattle.mx_model.specs.Records.{beginning, empty_space, empty_text};
 ghost use Rattle.mx_model.specs.Layers.{id_of, space_of, paths_of, base_lists};
 ghost use Rattle.mx_model.specs.Keys.{input_of};
 ghost use Rattle.mx_model.specs.Lookup.{kind_in};
 ghost use Rattle.mx_model.specs.Indexed.{TellsAt, ArePlaced};
 ghost use Rattle.mx_model.specs.Readers.{path_in, cells_in, formula_in, allows_in, reference_in, params_in, name_at, cells_at, reference_at};
 
-use crate::beside::{Index, copy_index, first_index};
+use crate::beside::{Index, copy_index, empty_index, first_index};
 use crate::held::{copy_held, no_members, nothing_held};
 use crate::kind::Kind;
 use crate::space::{Cells, Space};
@@ -76,6 +76,25 @@ impl ModelText {
         let held = nothing_held(alloc)?;
         let kinds = one_table(alloc)?;
         let spaces = one_space(alloc, path)?;
+        Ok(ModelText {
+            paths: index.paths,
+            spaces,
+            kinds,
+            lists: index.lists,
+            globals: held.globals,
+            inputs: held.inputs,
+            tables: held.tables,
+        })
+    }
+
+    /// The text in which nothing stands, not even a space.
+    pub fn empty(alloc: Global) -> Result<ModelText, AllocError>
+        ensures { IfOk result (λ t. t ≡ empty_text) }
+    {
+        let index = empty_index(alloc)?;
+        let held = nothing_held(alloc)?;
+        let spaces = Spaces::new(alloc);
+        let kinds = Chunks::new(alloc);
         Ok(ModelText {
             paths: index.paths,
             spaces,

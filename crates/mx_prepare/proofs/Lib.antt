@@ -3,3 +3,4 @@ pub mod PrepareLemmas
 pub mod Shapes
 pub mod KeptShape
 pub mod ReadLemmas
+pub mod CompleteLemmas

@@ -20,6 +20,7 @@ use Rattle.mx_model.proofs.Defined.{defined_has}
 use Rattle.mx_changes.proofs.Free.{free_of, is_true, from_space}
 use Rattle.mx_paths.specs.Names.{AreNames, IsNamed}
 use Rattle.mx_prepare.specs.Shape.{shape_of}
+use Rattle.mx_prepare.specs.Named.{EmptyIsNamed, EditsKeepNames}
 use Rattle.mx_prepare.proofs.Shapes.{same_paths}
 use Rattle.mx_prepare.proofs.KeptShape.{edits_keep_shape}
 
@@ -113,3 +114,13 @@ named_after text (edit.SetParams path params) named free = same_named text (chan
 named_after text (edit.SetInput at name arguments value) named free = same_named text (changed text (edit.SetInput at name arguments value)) (edits_keep_shape text (edit.SetInput at name arguments value) refl) named
 named_after text (edit.DelInput at name arguments) named free = same_named text (changed text (edit.DelInput at name arguments)) (edits_keep_shape text (edit.DelInput at name arguments) refl) named
 named_after text (edit.SetTable name table) named free = same_named text (changed text (edit.SetTable name table)) (edits_keep_shape text (edit.SetTable name table) refl) named
+
+-- ---- laws
+
+pub empty_named : EmptyIsNamed
+empty_named = record { names = λ path h. absurd h; some = λ h. h }
+
+pub names_kept : EditsKeepNames
+names_kept text e named free =
+    let after = named_after text e named free in
+    record { names = after.names; some = after.some }

@@ -17,7 +17,7 @@ use Rattle.mx_whole_edits.proofs.WholeLemmas.{whole}
 use Rattle.mx_whole_edits.proofs.ReadyLemmas.{ready_valid}
 use Rattle.mx_world.specs.World.{IsWorld}
 use Rattle.mx_prepare.specs.Shape.{shape_of, keeps_shape}
-use Rattle.mx_prepare.specs.Prepared.{Prepares, Walks}
+use Rattle.mx_prepare.specs.Prepared.{Prepares, IsWalked}
 use Rattle.mx_prepare.proofs.Shapes.{built_alike}
 use Rattle.mx_prepare.proofs.KeptShape.{edits_keep_shape}
 
@@ -49,14 +49,14 @@ new_world made rows shared same ready named built = record {
 
 -- ---- the answer
 
-pub walks_ok : (text made shown : ModelRecord) (e : Edit) → shown ≡ made → made ≡ changed text e → MeetsNothing made → Walks text e (Ok shown)
-walks_ok text made shown e same is nothing = (same ∙ is, subst MeetsNothing (sym same) nothing)
+pub walked_ok : (text made shown : ModelRecord) (e : Edit) → shown ≡ made → made ≡ changed text e → MeetsNothing made → IsWalked (changed text e) (Ok shown)
+walked_ok text made shown e same is nothing = (same ∙ is, subst (λ (t : ModelRecord). MeetsNothing t) is nothing)
 
 module _ (text made : ModelRecord) (e : Edit) (accepted : IsAccepted text e made) where
   met : (why : EditRefusal) → Meets (changed text e) why → Meets made why
   met why m = subst (λ (t : ModelRecord). Meets t why) (sym accepted.is) m
 
-  walked_err : (why : EditRefusal) → Walks text e (Err why) → Prepares text e (Err why)
+  walked_err : (why : EditRefusal) → IsWalked (changed text e) (Err why) → Prepares text e (Err why)
   walked_err refusal.NoMemory w = tt
   walked_err refusal.BadName w = (whole text e).meets made refusal.BadName accepted (met refusal.BadName w)
   walked_err refusal.NoSuchSpace w = (whole text e).meets made refusal.NoSuchSpace accepted (met refusal.NoSuchSpace w)
@@ -70,8 +70,8 @@ module _ (text made : ModelRecord) (e : Edit) (accepted : IsAccepted text e made
   walked_err (refusal.TooMany l) w = (whole text e).meets made (refusal.TooMany l) accepted (met (refusal.TooMany l) w)
   walked_err (refusal.NoOrder path) w = (whole text e).meets made (refusal.NoOrder path) accepted (met (refusal.NoOrder path) w)
 
-  pub walked_all : (answer : Result ModelRecord EditRefusal) → Walks text e answer → Prepares text e answer
-  walked_all (Ok shown) w = (whole text e).accepts shown (record { free = accepted.free; counted = accepted.counted; is = w.0 }) w.1
+  pub walked_all : (answer : Result ModelRecord EditRefusal) → IsWalked (changed text e) answer → Prepares text e answer
+  walked_all (Ok shown) w = (whole text e).accepts shown (record { free = accepted.free; counted = accepted.counted; is = w.0 }) (subst (λ (t : ModelRecord). MeetsNothing t) (sym w.0) w.1)
   walked_all (Err why) w = walked_err why w
 
 pub stopped : (text : ModelRecord) (e : Edit) (why : EditRefusal) → IsApplied text e (Err why) → Prepares text e (Err why)

@@ -4,7 +4,7 @@ use Rattle.mx_edit.specs.declared.edit.Edit.{Edit}
 use Rattle.mx_edit.specs.declared.refusal.EditRefusal.{EditRefusal}
 use Rattle.mx_edit.specs.declared.refusal.EditRefusal.TheVariants as refusal
 use Rattle.mx_model.specs.Records.{ModelRecord}
-use Rattle.mx_model.specs.Apply.{Apply, changed}
+use Rattle.mx_model.specs.Apply.{Apply}
 use Rattle.mx_model.specs.Walk.{Meets, MeetsNothing}
 
 -- the new text, or the refusal; only want of memory is free
@@ -12,8 +12,8 @@ abbrev pub Prepares : ModelRecord → Edit → Result ModelRecord EditRefusal �
 Prepares text e (Err refusal.NoMemory) = Unit {0}
 Prepares text e answer = Apply text e answer
 
--- The walk over the static paths of the changed text: it meets nothing, or it meets the refusal.
-abbrev pub Walks : ModelRecord → Edit → Result ModelRecord EditRefusal → Type 0
-Walks text e (Ok made) = (made ≡ changed text e) × MeetsNothing made
-Walks text e (Err refusal.NoMemory) = Unit {0}
-Walks text e (Err why) = Meets (changed text e) why
+-- The walk over the static paths of a text: it meets nothing, or it meets the refusal.
+abbrev pub IsWalked : ModelRecord → Result ModelRecord EditRefusal → Type 0
+IsWalked text (Ok made) = (made ≡ text) × MeetsNothing text
+IsWalked text (Err refusal.NoMemory) = Unit {0}
+IsWalked text (Err why) = Meets text why

@@ -3,21 +3,20 @@ ghost use Rattle.std.specs.Prelude.{◌≡◌, IsTrue};
 ghost use Rattle.std.specs.List.{list_any};
 ghost use Rattle.mx_prepare.specs.Shape as shape;
 ghost use Rattle.mx_apply.specs.Chain.{CanGoOn};
+ghost use Rattle.mx_model.specs.Apply.{changed};
 ghost use Rattle.mx_model.specs.Valid.{Valid};
 ghost use Rattle.mx_paths.specs.Names.{IsNamed};
 ghost use Rattle.mx_model.specs.Literals.{IsRead};
 ghost use Rattle.mx_whole_edits.specs.Ready.{IsReady};
 ghost use Rattle.mx_whole_edits.specs.Whole.{IsAccepted};
-ghost use Rattle.mx_prepare.specs.Prepared.{Prepares, Walks};
+ghost use Rattle.mx_prepare.specs.Prepared.{Prepares, IsWalked};
 ghost use Rattle.mx_prepare.specs.Read as spec;
 
+use crate::paths::with_paths;
 use mx_apply::values::is_unfit;
 use mx_edit::edit::Edit;
 use mx_edit::refusal::EditRefusal;
-use mx_list::shared::Shared;
 use mx_model::text::ModelText;
-use mx_paths::refusal::PathsRefusal;
-use mx_paths::table::Paths;
 use mx_syntax::stmt::Param;
 use mx_whole_edits::whole::applied;
 use mx_world::world::World;
@@ -112,7 +111,7 @@ fn walked(
     requires next { CanGoOn text }
     requires ready { IsReady text }
     requires named { IsNamed text }
-    ensures { Walks world.now edit.now result }
+    ensures { IsWalked (changed world.now edit.now) result }
 {
     if keeps_shape(edit) {
         match world.shared_paths() {
@@ -124,18 +123,9 @@ fn walked(
             Err(_) => return Err(EditRefusal::NoMemory),
         }
     }
-    match Paths::build(alloc, &text) {
-        Ok(paths) => match Shared::new(alloc, paths) {
-            Ok(shared) => {
-                return Ok(Prepared {
-                    world: World::of(text, shared),
-                });
-            }
-            Err(_) => return Err(EditRefusal::NoMemory),
-        },
-        Err(PathsRefusal::NoOrder(path)) => return Err(EditRefusal::NoOrder(path)),
-        Err(PathsRefusal::TooMany(limit)) => return Err(EditRefusal::TooMany(limit)),
-        Err(PathsRefusal::NoMemory) => return Err(EditRefusal::NoMemory),
+    match with_paths(alloc, text) {
+        Ok(made) => return Ok(Prepared { world: made }),
+        Err(why) => return Err(why),
     }
 }
 

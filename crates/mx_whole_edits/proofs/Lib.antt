@@ -5,6 +5,7 @@ pub mod FineSpaces
 pub mod Free
 pub mod GoodInputs
 pub mod InputEdits
+pub mod LaidLemmas
 pub mod Members
 pub mod NormalLaws
 pub mod ReadyLemmas

@@ -4,5 +4,6 @@
 #![tactic(auto)]
 
 pub mod fitting;
+pub mod laid;
 pub mod unfit;
 pub mod whole;

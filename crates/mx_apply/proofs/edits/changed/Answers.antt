@@ -1,7 +1,9 @@
+use Rattle.std.proofs.Common.{refl}
 use Rattle.mx_edit.specs.declared.edit.Edit.TheVariants as edit
 use Rattle.mx_model.specs.Paths.{is_defined}
 use Rattle.mx_model.specs.Refused.{is_holder}
 use Rattle.mx_changes.proofs.Free.{free_at, is_true, bases_defined, allowed_cells}
+use Rattle.mx_apply.proofs.NeedLemmas.{sound_for}
 use Rattle.mx_apply.proofs.edits.changed.Goals as goal
 
 pub with_new_space-requires-clause-held : goal.with_new_space-requires-clause-held
@@ -48,3 +50,11 @@ pub with_params-requires : goal.with_params-requires
 with_params-requires c =
     let f = free_at c.args.text.now c.args.edit.now (edit.SetParams c.in-SetParams.path c.in-SetParams.params) c.requires.free c.in-SetParams.is in
     is_true (is_defined c.args.text.now c.in-SetParams.path) f.spaces
+
+pub bound_node-requires-clause-sound : goal.bound_node-requires-clause-sound
+bound_node-requires-clause-sound c =
+    sound_for c.args.text.now c.args.edit.now (edit.SetInput c.in-SetInput.space c.in-SetInput.name c.in-SetInput.args c.in-SetInput.value) c.requires.can c.in-SetInput.is refl
+
+pub bound_node-requires-in-DelInput-clause-sound : goal.bound_node-requires-in-DelInput-clause-sound
+bound_node-requires-in-DelInput-clause-sound c =
+    sound_for c.args.text.now c.args.edit.now (edit.DelInput c.in-DelInput.space c.in-DelInput.name c.in-DelInput.args) c.requires.can c.in-DelInput.is refl

@@ -7,3 +7,6 @@ returns-in-Ok-Some-clause-exact c =
 
 pub returns-in-Err-clause-exact : goal.returns-in-Err-clause-exact
 returns-in-Err-clause-exact c = stopped_by c.args.text.now c.args.edit.now c.in-Err.why c.in-Err.ensures.made
+
+pub with_edit-requires : goal.with_edit-requires
+with_edit-requires c looks = c.requires.next.sound

@@ -9,7 +9,7 @@ invariant_of-self c = record {
       c.change.result c.change.ensures.accepted c.change.ensures.text c.change.ensures.held;
   proper =
       proper_told c.self.inside.world c.change.new.world c.self.inside.memo c.change.new.memo c.args.edit.now c.self.inside.limit c.self.invariant.sound
-      c.change.result c.change.ensures.accepted c.change.ensures.text c.change.ensures.held c.requires.small c.self.invariant.proper;
+      c.change.result c.change.ensures.accepted c.change.ensures.text c.change.ensures.held (c.requires.small, c.table_limits.ensures) c.self.invariant.proper;
 }
 
 pub returns-clause-accepted : goal.returns-clause-accepted

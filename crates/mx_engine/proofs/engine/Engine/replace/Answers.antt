@@ -4,7 +4,7 @@ use Rattle.mx_memo_laws.specs.Entries.{entries_of}
 use Rattle.mx_state.specs.State.{State}
 use Rattle.mx_engine.proofs.Emptied.{all_dropped}
 use Rattle.mx_engine.proofs.Kept.{sound_empty}
-use Rattle.mx_engine.proofs.Proper.{proper_empty}
+use Rattle.mx_engine.proofs.Proper.{proper_empty, small_text}
 use Rattle.mx_engine.proofs.engine.Engine.replace.Goals as goal
 
 pub invariant_of-self : goal.invariant_of-self
@@ -14,7 +14,7 @@ invariant_of-self c =
       sound =
           sound_empty c.laws.ensures.begins_right c.args.world c.clear_all.new.memo c.self.inside.limit c.text.ensures.valid c.self.invariant.sound.right.limit
           none (c.clear_all.ensures.begun ∙ c.self.invariant.sound.kept.idle);
-      proper = proper_empty c.args.world c.clear_all.new.memo c.self.inside.limit none c.requires;
+      proper = proper_empty c.args.world c.clear_all.new.memo c.self.inside.limit none (small_text c.args.world c.text.result.now c.text.ensures.exact c.requires c.table_limits.ensures);
     }
 
 pub returns : goal.returns
