@@ -8,6 +8,7 @@ use Rattle.mx_value.specs.declared.value.Value.{Value, out-Value, the_lemmas as 
 use Rattle.mx_value.specs.declared.value.Value.TheVariants.{Int, Flag, Nothing, Tup, Fix}
 use Rattle.mx_value.specs.declared.value.Segment.TheOpen.{Value-F}
 use Rattle.mx_syntax.specs.declared.expr.Expr.{Expr}
+use Rattle.mx_syntax.specs.declared.expr.Expr.TheVariants as expr
 use Rattle.mx_syntax.specs.declared.expr.Sign.TheVariants as sign
 use Rattle.mx_edit.specs.declared.key.Key.TheVariants as key
 use Rattle.mx_edit.specs.declared.key.KeyResult.TheVariants as found
@@ -27,7 +28,7 @@ use Rattle.mx_formula_examples.specs.FormRows as form
 use Rattle.mx_formula_examples.proofs.Equations.{out_int}
 use Rattle.mx_formula_examples.proofs.Rules.{Comes, top, lit, in_source, name_sought, cells_here, post, call, none, more, trail_end, call_of_cells}
 use Rattle.mx_formula_examples.proofs.NodeRules.{RunsTo, means, given_value, static_run, line_env}
-use Rattle.mx_formula_examples.proofs.FormRules.{compare, chain_more, chain_false}
+use Rattle.mx_formula_examples.proofs.FormRules.{compare, chain_more, chain_false, chain_end}
 use Rattle.mx_formula_examples.proofs.LoopRules.{ints_allowed}
 use Rattle.mx_formula_examples.proofs.OperatorRules.{power, powers_more, powers_end, with_signs, denial, any_part, all_parts, part_passed, part_decides, last_part, tuple, none_asked, is_none, is_not_none, truth_int, truth_flag, less_int, not_int, not_flag}
 use Rattle.mx_formula_examples.proofs.Worked.{one_name}
@@ -76,6 +77,14 @@ chain_run = static_run [] (one_name (codes "Main")) (top (codes "Main")) refl re
 pub chain_ends_early : form.ChainEndsEarly
 chain_ends_early = chain_run.leads
 
+long_run : LineRuns form.long_chain (form.ask_events further.a 1 ++ form.ask_events further.b 2) (Flag true)
+long_run =
+    static_run [] (one_name (codes "Main")) (top (codes "Main")) refl refl refl refl
+    (compare lit (chain_more a_asked (less_int (pos 0) (pos 1)) (chain_more b_asked (less_int (pos 1) (pos 2)) chain_end))) refl
+
+pub chain_asks_once : form.ChainAsksOnce
+chain_asks_once = long_run.leads
+
 pub none_is_none : form.NoneIsNone
 none_is_none = means (static_run [] (one_name (codes "Main")) (top (codes "Main")) refl refl refl refl (compare lit (none_asked is_none (ap (λ (content : Content). beq (nothing_in content) true) out_nothing))) refl)
 
@@ -112,6 +121,12 @@ not_not_3 = ap (λ r. and_then r (λ w. gives op.Not (w ∷ []))) (not_int (pos 
 
 pub double_not : form.DoubleNot
 double_not = means (static_run [] (one_name (codes "Main")) (top (codes "Main")) refl refl refl refl (denial lit not_not_3) refl)
+
+power_run : LineRuns (expr.Power (further.call_of further.b []) (form.power_part [] (further.call_of further.a []) ∷ [])) (form.ask_events further.b 2 ++ form.ask_events further.a 1) (Int (pos 2))
+power_run = static_run [] (one_name (codes "Main")) (top (codes "Main")) refl refl refl refl (power b_asked (powers_more _ _ a_asked powers_end) refl) refl
+
+pub power_asks_from_left : form.PowerAsksFromLeft
+power_asks_from_left = power_run.leads
 
 tuple_run : LineRuns form.tuple_line (form.ask_events further.b 2 ++ form.ask_events further.a 1) (Tup (Int (pos 2) ∷ Int (pos 1) ∷ []))
 tuple_run = static_run [] (one_name (codes "Main")) (top (codes "Main")) refl refl refl refl (tuple (more b_asked (more a_asked none)) (ints_allowed (pos 2 ∷ pos 1 ∷ []))) refl

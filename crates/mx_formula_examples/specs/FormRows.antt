@@ -54,6 +54,10 @@ power_part signs e = roll-PowerPart (record { signs = signs; of = e })
 abbrev pub PowersFromRight : Type 0
 PowersFromRight = LineMeans (Power (whole_lit 2) (power_part [] (whole_lit 3) ∷ power_part [] (whole_lit 2) ∷ [])) (Int (pos 512))
 
+-- b() ** a() is 2, and b() is asked first
+abbrev pub PowerAsksFromLeft : Type 0
+PowerAsksFromLeft = LineLeads (Power (call_of b []) (power_part [] (call_of a []) ∷ [])) (ask_events b 2 ++ ask_events a 1) (Int (pos 2))
+
 -- -2 ** 2 is the negative of 2 ** 2
 abbrev pub SignOfPower : Type 0
 SignOfPower = LineMeans (Signed (sign.Minus ∷ []) (Power (whole_lit 2) (power_part [] (whole_lit 2) ∷ []))) (Int (neg_ℤ (pos 4)))
@@ -74,6 +78,13 @@ short_chain = Compare (whole_lit 2) (comparison.Op Lt (call_of a []) ∷ compari
 -- 2 < a() < b() asks a() alone, which decides
 abbrev pub ChainEndsEarly : Type 0
 ChainEndsEarly = LineLeads short_chain (ask_events a 1) (Flag false)
+
+abbrev pub long_chain : Expr
+long_chain = Compare (whole_lit 0) (comparison.Op Lt (call_of a []) ∷ comparison.Op Lt (call_of b []) ∷ [])
+
+-- 0 < a() < b() is True, and asks a() once
+abbrev pub ChainAsksOnce : Type 0
+ChainAsksOnce = LineLeads long_chain (ask_events a 1 ++ ask_events b 2) (Flag true)
 
 -- None is None, and 0 is not None
 abbrev pub NoneIsNone : Type 0

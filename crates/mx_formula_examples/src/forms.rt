@@ -1,14 +1,16 @@
 //! Worked examples of single forms, as theorems over the meaning of nodes.
-ghost use Rattle.mx_formula_examples.specs.FormRows.{PowersFromRight, SignOfPower, SignWithinPower, ChainOfNeighbours, ChainEndsEarly, NoneIsNone, ZeroIsNone, ZeroIsNotNone, OrEndsEarly, AndEndsEarly, OrGivesLast, AndGivesLast, DoubleNot, TupleFromLeft, IfTaken, ElifTaken, ElseTaken, FaultAtElif, LocalSet, LocalUnset, ChangeReadsFirst, LoopNameStays, LoopNameUnset, EndGivesNone};
+ghost use Rattle.mx_formula_examples.specs.FormRows.{PowersFromRight, PowerAsksFromLeft, SignOfPower, SignWithinPower, ChainOfNeighbours, ChainEndsEarly, ChainAsksOnce, NoneIsNone, ZeroIsNone, ZeroIsNotNone, OrEndsEarly, AndEndsEarly, OrGivesLast, AndGivesLast, DoubleNot, TupleFromLeft, IfTaken, ElifTaken, ElseTaken, FaultAtElif, LocalSet, LocalUnset, ChangeReadsFirst, LoopNameStays, LoopNameUnset, EndGivesNone};
 ghost use Rattle.mx_formula_examples.specs.CallRows.{DefaultArgument, GlobalReference, InputGiven, InputAsked, GeneratorTest, GeneratorScope, AllEndsEarly, NoSum, NotPlain, NotCalled, TooManyInside, TooFewInside, RangeTooLarge, ParameterReplaced};
 
-/// What single operators, statements and faults mean. Does nothing when it runs.
+/// What single operators and statements mean. Does nothing when it runs.
 pub fn forms()
     ensures powers_from_right { PowersFromRight }
+    ensures power_asks_from_left { PowerAsksFromLeft }
     ensures sign_of_power { SignOfPower }
     ensures sign_within_power { SignWithinPower }
     ensures chain_of_neighbours { ChainOfNeighbours }
     ensures chain_ends_early { ChainEndsEarly }
+    ensures chain_asks_once { ChainAsksOnce }
     ensures none_is_none { NoneIsNone }
     ensures zero_is_none { ZeroIsNone }
     ensures zero_is_not_none { ZeroIsNotNone }
@@ -28,6 +30,10 @@ pub fn forms()
     ensures loop_name_stays { LoopNameStays }
     ensures loop_name_unset { LoopNameUnset }
     ensures end_gives_none { EndGivesNone }
+{}
+
+/// What calls, names of the model, inputs, generators and faults inside an expression mean. Does nothing when it runs.
+pub fn calls()
     ensures default_argument { DefaultArgument }
     ensures global_reference_read { GlobalReference }
     ensures input_given { InputGiven }

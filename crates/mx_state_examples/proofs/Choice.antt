@@ -7,7 +7,6 @@ use Rattle.mx_value.specs.declared.label.Label.{Label}
 use Rattle.mx_value.specs.declared.node.Node.{Node}
 use Rattle.mx_value.specs.declared.node.Node.TheVariants.{Cell, Item}
 use Rattle.mx_value.specs.declared.read.Read.TheVariants as read
-use Rattle.mx_edit.specs.Entry.{Entry}
 use Rattle.mx_edit.specs.declared.key.Key.TheVariants as key
 use Rattle.mx_runs.specs.Lists.{Has}
 use Rattle.mx_runs.specs.Runs.{Event, Looked, Noted}
@@ -26,17 +25,17 @@ use Rattle.mx_state.proofs.Evaluated.{value_is_answered}
 use Rattle.mx_state_examples.specs.Texts.{main, choosing}
 use Rattle.mx_state_examples.specs.Rows as row
 use Rattle.mx_state_examples.proofs.Choosing.{a_run, c_run, choice_reads_one}
-use Rattle.mx_state_examples.specs.Evaluations.{holding, literal_entry, choice_entry, a_cell, c_cell, ChoiceIsEvaluated, ChoiceHasPrecedents}
+use Rattle.mx_state_examples.specs.Evaluations.{holding, literal_entry, choice_entry, of_choice, a_cell, c_cell, ChoiceIsEvaluated, ChoiceHasPrecedents}
 use Rattle.mx_state_examples.proofs.Entries.{asks_nothing, asks_one, keys_last, asks_last, right_memo, self_bound, reads_told}
 
-own : (name : Label) → is_input (model_of choosing) (row.main_cell name []) ≡ false
+pub own : (name : Label) → is_input (model_of choosing) (row.main_cell name []) ≡ false
 own name = ap (λ (b : Bool). b && is_value ((model_of choosing).look (key.Input (row.main_cell name [])))) (one_name (codes "Main"))
 
 a_record : IsRecordOf (model_of choosing) (literal_entry a_cell main (codes "a") 1)
 a_record = asks_nothing (model_of choosing) (literal_entry a_cell main (codes "a") 1) (row.literal_events (row.top (codes "Main")) main (codes "a") []) a_run.leads refl refl refl refl refl refl
 
 -- the run of c() before its ask
-abbrev before : List Event
+abbrev pub before : List Event
 before =
     Looked (key.Input c_cell) ∷ Looked (key.Cells main (codes "c")) ∷ Looked (key.Name main (codes "flag")) ∷ Noted (read.Ref (row.top (codes "Main")) (codes "flag"))
     ∷ Looked (key.Name main (codes "a")) ∷ Looked (key.Cells main (codes "a")) ∷ []
@@ -50,22 +49,19 @@ abbrev cells_name : Node → Label
 cells_name (Cell at name args) = name
 cells_name (Item at args) = []
 
-a_not_c : c_cell ≡ a_cell → ⊥
+pub a_not_c : c_cell ≡ a_cell → ⊥
 a_not_c e = let h : true ≡ false = ap (λ n. same_name (cells_name n) (codes "c")) e in cc
 
-abbrev both_held : List Entry
-both_held = literal_entry a_cell main (codes "a") 1 ∷ choice_entry ∷ []
-
-memo : IsRightMemo (model_of choosing) both_held
+pub memo : IsRightMemo (model_of choosing) of_choice
 memo =
-    right_memo (model_of choosing) both_held (a_record, (c_record, tt)) ((λ x h. h), ((λ x h. elim h [ inl e ↦ inl e | inr z ↦ absurd z ]), tt))
+    right_memo (model_of choosing) of_choice (a_record, (c_record, tt)) ((λ x h. h), ((λ x h. elim h [ inl e ↦ inl e | inr z ↦ absurd z ]), tt))
     (own (codes "a"), (own (codes "c"), tt)) ((λ h. elim h [ inl e ↦ a_not_c e | inr z ↦ z ]), ((λ h. h), tt)) (omega arith)
 
-c_bound : BindsTo (model_of choosing) c_cell c_cell
+pub c_bound : BindsTo (model_of choosing) c_cell c_cell
 unfolding c3 merge
 c_bound = self_bound (codes "c") [] (top (codes "Main")) refl refl refl
 
-reached : (x : Node) → Has (nodes_of both_held) x → Reaches (model_of choosing) c_cell x
+pub reached : (x : Node) → Has (nodes_of of_choice) x → Reaches (model_of choosing) c_cell x
 reached x h =
     elim h [
       | inl e ↦ subst (λ y. Reaches (model_of choosing) c_cell y) e (Through a_cell (asked_is_ask (model_of choosing) c_cell _ row.choice_events c_run.leads a_cell (inl refl)) Itself)
@@ -73,7 +69,7 @@ reached x h =
     ]
 
 pub choice_is_evaluated : ChoiceIsEvaluated
-choice_is_evaluated = value_is_answered (holding choosing []) c_cell c_cell (row.gives (row.whole 1)) both_held (AsBound c_bound) (means c_run) memo (inr (inl refl)) reached (omega arith)
+choice_is_evaluated = value_is_answered (holding choosing []) c_cell c_cell (row.gives (row.whole 1)) of_choice (AsBound c_bound) (means c_run) memo (inr (inl refl)) reached (omega arith)
 
 pub choice_has_precedents : ChoiceHasPrecedents
-choice_has_precedents = reads_told (holding choosing []) (holding choosing both_held) c_cell c_cell (row.whole 1) 2 _ choice_is_evaluated (AsBound c_bound) choice_reads_one
+choice_has_precedents = reads_told (holding choosing []) (holding choosing of_choice) c_cell c_cell (row.whole 1) 2 _ choice_is_evaluated (AsBound c_bound) choice_reads_one

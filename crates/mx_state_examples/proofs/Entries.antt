@@ -3,7 +3,7 @@ use Rattle.std.proofs.Common.{◌≡◌, Ok, ℕ, ◌≤◌, Bool, true, false, 
 use Rattle.std.specs.Bool.{Decides}
 use Rattle.mx_value.specs.Name.{same_name}
 use Rattle.mx_value.specs.declared.node.Node.{Node}
-use Rattle.mx_value.specs.declared.node.Node.TheVariants.{Cell}
+use Rattle.mx_value.specs.declared.node.Node.TheVariants.{Cell, Item}
 use Rattle.mx_value.specs.declared.read.Read.{Read}
 use Rattle.mx_value.specs.declared.read.Read.TheVariants as read
 use Rattle.mx_value.proofs.Enums.{text_decides}
@@ -41,6 +41,10 @@ abbrev joined : List (List ℕ) → List ℕ
 joined [] = []
 joined (name ∷ names) = name ++ 0 ∷ joined names
 
+abbrev name_of : Node → List ℕ
+name_of (Cell at name args) = name
+name_of (Item at args) = []
+
 -- keys with other tags are other keys
 abbrev pub key_tag : Key → List ℕ
 key_tag (key.Name path name) = 1 ∷ joined path ++ 0 ∷ name
@@ -48,7 +52,7 @@ key_tag (key.Global name) = 2 ∷ name
 key_tag (key.Cells path name) = 3 ∷ joined path ++ 0 ∷ name
 key_tag (key.Params path) = 4 ∷ joined path
 key_tag (key.Exists path) = 5 ∷ joined path
-key_tag (key.Input n) = 6 ∷ []
+key_tag (key.Input n) = 6 ∷ name_of n
 key_tag (key.Table name) = 7 ∷ name
 
 abbrev pub read_tag : Read → List ℕ
@@ -163,16 +167,21 @@ right_memo model held records order own once room = record {
 
 -- ---- bound forms
 
--- cells whose arguments are bound have themselves as their bound form
-pub self_bound : {look : Key → KeyResult} {ns : Namespace} {es : List Event} {f : Formula} {allow : Bool} (name : Label) (vs : List Value) → Walks look ns es → look (key.Cells ns.source name) ≡ found.Formula f allow → is_wrong_count f.params (length vs) ≡ false → bound f.params vs ≡ vs
-    → BindsTo (model_of look) (Cell ns.at name vs) (Cell ns.at name vs)
-self_bound {look = look} {ns = ns} {es = es} {f = f} name vs w e count binds = record {
+-- cells have the form that binds their arguments
+pub bound_cells : {look : Key → KeyResult} {ns : Namespace} {es : List Event} {f : Formula} {allow : Bool} {us : List Value} (name : Label) (vs : List Value) → Walks look ns es → look (key.Cells ns.source name) ≡ found.Formula f allow → is_wrong_count f.params (length vs) ≡ false → bound f.params vs ≡ us
+    → BindsTo (model_of look) (Cell ns.at name vs) (Cell ns.at name us)
+bound_cells {look = look} {ns = ns} {es = es} {f = f} {us = us} name vs w e count binds = record {
   events = es ++ Tested (key.Cells ns.source name) ∷ [];
   leads = λ go.
       let on : Namespace → Run = λ m. Tests (key.Cells m.source name) (cell_bound m name vs go) in
-      leads_append (model_of look) (walked ns.at on) (on ns) (go (Cell ns.at name vs)) es (Tested (key.Cells ns.source name) ∷ []) (w.leads on)
-      (refl, ap (cell_bound ns name vs go) e ∙ ap (λ (b : Bool). if b then Ends WrongCount else go (Cell ns.at name (bound f.params vs))) count ∙ ap (λ (us : List Value). go (Cell ns.at name us)) binds);
+      leads_append (model_of look) (walked ns.at on) (on ns) (go (Cell ns.at name us)) es (Tested (key.Cells ns.source name) ∷ []) (w.leads on)
+      (refl, ap (cell_bound ns name vs go) e ∙ ap (λ (b : Bool). if b then Ends WrongCount else go (Cell ns.at name (bound f.params vs))) count ∙ ap (λ (xs : List Value). go (Cell ns.at name xs)) binds);
 }
+
+-- their own, where these are bound
+pub self_bound : {look : Key → KeyResult} {ns : Namespace} {es : List Event} {f : Formula} {allow : Bool} (name : Label) (vs : List Value) → Walks look ns es → look (key.Cells ns.source name) ≡ found.Formula f allow → is_wrong_count f.params (length vs) ≡ false → bound f.params vs ≡ vs
+    → BindsTo (model_of look) (Cell ns.at name vs) (Cell ns.at name vs)
+self_bound name vs w e count binds = bound_cells name vs w e count binds
 
 -- ---- precedents
 

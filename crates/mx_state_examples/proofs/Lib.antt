@@ -15,3 +15,9 @@ mod Lost
 mod Circles
 mod Failing
 mod ItemRing
+mod Replacing
+mod Globals
+mod Defaults
+mod Putting
+mod Deep
+mod Cleared

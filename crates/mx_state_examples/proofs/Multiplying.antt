@@ -7,7 +7,7 @@ use Rattle.mx_value.specs.Size.{size_of, size_of_segment}
 use Rattle.mx_value.specs.Normal.{normal_of}
 use Rattle.mx_value.specs.declared.value.Value.{Value, the_lemmas as values}
 use Rattle.mx_value.specs.declared.value.Value.TheVariants as value
-use Rattle.mx_value.specs.declared.value.Value.TheVariants.{Int, Fix, Flag}
+use Rattle.mx_value.specs.declared.value.Value.TheVariants.{Fix, Flag}
 use Rattle.mx_value.specs.declared.value.Segment.{out-Segment}
 use Rattle.mx_value.specs.declared.value.Segment.TheOpen.{Value-F}
 use Rattle.mx_value.specs.declared.value.Segment.TheFolds.{para-roll-Value}

@@ -62,7 +62,7 @@ two_not_true e = let f : Value-F.Int (pos 2) ≡ Value-F.Flag true = sym (out_in
 items_differ : item (whole 2) ≡ item (Flag true) → ⊥
 items_differ e = two_not_true (let f : whole 2 ≡ Flag true = cc in f)
 
-segments_differ : segment.Item (whole 2 ∷ []) ≡ segment.Item (Flag true ∷ []) → ⊥
+pub segments_differ : segment.Item (whole 2 ∷ []) ≡ segment.Item (Flag true ∷ []) → ⊥
 segments_differ e =
     let f : Segment-F.Item (whole 2 ∷ []) ≡ Segment-F.Item (Flag true ∷ []) = sym (out_item (whole 2 ∷ [])) ∙ ap (λ (s : Segment). out-Segment s) e ∙ out_item (Flag true ∷ []) in
     two_not_true (let g : whole 2 ≡ Flag true = cc in g)
@@ -76,7 +76,7 @@ item_not_product v w e = cc
 two_distinct : Distinct (nodes_of of_two)
 two_distinct = ((λ h. elim h [ inl e ↦ item_not_product (whole 2) (whole 2) e | inr r ↦ r ]), ((λ h. h), tt))
 
-all_distinct : Distinct (nodes_of (of_two ++ of_true))
+pub all_distinct : Distinct (nodes_of (of_two ++ of_true))
 all_distinct = (
   (λ h. elim h [
     | inl e ↦ item_not_product (whole 2) (whole 2) e
@@ -93,7 +93,7 @@ all_distinct = (
 two_memo : IsRightMemo (model_of multiplying) of_two
 two_memo = right_memo (model_of multiplying) of_two (two_item, (two_product, tt)) ((λ x h. h), ((λ x h. elim h [ inl e ↦ inl e | inr z ↦ absurd z ]), tt)) (refl, (own (whole 2), tt)) two_distinct (omega arith)
 
-all_memo : IsRightMemo (model_of multiplying) (of_two ++ of_true)
+pub all_memo : IsRightMemo (model_of multiplying) (of_two ++ of_true)
 all_memo =
     right_memo (model_of multiplying) (of_two ++ of_true) (two_item, (two_product, (true_item, (true_product, tt))))
     ((λ x h. h), ((λ x h. elim h [ inl e ↦ inl e | inr z ↦ absurd z ]), ((λ x h. absurd h), ((λ x h. elim h [ inl e ↦ inl e | inr z ↦ absurd z ]), tt))))

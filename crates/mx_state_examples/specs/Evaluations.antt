@@ -6,7 +6,7 @@ use Rattle.mx_value.specs.declared.node.Node.{Node}
 use Rattle.mx_value.specs.declared.node.Node.TheVariants.{Cell}
 use Rattle.mx_value.specs.declared.read.Read.TheVariants as read
 use Rattle.mx_value.specs.declared.fault.FaultKind.TheVariants.{NoName}
-use Rattle.mx_value.specs.declared.refusal.EvalRefusal.TheVariants.{Fault, Ring}
+use Rattle.mx_value.specs.declared.refusal.EvalRefusal.TheVariants.{Fault, Ring, TooDeep}
 use Rattle.mx_edit.specs.Entry.{Entry}
 use Rattle.mx_edit.specs.declared.key.Key.{Key}
 use Rattle.mx_edit.specs.declared.key.Key.TheVariants as key
@@ -18,11 +18,15 @@ use Rattle.mx_state.specs.State.{State}
 use Rattle.mx_state.specs.Evaluations.{Evaluates, HasPrecedents}
 use Rattle.mx_state_examples.specs.Texts as text
 use Rattle.mx_state_examples.specs.Texts.{main, space_s}
-use Rattle.mx_state_examples.specs.Rows.{whole, gives, top, two, item, item_reply, product_in, main_cell, in_item, nested_v}
+use Rattle.mx_state_examples.specs.Rows.{whole, gives, top, two, item, item_reply, product_in, main_cell, in_item, nested_v, short_f, bound_f}
 
 -- with these held, and the limit that a model begins with
 abbrev pub holding : ModelRecord → List Entry → State
 holding t held = record { text = t; held = held; limit = 5000 }
+
+-- with these held, where a chain may have so many nodes
+abbrev pub limited : ℕ → ModelRecord → List Entry → State
+limited limit t held = record { text = t; held = held; limit = limit }
 
 -- ---- items of a space with a parameter
 
@@ -70,6 +74,55 @@ ChoiceIsEvaluated = Evaluates (holding text.choosing []) c_cell (Ok (whole 1)) 2
 -- its precedents are the reference and a(), by as many runs
 abbrev pub ChoiceHasPrecedents : Type 0
 ChoiceHasPrecedents = HasPrecedents (holding text.choosing []) c_cell (Ok (read.Ref (top (codes "Main")) (codes "flag") ∷ read.Node a_cell ∷ [])) 2 (holding text.choosing (literal_entry a_cell main (codes "a") 1 ∷ choice_entry ∷ []))
+
+-- ---- a chain that is too deep
+
+-- what is held of a(), and of c() beside it
+abbrev pub of_a : List Entry
+of_a = literal_entry a_cell main (codes "a") 1 ∷ []
+
+abbrev pub of_choice : List Entry
+of_choice = literal_entry a_cell main (codes "a") 1 ∷ choice_entry ∷ []
+
+-- where a chain may have one node, a() is too deep for c(), and nothing is held
+abbrev pub AskedIsTooDeep : Type 0
+AskedIsTooDeep = (ticks : ℕ) → Evaluates (limited 1 text.choosing []) c_cell (Err (TooDeep a_cell)) ticks (limited 1 text.choosing [])
+
+-- there no evaluation of c() answers its value
+abbrev pub NoValueSoDeep : Type 0
+NoValueSoDeep = (v : Value) (ticks : ℕ) (t : State) → Evaluates (limited 1 text.choosing []) c_cell (Ok v) ticks t → ⊥
+
+-- a chain of two nodes may have two
+abbrev pub TwoAreNotTooDeep : Type 0
+TwoAreNotTooDeep = Evaluates (limited 2 text.choosing []) c_cell (Ok (whole 1)) 2 (limited 2 text.choosing of_choice)
+
+-- where a() is held, c() is 1 by one run
+abbrev pub HeldIsNotTooDeep : Type 0
+HeldIsNotTooDeep = Evaluates (limited 1 text.choosing of_a) c_cell (Ok (whole 1)) 1 (limited 1 text.choosing of_choice)
+
+-- ---- a default and an input
+
+abbrev pub f_keys : List Key
+f_keys = key.Input bound_f ∷ key.Cells main (codes "f") ∷ []
+
+abbrev pub f_of_default : Entry
+f_of_default = record { node = bound_f; reply = gives (whole 8); keys = f_keys; asks = []; reads = [] }
+
+-- f(1) is 8 by one run, and f(1, 7) is held
+abbrev pub DefaultIsEvaluated : Type 0
+DefaultIsEvaluated = Evaluates (holding text.with_default []) short_f (Ok (whole 8)) 1 (holding text.with_default (f_of_default ∷ []))
+
+-- what is held of c() that asked the input: a key of it in the place of an ask
+abbrev pub asking_keys : List Key
+asking_keys = key.Input c_cell ∷ key.Cells main (codes "c") ∷ key.Name main (codes "f") ∷ key.Cells main (codes "f") ∷ key.Input bound_f ∷ []
+
+abbrev pub asking_entry : Entry
+asking_entry = record { node = c_cell; reply = gives (whole 9); keys = asking_keys; asks = []; reads = read.Node bound_f ∷ [] }
+
+-- f(1) is 9 by no run, and c() by one, also where a chain may have one node: the input isn't held, and no node of a chain
+pub record InputIsEvaluated : Type 0 where
+  pub itself : Evaluates (limited 1 text.with_input []) short_f (Ok (whole 9)) 0 (limited 1 text.with_input [])
+  pub asker : Evaluates (limited 1 text.with_input []) c_cell (Ok (whole 9)) 1 (limited 1 text.with_input (asking_entry ∷ []))
 
 -- ---- a formula that a space takes over looks names up where it runs
 

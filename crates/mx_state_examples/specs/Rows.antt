@@ -22,7 +22,7 @@ use Rattle.mx_model.specs.Refused.{record_trouble}
 use Rattle.mx_state.specs.Model.{model_of}
 use Rattle.mx_state.specs.Evaluations.{IsAsked}
 use Rattle.mx_state_examples.specs.Texts as text
-use Rattle.mx_state_examples.specs.Texts.{main, space_a, space_ab, space_p, space_s, space_sb}
+use Rattle.mx_state_examples.specs.Texts.{main, space_a, space_ab, space_p, space_s}
 
 -- ---- nodes and replies
 
@@ -218,3 +218,60 @@ abbrev pub WrongBase : Type 0
 WrongBase =
     Runs text.basing_wrong (item (whole 4)) (Looked (key.Params space_s) ∷ []) (Faults BadItem (item (whole 4)) 1) ×
     Means (model_of text.basing_wrong) (based_cell (codes "v")) (Faults BadItem (item (whole 4)) 1)
+
+-- ---- a display replaces a parameter
+
+-- the space of S[4], where k is no longer 4
+abbrev pub replaced_reply : Reply
+replaced_reply = record { value = Space (in_item (whole 4)); namespace = Some (record { at = in_item (whole 4); source = space_s; overlay = (codes "k", whole 5) ∷ [] }) }
+
+-- S[4] computes the reference by the parameter
+abbrev pub ReferenceOverParameter : Type 0
+ReferenceOverParameter = Runs text.replacing (item (whole 4)) (Looked (key.Params space_s) ∷ []) (Gives replaced_reply)
+
+-- S[4].c() is 5
+abbrev pub ParameterIsReplaced : Type 0
+ParameterIsReplaced =
+    Runs text.replacing (Cell (in_item (whole 4)) (codes "c") []) (Tested (key.Params space_s) ∷ Asked (item (whole 4)) replaced_reply ∷ Looked (key.Cells space_s (codes "c")) ∷ []) (Gives (gives (whole 5)))
+
+-- ---- a reference of the model
+
+abbrev pub global_events : List Event
+global_events =
+    Looked (key.Input (main_cell (codes "c") [])) ∷ Looked (key.Cells main (codes "c")) ∷ Looked (key.Name main (codes "rate")) ∷ Looked (key.Global (codes "rate")) ∷ Noted (read.Global (codes "rate")) ∷ []
+
+-- c() is 5, and reads the reference as one of the model
+abbrev pub ModelReferenceIsFound : Type 0
+ModelReferenceIsFound =
+    Runs text.with_global (main_cell (codes "c") []) global_events (Gives (gives (whole 5))) × HasReads (model_of text.with_global) (main_cell (codes "c") []) (read.Global (codes "rate") ∷ [])
+
+-- ---- a default
+
+-- f(1), and f(1, 7)
+abbrev pub short_f : Node
+short_f = main_cell (codes "f") (whole 1 ∷ [])
+
+abbrev pub bound_f : Node
+bound_f = main_cell (codes "f") (whole 1 ∷ whole 7 ∷ [])
+
+abbrev pub DefaultIsBound : Type 0
+DefaultIsBound = BindsTo (model_of text.with_default) short_f bound_f
+
+-- what c() does, where f(1, 7) gives this
+abbrev pub asking_events : ℕ → List Event
+asking_events n =
+    Looked (key.Input (main_cell (codes "c") [])) ∷ Looked (key.Cells main (codes "c")) ∷ Looked (key.Name main (codes "f")) ∷ Looked (key.Cells main (codes "f")) ∷ Asked bound_f (gives (whole n)) ∷ []
+
+-- c() is 8
+abbrev pub DefaultIsAsked : Type 0
+DefaultIsAsked = Runs text.with_default (main_cell (codes "c") []) (asking_events 8) (Gives (gives (whole 8)))
+
+-- ---- an input
+
+-- it stands under the bound form: f(1, 7) is 9 by its input alone, and reads nothing
+abbrev pub InputIsBound : Type 0
+InputIsBound = Runs text.with_input bound_f (Looked (key.Input bound_f) ∷ []) (Gives (gives (whole 9))) × HasReads (model_of text.with_input) bound_f []
+
+-- c() is 9, and reads f(1, 7)
+abbrev pub InputIsAsked : Type 0
+InputIsAsked = Runs text.with_input (main_cell (codes "c") []) (asking_events 9) (Gives (gives (whole 9))) × HasReads (model_of text.with_input) (main_cell (codes "c") []) (read.Node bound_f ∷ [])

@@ -2,6 +2,7 @@
 use Rattle.std.specs.Prelude.{ℕ, pos, true, false, List, [], ◌∷◌, Some, None, codes}
 use Rattle.mx_value.specs.declared.label.Label.{Label}
 use Rattle.mx_value.specs.declared.value.Value.TheVariants.{Int, Flag}
+use Rattle.mx_value.specs.declared.value.Segment.TheVariants as segment
 use Rattle.mx_syntax.specs.declared.expr.Arm.{roll-Arm}
 use Rattle.mx_syntax.specs.declared.expr.Expr.{Expr}
 use Rattle.mx_syntax.specs.declared.expr.Expr.TheVariants.{Lit, Name, Cond, Sum, Product, Post}
@@ -188,3 +189,31 @@ asking_round = made beginning (cells_of main (codes "f") (codes "n") (call (code
 -- cells g(n) = 7
 abbrev pub mended : ModelRecord
 mended = made asking_round (cells_of main (codes "g") (codes "n") (whole_number 7) ∷ [])
+
+-- ---- a display replaces a parameter
+
+-- space S, params S(k) = {"refs": {"k": k + 1}}, cells S.c() = k
+abbrev pub replacing : ModelRecord
+replacing =
+    made beginning
+    (space (codes "S") ∷ params_display space_s (codes "k") (entry.Refs ((codes "k", plus (Name (codes "k")) (whole_number 1)) ∷ []) ∷ []) ∷ cells space_s (codes "c") (Name (codes "k")) ∷ [])
+
+-- ---- a reference of the model, a default and an input
+
+-- global rate = 5, cells c() = rate
+abbrev pub with_global : ModelRecord
+with_global = made beginning (edit.SetRef [] (codes "rate") (reference.Plain (Int (pos 5))) ∷ cells main (codes "c") (Name (codes "rate")) ∷ [])
+
+-- two parameters, of which the second has a default
+abbrev pub n_and_k : List Param
+n_and_k = param (codes "n") ∷ record { name = codes "k"; default = Some (Int (pos 7)) } ∷ []
+
+-- cells f(n, k=7) = n + k, cells c() = f(1)
+abbrev pub with_default : ModelRecord
+with_default =
+    made beginning
+    (edit.SetCells main (codes "f") (one_line n_and_k (plus (Name (codes "n")) (Name (codes "k")))) ∷ cells main (codes "c") (call (codes "f") (whole_number 1 ∷ [])) ∷ [])
+
+-- input f(1) = 9
+abbrev pub with_input : ModelRecord
+with_input = made with_default (edit.SetInput (segment.Name (codes "Main") ∷ []) (codes "f") (Int (pos 1) ∷ []) (Int (pos 9)) ∷ [])

@@ -3,6 +3,7 @@
 //! Room: checks.
 #![tactic(auto)]
 
+pub mod clearings;
 pub mod evaluations;
 pub mod rings;
 pub mod rows;

@@ -1,10 +1,12 @@
-use Rattle.mx_formula_examples.proofs.FormWorked.{powers_from_right, sign_of_power, sign_within_power, chain_of_neighbours, chain_ends_early, none_is_none, zero_is_none, zero_is_not_none, or_ends_early, and_ends_early, or_gives_last, and_gives_last, double_not, tuple_from_left}
+use Rattle.mx_formula_examples.proofs.FormWorked.{powers_from_right, power_asks_from_left, sign_of_power, sign_within_power, chain_of_neighbours, chain_ends_early, chain_asks_once, none_is_none, zero_is_none, zero_is_not_none, or_ends_early, and_ends_early, or_gives_last, and_gives_last, double_not, tuple_from_left}
 use Rattle.mx_formula_examples.proofs.ChoiceWorked.{if_taken, elif_taken, else_taken, fault_at_elif, local_set, unset_local, change_reads_first, loop_name_stays, loop_name_unset, end_gives_none}
-use Rattle.mx_formula_examples.proofs.CallWorked.{default_argument, global_reference_read, input_given, input_asked, generator_test, generator_scope, all_ends_early, no_sum, not_plain_inside, not_called, too_many_inside, too_few_inside, range_too_large, parameter_replaced}
 use Rattle.mx_formula_examples.proofs.forms.forms.Goals as goal
 
 pub returns-clause-powers_from_right : goal.returns-clause-powers_from_right
 returns-clause-powers_from_right c = powers_from_right
+
+pub returns-clause-power_asks_from_left : goal.returns-clause-power_asks_from_left
+returns-clause-power_asks_from_left c = power_asks_from_left
 
 pub returns-clause-sign_of_power : goal.returns-clause-sign_of_power
 returns-clause-sign_of_power c = sign_of_power
@@ -17,6 +19,9 @@ returns-clause-chain_of_neighbours c = chain_of_neighbours
 
 pub returns-clause-chain_ends_early : goal.returns-clause-chain_ends_early
 returns-clause-chain_ends_early c = chain_ends_early
+
+pub returns-clause-chain_asks_once : goal.returns-clause-chain_asks_once
+returns-clause-chain_asks_once c = chain_asks_once
 
 pub returns-clause-none_is_none : goal.returns-clause-none_is_none
 returns-clause-none_is_none c = none_is_none
@@ -74,45 +79,3 @@ returns-clause-loop_name_unset c = loop_name_unset
 
 pub returns-clause-end_gives_none : goal.returns-clause-end_gives_none
 returns-clause-end_gives_none c = end_gives_none
-
-pub returns-clause-default_argument : goal.returns-clause-default_argument
-returns-clause-default_argument c = default_argument
-
-pub returns-clause-global_reference_read : goal.returns-clause-global_reference_read
-returns-clause-global_reference_read c = global_reference_read
-
-pub returns-clause-input_given : goal.returns-clause-input_given
-returns-clause-input_given c = input_given
-
-pub returns-clause-input_asked : goal.returns-clause-input_asked
-returns-clause-input_asked c = input_asked
-
-pub returns-clause-generator_test : goal.returns-clause-generator_test
-returns-clause-generator_test c = generator_test
-
-pub returns-clause-generator_scope : goal.returns-clause-generator_scope
-returns-clause-generator_scope c = generator_scope
-
-pub returns-clause-all_ends_early : goal.returns-clause-all_ends_early
-returns-clause-all_ends_early c = all_ends_early
-
-pub returns-clause-no_sum : goal.returns-clause-no_sum
-returns-clause-no_sum c = no_sum
-
-pub returns-clause-not_plain_inside : goal.returns-clause-not_plain_inside
-returns-clause-not_plain_inside c = not_plain_inside
-
-pub returns-clause-not_called : goal.returns-clause-not_called
-returns-clause-not_called c = not_called
-
-pub returns-clause-too_many_inside : goal.returns-clause-too_many_inside
-returns-clause-too_many_inside c = too_many_inside
-
-pub returns-clause-too_few_inside : goal.returns-clause-too_few_inside
-returns-clause-too_few_inside c = too_few_inside
-
-pub returns-clause-range_too_large : goal.returns-clause-range_too_large
-returns-clause-range_too_large c = range_too_large
-
-pub returns-clause-parameter_replaced : goal.returns-clause-parameter_replaced
-returns-clause-parameter_replaced c = parameter_replaced

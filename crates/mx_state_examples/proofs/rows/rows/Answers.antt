@@ -4,6 +4,10 @@ use Rattle.mx_state_examples.proofs.Choosing.{choice_takes_one, choice_reads_one
 use Rattle.mx_state_examples.proofs.Inheriting.{formula_looks_where_it_runs, taken_over_reads, fixed_target_stays}
 use Rattle.mx_state_examples.proofs.Nested.{no_name_above, reference_to_cells, no_space_no_node}
 use Rattle.mx_state_examples.proofs.Basing.{base_gives_source, base_gives_cells, added_reference, no_added_reference, wrong_base}
+use Rattle.mx_state_examples.proofs.Replacing.{reference_over_parameter, parameter_is_replaced}
+use Rattle.mx_state_examples.proofs.Globals.{model_reference_is_found}
+use Rattle.mx_state_examples.proofs.Defaults.{default_is_bound, default_is_asked}
+use Rattle.mx_state_examples.proofs.Putting.{input_is_bound, input_is_asked}
 use Rattle.mx_state_examples.proofs.rows.rows.Goals as goal
 
 pub returns : goal.returns
@@ -29,4 +33,11 @@ returns c = record {
   added_reference = added_reference;
   no_added_reference = no_added_reference;
   wrong_base = wrong_base;
+  reference_over_parameter = reference_over_parameter;
+  parameter_is_replaced = parameter_is_replaced;
+  model_reference_is_found = model_reference_is_found;
+  default_is_bound = default_is_bound;
+  default_is_asked = default_is_asked;
+  input_is_bound = input_is_bound;
+  input_is_asked = input_is_asked;
 }
