@@ -1,4 +1,5 @@
-//! The program `mx`: reads a script of edits and evaluations, and answers each command.
+//! The program `mx`: reads a script of edits and evaluations, and answers each command. Files are those below the
+//! working folder.
 //!
 //! Room: engine and scripts.
 #![tactic(auto)]
@@ -6,7 +7,7 @@
 mod sure;
 mod top;
 
-use mx_host::{HostSink, HostSource};
+use mx_host::{HostFiles, HostSink, HostSource};
 use std::alloc::AllocError;
 use std::process::ExitCode;
 use std::{env, io};
@@ -34,5 +35,6 @@ fn main(rt: HostRuntime) -> ExitCode {
     };
     let mut script = HostSource::new(rt.reader());
     let mut out = HostSink::new(io::writer(&rt));
-    ExitCode::from(mx_top(rt.alloc(), &words, &mut script, &mut out))
+    let mut files = HostFiles::new(&rt);
+    ExitCode::from(mx_top(rt.alloc(), &words, &mut script, &mut files, &mut out))
 }

@@ -36,7 +36,7 @@ use Rattle.mx_words.specs.Parts.{Answer, Onward, Decides, PartAnswers}
 use Rattle.mx_words.specs.Phrases.{PhraseText, phrase_text, named_command}
 use Rattle.mx_words.specs.Texts.{spaces, behind_spaces, first_word, formula_of, first_name}
 use Rattle.mx_words.specs.Words.{rest_of, word_of}
-use Rattle.mx_script.specs.Commands.{defined, parametrized, uninput, asked_command, is_alone, asked_of, Asks, argument_of, place_behind, has_literal, input_of, Sets, ref_value, reference_of, referred, RefersBy, clearing_of, cleared_of, newline_of, cells_by, cells_at, ClearsBy, ReadsRest, ReadsBy}
+use Rattle.mx_script.specs.Commands.{defined, parametrized, uninput, asked_command, is_alone, asked_of, Asks, argument_of, place_behind, has_literal, input_of, Sets, ref_value, reference_of, referred, RefersBy, clearing_of, cleared_of, newline_of, cells_by, cells_at, ClearsBy, from_file, FromFile, ReadsTable, ReadsRest, ReadsBy}
 use Rattle.mx_model.specs.Literals.{IsRead}
 use Rattle.mx_command_laws.specs.Edits.{EditsAreRead}
 use Rattle.mx_command_laws.proofs.Defaults.{spelled_literal}
@@ -147,6 +147,15 @@ refers_reads : (r : Option Reference) (o : Owner) (lead : ℕ) (text : List ℕ)
 refers_reads (Some r) o lead text answer h = part_reads (phrase.Refers o r) lead text answer h
 refers_reads None o lead text answer h = onward_reads _ h.part answer (λ t d. decides_reads _ (referred o t) answer (λ r first. referred_reads o t r) d) h.rest
 
+-- ---- tables from files
+
+from_file_reads : (t : Target) (r : Result (List ℕ) FormRefusal) → Reads (from_file t r)
+from_file_reads t (Ok file) = tt
+from_file_reads t (Err e) = tt
+
+table_reads : (lead : ℕ) (text : List ℕ) (answer : Answer) → ReadsTable lead text answer → Reads answer
+table_reads lead text answer h = onward_reads (FromFile lead text) h.part answer (λ t d. decides_reads _ (from_file t) answer (λ r first. from_file_reads t r) d) h.rest
+
 -- ---- clearings
 
 cells_reads : (place : ℕ) (front last : List Segment) → Reads (cells_by place front last)
@@ -168,6 +177,7 @@ rest_reads form.Params lead text answer h = onward_reads _ h.part answer (λ t d
 rest_reads (form.Phrase p) lead text answer h = part_reads p lead text answer h
 rest_reads (form.Node a) lead text answer h = asks_reads a (lead + place_behind text (argument_of text)) (argument_of text) answer h
 rest_reads form.Input lead text answer h = sets_reads (lead + place_behind text (argument_of text)) (argument_of text) (has_literal (argument_of text)) h.part answer h.rest
+rest_reads form.Table lead text answer h = table_reads lead text answer h
 rest_reads form.Clear lead text answer h = clears_reads (clearing_of (first_name (argument_of text))) lead text answer h
 rest_reads (form.Reference o) lead text answer h = refers_reads (reference_of (first_name (ref_value text))) o lead text answer h
 

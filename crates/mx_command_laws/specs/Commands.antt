@@ -5,11 +5,12 @@ use Rattle.mx_words.specs.declared.command.Command.TheVariants as command
 use Rattle.mx_words.specs.declared.table.CommandWord.{CommandWord}
 use Rattle.mx_script.specs.Commands.{ReadsAs}
 use Rattle.mx_state.specs.Proper.{IsProper}
-use Rattle.mx_limit_laws.specs.Texts.{IsSmallEdit}
+use Rattle.mx_limit_laws.specs.Texts.{HasSmallFormula}
 
--- an edit has small literals, and a node that is evaluated may be handed in
+-- the formula or parameter list of an edit has small literals, and a node that is evaluated may be handed in
 abbrev pub IsProperCommand : Command → Type 0
-IsProperCommand (command.Edit e) = IsSmallEdit e
+IsProperCommand (command.Edit e) = HasSmallFormula e
+IsProperCommand (command.Table name file) = Unit {0}
 IsProperCommand (command.Eval n) = IsProper n
 IsProperCommand (command.Precedents n) = IsProper n
 IsProperCommand (command.Succs n) = Unit {0}

@@ -1,8 +1,10 @@
 -- From states that are alike a command writes one block.
-use Rattle.std.proofs.Common.{◌≡◌, ◌≢◌, ℕ, ◌-◌, ◌++◌, ◌∷◌, [], List, length, map, Option, None, Some, Result, Ok, Err, codes, refl, sym, ◌∙◌, ap, subst}
+use Rattle.std.proofs.Common.{◌≡◌, ◌≢◌, ℕ, ◌-◌, ◌++◌, ◌∷◌, [], List, length, map, Option, None, Some, Result, Ok, Err, codes, refl, sym, ◌∙◌, ap, subst, arith}
 use Rattle.std.proofs.lemmas.List.{length-map}
 use Rattle.std.specs.Fmt.{decimal}
+use Rattle.std.specs.FinMap as finite
 use Rattle.mx_c3.specs.declared.space.SpaceId.{SpaceId}
+use Rattle.mx_value.specs.declared.label.Label.{Label}
 use Rattle.mx_value.specs.declared.value.Value.{Value}
 use Rattle.mx_value.specs.declared.node.Node.{Node}
 use Rattle.mx_value.specs.declared.read.Read.{Read}
@@ -12,7 +14,14 @@ use Rattle.mx_syntax.specs.Lists.{flat}
 use Rattle.mx_print.specs.Texts.{Text}
 use Rattle.mx_print.specs.Values.{node_text}
 use Rattle.mx_edit.specs.Entry.{Entry}
+use Rattle.mx_edit.specs.Rows.{TableRows}
 use Rattle.mx_edit.specs.declared.edit.Edit.{Edit}
+use Rattle.mx_edit.specs.declared.edit.Edit.TheVariants as edit
+use Rattle.mx_edit.specs.declared.table.TableRefusal.{TableRefusal}
+use Rattle.mx_outside.specs.Files.{FileMap, IsFound, most_bytes}
+use Rattle.mx_outside.specs.declared.files.Found.{Found}
+use Rattle.mx_outside.specs.declared.files.Found.TheVariants as found
+use Rattle.mx_tables.specs.Reading.{table_of}
 use Rattle.mx_edit.specs.declared.scope.Scope.{Scope}
 use Rattle.mx_words.specs.declared.command.Command.{Command as ScriptCommand}
 use Rattle.mx_words.specs.declared.command.Command.TheVariants as command
@@ -43,8 +52,8 @@ use Rattle.mx_state.specs.State.{State}
 use Rattle.mx_state.specs.Evaluations.{HasAsked, KnowsAsked, IsAsked, Evaluates, TellsReads}
 use Rattle.mx_engine.specs.Successors.{DidAsk, IsSuccessor}
 use Rattle.mx_engine.specs.Order.{AreLayers}
-use Rattle.mx_commands.specs.Step.{refused, carried, CarriesOut, Changes, Accepts, Refuses, TellsValue, TellsPrecedents, TellsSuccessors, TellsHeld, IsHeld, IsNotHeld, Counts, Drops, Limits, Sets, IsPastBounds, TellsOrder, HasLayers, IsNotStatic}
-use Rattle.mx_commands.specs.Laws.{IsFaithful, AreAlike, Says, OneBlock}
+use Rattle.mx_commands.specs.Step.{RunState, refused, carried, CarriesOut, SetsSaid, SetsFound, SetsTable, Changes, Accepts, Refuses, TellsValue, TellsPrecedents, TellsSuccessors, TellsHeld, IsHeld, IsNotHeld, Counts, Drops, Limits, Sets, IsPastBounds, TellsOrder, HasLayers, IsNotStatic}
+use Rattle.mx_commands.specs.Laws.{IsFaithful, AreAlike, AreRunsAlike, AreTold, Says, OneBlock}
 use Rattle.mx_commands.proofs.OneEdit.{told, one_telling}
 use Rattle.mx_commands.proofs.KeptAlike.{retained_alike, cleared_alike}
 use Rattle.mx_commands.proofs.SameTexts.{same_texts}
@@ -246,28 +255,63 @@ module _ (s t : State) (l : AreAlike s t) where
       let both : NotStatic ≡ Layers b.spaces = sym h ∙ ap (λ (r : ModelRecord). layers r path) l.text ∙ b.layered in absurd cc
   order_alike path block other new next (IsNotStatic h i m) (IsNotStatic k j o) = (i ∙ sym j, states_alike s t new next l m o)
 
+-- ---- tables from files
+
+module _ (s t : State) (l : AreAlike s t) (spaces : IsNamed s.text) (name file : Label) (block other : Text) (new next : State) where
+  said_alike : (says : Result TableRows TableRefusal) → SetsSaid s name says block new → SetsSaid t name says other next → Same block other new next
+  said_alike (Ok rows) x y = edit_alike s t l spaces (edit.SetTable name rows) block other new next x y
+  said_alike (Err why) x y = (x.0 ∙ sym y.0, states_alike s t new next l x.1 y.1)
+
+  -- what is found of the same bytes, or of none
+  found_alike : (bytes : Option (List ℕ)) (a b : Found) → IsFound bytes most_bytes a → IsFound bytes most_bytes b → SetsFound s name file a block new → SetsFound t name file b other next → Same block other new next
+  found_alike (Some bytes) (found.Bytes u) (found.Bytes v) p q x y =
+      said_alike (table_of u.items) x (subst (λ (text : List ℕ). SetsSaid t name (table_of text) other next) (q.0 ∙ sym p.0) y)
+  found_alike (Some bytes) (found.Bytes u) found.TooBig p q x y = absurd (omega (arith, p.1, q))
+  found_alike (Some bytes) (found.Bytes u) found.Missing p q x y = absurd q
+  found_alike (Some bytes) found.TooBig (found.Bytes v) p q x y = absurd (omega (arith, q.1, p))
+  found_alike (Some bytes) found.TooBig found.TooBig p q x y = (x.0 ∙ sym y.0, states_alike s t new next l x.1 y.1)
+  found_alike (Some bytes) found.TooBig found.Missing p q x y = absurd q
+  found_alike (Some bytes) found.Missing b p q x y = absurd p
+  found_alike None (found.Bytes u) b p q x y = absurd p
+  found_alike None found.TooBig b p q x y = absurd p
+  found_alike None found.Missing (found.Bytes v) p q x y = absurd q
+  found_alike None found.Missing found.TooBig p q x y = absurd q
+  found_alike None found.Missing found.Missing p q x y = (x.0 ∙ sym y.0, states_alike s t new next l x.1 y.1)
+
+  table_alike : (files : Option FileMap) → AreTold files → SetsTable files s name file block new → SetsTable files t name file other next → Same block other new next
+  table_alike None told x y = absurd told
+  table_alike (Some files) told x y = found_alike (finite.get files file) x.found y.found x.finds y.finds x.sets y.sets
+
 -- ---- commands
 
-carry_alike : (s t : State) (k : ScriptCommand) (block other : Text) (new next : State) → IsFaithful s → IsFaithful t → AreAlike s t → (x : CarriesOut s k block new) → CarriesOut t k other next → Says s k block new x → Same block other new next
-carry_alike s t (command.Edit e) block other new next f g l x y i = edit_alike s t l f.named e block other new next x y
-carry_alike s t (command.Eval n) block other new next f g l x y i = value_alike s t l n block other new next x y i
-carry_alike s t (command.Precedents n) block other new next f g l x y i = reads_alike s t l n block other new next x y i
-carry_alike s t (command.Succs n) block other new next f g l x y i = succs_alike s t f g l n block other new next x y
-carry_alike s t (command.Held n) block other new next f g l x y i = count_alike s t l n block other new next x y
-carry_alike s t (command.Clear scope) block other new next f g l x y i = drops_alike s t l scope block other new next x y
-carry_alike s t (command.Limit limit) block other new next f g l x y i = limit_alike s t l limit block other new next x y
-carry_alike s t (command.Order path) block other new next f g l x y i = order_alike s t l path block other new next x y
+module _ (files : Option FileMap) (s t : State) where
+  carry_alike : (k : ScriptCommand) (block other : Text) (new next : State) → IsFaithful s → IsFaithful t → AreAlike s t → (x : CarriesOut files s k block new) → CarriesOut files t k other next → Says files s k block new x
+      → Same block other new next
+  carry_alike (command.Edit e) block other new next f g l x y i = edit_alike s t l f.named e block other new next x y
+  carry_alike (command.Table name file) block other new next f g l x y i = table_alike s t l f.named name file block other new next files i x y
+  carry_alike (command.Eval n) block other new next f g l x y i = value_alike s t l n block other new next x y i
+  carry_alike (command.Precedents n) block other new next f g l x y i = reads_alike s t l n block other new next x y i
+  carry_alike (command.Succs n) block other new next f g l x y i = succs_alike s t f g l n block other new next x y
+  carry_alike (command.Held n) block other new next f g l x y i = count_alike s t l n block other new next x y
+  carry_alike (command.Clear scope) block other new next f g l x y i = drops_alike s t l scope block other new next x y
+  carry_alike (command.Limit limit) block other new next f g l x y i = limit_alike s t l limit block other new next x y
+  carry_alike (command.Order path) block other new next f g l x y i = order_alike s t l path block other new next x y
+
+pub runs_alike : (s t new next : RunState) → AreRunsAlike s t → new ≡ s → next ≡ t → AreRunsAlike new next
+runs_alike s t new next a e f = subst (λ q. AreRunsAlike q next) (sym e) (subst (λ q. AreRunsAlike s q) (sym f) a)
 
 pub one_block : OneBlock
 one_block s t c block other new next f g l (refused e m reads text same) (refused d n others texts sames) i =
     let is : Err d ≡ Err e = only_command every_word c.text (Err e) (λ z. reads) (Err d) others m in
     let is_e : d ≡ e = cc in
-    (text ∙ ap (λ (x : FormRefusal). form_block c.number x) (sym is_e) ∙ sym texts, states_alike s t new next l same sames)
-one_block s t c block other new next f g l (refused e m reads text same) (carried j others does) i =
+    (text ∙ ap (λ (x : FormRefusal). form_block c.number x) (sym is_e) ∙ sym texts, runs_alike s t new next l same sames)
+one_block s t c block other new next f g l (refused e m reads text same) (carried j others does kept) i =
     let is : Ok j ≡ Err e = only_command every_word c.text (Err e) (λ z. reads) (Ok j) others m in absurd (cc)
-one_block s t c block other new next f g l (carried k reads does) (refused d n others texts sames) i =
+one_block s t c block other new next f g l (carried k reads does kept) (refused d n others texts sames) i =
     let is : Err d ≡ Ok k = only_command every_word c.text (Ok k) (λ z. reads) (Err d) others in absurd (cc)
-one_block s t c block other new next f g l (carried k reads does) (carried j others done) i =
+one_block s t c block other new next f g l (carried k reads does kept) (carried j others done same) i =
     let is : Ok j ≡ Ok k = only_command every_word c.text (Ok k) (λ z. reads) (Ok j) others in
     let is_k : j ≡ k = cc in
-    carry_alike s t k block other new next f g l does (subst (λ (q : ScriptCommand). CarriesOut t q other next) is_k done) i
+    let there = subst (λ (files : Option FileMap). CarriesOut files t.engine j other next.engine) (sym l.files) done in
+    let both = carry_alike s.files s.engine t.engine k block other new.engine next.engine f g l.engine does (subst (λ (q : ScriptCommand). CarriesOut s.files t.engine q other next.engine) is_k there) i in
+    (both.0, record { engine = both.1; files = kept ∙ l.files ∙ sym same })

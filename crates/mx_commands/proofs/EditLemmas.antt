@@ -31,6 +31,7 @@ applied text e refusal.NoMemory memory h = absurd (memory refl)
 -- a command that a text says has a formula that was read
 pub read_command : EditsAreRead → (text : List ℕ) (k : Command) → ReadsAs every_word text (Ok k) → IsReadCommand k
 read_command are_read text (command.Edit e) h = are_read every_word text e h
+read_command are_read text (command.Table name file) h = tt
 read_command are_read text (command.Eval n) h = tt
 read_command are_read text (command.Precedents n) h = tt
 read_command are_read text (command.Succs n) h = tt

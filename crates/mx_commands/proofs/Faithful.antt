@@ -1,9 +1,17 @@
 -- A command leaves a faithful state.
-use Rattle.std.proofs.Common.{◌≡◌, ℕ, Option, None, Some, Ok, refl, sym, subst}
+use Rattle.std.proofs.Common.{◌≡◌, ℕ, Option, None, Some, Result, Ok, Err, refl, sym, subst}
+use Rattle.mx_value.specs.declared.label.Label.{Label}
 use Rattle.mx_value.specs.declared.node.Node.{Node}
 use Rattle.mx_print.specs.Texts.{Text}
 use Rattle.mx_edit.specs.Entry.{Entry}
+use Rattle.mx_edit.specs.Rows.{TableRows}
 use Rattle.mx_edit.specs.declared.edit.Edit.{Edit}
+use Rattle.mx_edit.specs.declared.edit.Edit.TheVariants as edit
+use Rattle.mx_edit.specs.declared.table.TableRefusal.{TableRefusal}
+use Rattle.mx_outside.specs.Files.{FileMap}
+use Rattle.mx_outside.specs.declared.files.Found.{Found}
+use Rattle.mx_outside.specs.declared.files.Found.TheVariants.{Bytes, Missing, TooBig}
+use Rattle.mx_tables.specs.Reading.{table_of}
 use Rattle.mx_words.specs.declared.command.Command.{Command as ScriptCommand}
 use Rattle.mx_words.specs.declared.command.Command.TheVariants as command
 use Rattle.mx_runs.specs.Lists.{Has}
@@ -16,7 +24,7 @@ use Rattle.mx_state.specs.Laws.{AreRuns}
 use Rattle.mx_state.specs.Model.{model_of}
 use Rattle.mx_state.specs.State.{State}
 use Rattle.mx_state.proofs.States.{texts_have_runs}
-use Rattle.mx_commands.specs.Step.{refused, carried, CarriesOut, Changes, Accepts, Refuses, IsHeld, IsNotHeld, Counts, Limits, Sets, IsPastBounds, TellsOrder, HasLayers, IsNotStatic}
+use Rattle.mx_commands.specs.Step.{RunState, refused, carried, CarriesOut, SetsSaid, SetsFound, Changes, Accepts, Refuses, IsHeld, IsNotHeld, Counts, Limits, Sets, IsPastBounds, TellsOrder, HasLayers, IsNotStatic}
 use Rattle.mx_commands.specs.Laws.{IsFaithful, StaysFaithful}
 use Rattle.mx_commands.proofs.OneEdit.{made_named}
 
@@ -54,16 +62,27 @@ ordered : (s : State) (path : Path) (block : Text) (new : State) → IsFaithful 
 ordered s path block new f (HasLayers paths a i m) = unchanged s new f m
 ordered s path block new f (IsNotStatic h i m) = unchanged s new f m
 
-carried_out : (s : State) (k : ScriptCommand) (block : Text) (new : State) → IsFaithful s → CarriesOut s k block new → IsFaithful new
-carried_out s (command.Edit e) block new f x = changed s e block new f x
-carried_out s (command.Eval n) block new f x = with_records s new f x.evaluates.text x.evaluates.recorded.records
-carried_out s (command.Precedents n) block new f x = with_records s new f x.has.evaluates.text x.has.evaluates.recorded.records
-carried_out s (command.Succs n) block new f x = unchanged s new f x.state
-carried_out s (command.Held n) block new f x = counted s n block new f x
-carried_out s (command.Clear scope) block new f x = with_records s new f x.clearing.text (λ d h. f.records d (x.clearing.clears.only d h).0)
-carried_out s (command.Limit limit) block new f x = limited s limit block new f x
-carried_out s (command.Order path) block new f x = ordered s path block new f x
+-- a table from a file
+said : (s : State) (name : Label) (says : Result TableRows TableRefusal) (block : Text) (new : State) → IsFaithful s → SetsSaid s name says block new → IsFaithful new
+said s name (Ok rows) block new f x = changed s (edit.SetTable name rows) block new f x
+said s name (Err why) block new f x = unchanged s new f x.1
+
+found : (s : State) (name file : Label) (found : Found) (block : Text) (new : State) → IsFaithful s → SetsFound s name file found block new → IsFaithful new
+found s name file (Bytes bytes) block new f x = said s name (table_of bytes.items) block new f x
+found s name file Missing block new f x = unchanged s new f x.1
+found s name file TooBig block new f x = unchanged s new f x.1
+
+carried_out : (files : Option FileMap) (s : State) (k : ScriptCommand) (block : Text) (new : State) → IsFaithful s → CarriesOut files s k block new → IsFaithful new
+carried_out files s (command.Edit e) block new f x = changed s e block new f x
+carried_out files s (command.Table name file) block new f x = found s name file x.found block new f x.sets
+carried_out files s (command.Eval n) block new f x = with_records s new f x.evaluates.text x.evaluates.recorded.records
+carried_out files s (command.Precedents n) block new f x = with_records s new f x.has.evaluates.text x.has.evaluates.recorded.records
+carried_out files s (command.Succs n) block new f x = unchanged s new f x.state
+carried_out files s (command.Held n) block new f x = counted s n block new f x
+carried_out files s (command.Clear scope) block new f x = with_records s new f x.clearing.text (λ d h. f.records d (x.clearing.clears.only d h).0)
+carried_out files s (command.Limit limit) block new f x = limited s limit block new f x
+carried_out files s (command.Order path) block new f x = ordered s path block new f x
 
 pub stays_faithful : StaysFaithful
-stays_faithful s c block new f (refused e m reads text same) = unchanged s new f same
-stays_faithful s c block new f (carried k reads does) = carried_out s k block new f does
+stays_faithful s c block new f (refused e m reads text same) = subst (λ (r : RunState). IsFaithful r.engine) (sym same) f
+stays_faithful s c block new f (carried k reads does kept) = carried_out s.files s.engine k block new.engine f does

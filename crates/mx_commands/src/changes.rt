@@ -1,7 +1,7 @@
 //! Edits.
 ghost use Rattle.std.specs.Prelude.{◌≡◌, [], OnOk};
 ghost use Rattle.mx_model.specs.Literals.{IsRead};
-ghost use Rattle.mx_limit_laws.specs.Texts.{IsSmallEdit};
+ghost use Rattle.mx_limit_laws.specs.Texts.{HasSmallFormula};
 ghost use Rattle.mx_commands.specs.Step.{Changes};
 
 use mx_edit::edit::Edit;
@@ -17,7 +17,7 @@ pub(crate) fn edit(
 ) -> Result<(), AllocError>
     requires empty { block.old.items ≡ [] }
     requires read { IsRead change.now }
-    requires small { IsSmallEdit change.now }
+    requires small { HasSmallFormula change.now }
     ensures { OnOk result (Changes engine.old change.now block.new.items engine.new) }
 {
     match engine.edit(change) {

@@ -1,4 +1,4 @@
-//! The commands of a script: what each does with an engine, and the block that answers it.
+//! The commands of a script: what each does with an engine and with files, and the block that answers it.
 //!
 //! Room: engine and scripts.
 #![tactic(auto)]
@@ -9,5 +9,6 @@ mod evaluations;
 mod held;
 pub mod laws;
 mod settings;
+mod tables;
 
-pub use command::answer;
+pub use command::Interpreter;

@@ -1,36 +1,35 @@
 //! What rows are carried out on.
 ghost use Rattle.std.specs.Prelude.{IfOk};
-ghost use Rattle.mx_limit_laws.specs.Texts.{IsSmallText};
+ghost use Rattle.mx_limit_laws.specs.Texts.{HasSmallFormulas};
 ghost use Rattle.mx_engine_rows.specs.Rows.{IsFitEdit};
 
 use crate::reading::{NoRow, edit, first_word, node};
-use crate::table::table;
+use mx_commands::Interpreter;
 use mx_edit::edit::Edit;
 use mx_engine::engine::Engine;
 use mx_frames::steps::Steps;
+use mx_outside::SureFiles;
 use mx_prepare::prepare::{commit, prepare};
 use mx_print::append::push;
 use mx_print::value::push_node;
-use mx_text::blocks::{push_accepted, push_refused_edit};
+use mx_text::blocks::push_accepted;
 use mx_value::node::Node;
 use mx_world::world::World;
 use std::alloc::{AllocError, Global};
 use std::sync::ledger::Ledger;
 
-/// An engine, and the block that answers the row at hand.
+/// An engine with the block that answers the row at hand, and no files.
 #[derive(Drop)]
 pub struct Bench {
-    pub alloc: Global,
-    pub engine: Engine,
-    pub block: Vec<u8>,
+    pub interpreter: Interpreter,
+    pub files: SureFiles,
 }
 
 impl Bench {
     pub fn new(alloc: Global) -> Result<Bench, AllocError> {
         Ok(Bench {
-            alloc,
-            engine: Engine::new(alloc)?,
-            block: Vec::new(alloc),
+            interpreter: Interpreter::new(alloc)?,
+            files: SureFiles::new(Vec::new(alloc)),
         })
     }
 }
@@ -42,24 +41,17 @@ pub fn carry_out<L: Ledger>(
     steps: &mut Steps<L>,
 ) -> Result<(), AllocError> {
     let (word, rest) = first_word(row);
-    bench.block.clear();
-    if word == b"table".as_slice() {
-        return told(set(bench, rest), &mut bench.block);
-    }
+    bench.interpreter.block.clear();
     if word == b"bound".as_slice() {
-        return told(bound(bench, rest), &mut bench.block);
+        return told(bound(bench, rest), &mut bench.interpreter.block);
     }
     if word == b"replace".as_slice() {
-        return told(replace(bench, rest), &mut bench.block);
+        return told(replace(bench, rest), &mut bench.interpreter.block);
     }
-    mx_commands::answer(
-        bench.alloc,
-        &mut bench.engine,
-        &mut bench.block,
-        1,
-        row,
-        steps,
-    )
+    match bench.interpreter.answer(1, row, &mut bench.files, steps) {
+        Ok(()) => Ok(()),
+        Err(_) => Err(AllocError),
+    }
 }
 
 /// Tells of a row that says nothing.
@@ -71,27 +63,11 @@ fn told(outcome: Result<(), NoRow>, block: &mut Vec<u8>) -> Result<(), AllocErro
     }
 }
 
-/// `table NAME ..`: sets a table.
-fn set(bench: &mut Bench, text: &[u8]) -> Result<(), NoRow> {
-    let edit = table(bench.alloc, text)?;
-    Ok(change(&mut bench.engine, &edit, &mut bench.block)?)
-}
-
-/// Makes an edit.
-fn change(engine: &mut Engine, edit: &Edit, block: &mut Vec<u8>) -> Result<(), AllocError>
-    requires { IsFitEdit edit.now }
-{
-    match engine.edit(edit) {
-        Ok(_) => push_accepted(block),
-        Err(refusal) => push_refused_edit(block, &refusal),
-    }
-}
-
 /// `bound NODE`: tells the bound form of a node.
 fn bound(bench: &mut Bench, text: &[u8]) -> Result<(), NoRow> {
-    let node = node(bench.alloc, text)?;
-    let form = bench.engine.bound(&node)?;
-    Ok(push_form(&form, &mut bench.block)?)
+    let node = node(bench.interpreter.alloc, text)?;
+    let form = bench.interpreter.engine.bound(&node)?;
+    Ok(push_form(&form, &mut bench.interpreter.block)?)
 }
 
 fn push_form(form: &Option<Node>, block: &mut Vec<u8>) -> Result<(), AllocError> {
@@ -104,16 +80,16 @@ fn push_form(form: &Option<Node>, block: &mut Vec<u8>) -> Result<(), AllocError>
 
 /// `replace EDIT`: puts another world in, the new model with one edit made.
 fn replace(bench: &mut Bench, text: &[u8]) -> Result<(), NoRow> {
-    let edit = edit(bench.alloc, text)?;
-    let world = edited(bench.alloc, &edit)?;
-    bench.engine.replace(world);
-    Ok(push_accepted(&mut bench.block)?)
+    let edit = edit(bench.interpreter.alloc, text)?;
+    let world = edited(bench.interpreter.alloc, &edit)?;
+    bench.interpreter.engine.replace(world);
+    Ok(push_accepted(&mut bench.interpreter.block)?)
 }
 
 /// The new model with one edit made.
 fn edited(alloc: Global, edit: &Edit) -> Result<World, NoRow>
     requires { IsFitEdit edit.now }
-    ensures { IfOk result IsSmallText }
+    ensures { IfOk result HasSmallFormulas }
 {
     mx_limit_laws::laws::laws();
     let mut world = World::new(alloc)?;

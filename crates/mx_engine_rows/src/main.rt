@@ -1,6 +1,6 @@
 //! Answers rows over an engine. A line of standard input that begins with `#` begins a new engine and is written again. Every other
-//! line is a row: `table ..`, `bound NODE` or `replace EDIT`, which no script has, or else a command of scripts. An edit that drops
-//! nodes answers with their number.
+//! line is a row: `bound NODE` or `replace EDIT`, which no script has, or else a command of scripts. An edit that drops nodes answers
+//! with their number.
 //!
 //! Room: checks.
 #![tactic(auto)]
@@ -8,7 +8,6 @@
 mod bench;
 mod reading;
 mod rows;
-mod table;
 
 use crate::rows::answer_script;
 use std::io;

@@ -8,7 +8,7 @@ use mx_script::{Command, read_command};
 use mx_value::node::Node;
 use mx_words::table::WORDS;
 use mx_words::text::word_length;
-use std::alloc::{AllocError, AllocFailed, Global};
+use std::alloc::{AllocError, Global};
 
 /// Why a row says nothing.
 #[derive(Drop)]
@@ -21,12 +21,6 @@ pub enum NoRow {
 
 impl From<AllocError> for NoRow {
     fn from(_error: AllocError) -> NoRow {
-        NoRow::NoMemory
-    }
-}
-
-impl<T: Drop> From<AllocFailed<T>> for NoRow {
-    fn from(_error: AllocFailed<T>) -> NoRow {
         NoRow::NoMemory
     }
 }

@@ -40,14 +40,14 @@ fn take_line<L: Ledger>(
     out: &mut Vec<u8>,
 ) -> Result<(), AllocError> {
     if line.starts_with(b"#") {
-        *bench = Bench::new(bench.alloc)?;
+        *bench = Bench::new(bench.interpreter.alloc)?;
         push(out, line)?;
         return push(out, b"\n");
     }
-    let before = bench.engine.held_count();
+    let before = bench.interpreter.engine.held_count();
     carry_out(bench, line, steps)?;
-    let gone = before.saturating_sub(bench.engine.held_count());
-    push_block(out, &bench.block, gone)
+    let gone = before.saturating_sub(bench.interpreter.engine.held_count());
+    push_block(out, &bench.interpreter.block, gone)
 }
 
 /// Adds a block: behind `ok` how many nodes were dropped, where there are some.

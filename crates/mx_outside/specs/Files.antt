@@ -12,6 +12,10 @@ use Rattle.mx_outside.specs.declared.files.Found.TheVariants.{Bytes, Missing, To
 abbrev pub FileMap : Type 0
 FileMap = finite.FinMap (slice_cmp nat_cmp) (List ℕ)
 
+-- the greatest number of bytes of a file that is read whole, and of one that is written
+abbrev pub most_bytes : ℕ
+most_bytes = 67108864
+
 -- what is found of these bytes, or of none, by a read that takes so many at most
 abbrev pub IsFound : Option (List ℕ) → ℕ → Found → Type 0
 IsFound (Some bytes) limit (Bytes given) = (given.items ≡ bytes) × (length bytes ≤ limit)

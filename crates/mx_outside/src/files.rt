@@ -8,6 +8,9 @@ use crate::WriteFailure;
 use std::alloc::{AllocError, Global};
 use thiserror::Error;
 
+/// The greatest number of bytes of a file that is read whole, and of one that is written.
+pub const MAX_FILE: u64 = 67_108_864;
+
 /// What a name was found to hold.
 #[derive(Debug, Drop)]
 pub enum Found {
@@ -57,6 +60,7 @@ pub trait Files {
         ensures found { IfOk result (λ found. Finds (held self.old) name.now limit found) }
         ensures within { IfOk result (λ found. IsWithin limit found) }
         ensures held { held self.new ≡ held self.old }
+        ensures kept { OnOk result (read_faults self.new ≡ read_faults self.old) }
         ensures later { read_faults self.old ≤ read_faults self.new }
         ensures failed { IsErrOf result ReadFailure.Failed →
             Rose (read_faults self.old) (read_faults self.new) }
@@ -68,6 +72,7 @@ pub trait Files {
         ensures ok { OnOk result (held self.new ≡ with_bytes (held self.old) name.now bytes.now) }
         ensures err { OnErr result (ChangesOnly name.now (held self.old) (held self.new)) }
         ensures no_memory { IsErrOf result WriteFailure.NoMemory → held self.new ≡ held self.old }
+        ensures kept { OnOk result (write_faults self.new ≡ write_faults self.old) }
         ensures later { write_faults self.old ≤ write_faults self.new }
         ensures failed { IsErrOf result WriteFailure.Failed →
             Rose (write_faults self.old) (write_faults self.new) }

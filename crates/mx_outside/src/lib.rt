@@ -16,7 +16,7 @@ mod sink;
 mod source;
 mod sure;
 
-pub use files::{Files, Found, ReadFailure};
+pub use files::{Files, Found, MAX_FILE, ReadFailure};
 pub use memory::{MemFiles, MemSink, MemSource};
 pub use name::is_file_name;
 pub use sink::{Sink, WriteFailure, write_whole};

@@ -219,6 +219,7 @@ impl Files for MemFiles {
         ensures found { IfOk result (λ found. Finds (files_held self.old) name.now limit found) }
         ensures within { IfOk result (λ found. IsWithin limit found) }
         ensures held { files_held self.new ≡ files_held self.old }
+        ensures kept { OnOk result (self.new.read_faults ≡ self.old.read_faults) }
         ensures later { self.old.read_faults ≤ self.new.read_faults }
         ensures failed { IsErrOf result ReadFailure.Failed →
             Rose self.old.read_faults self.new.read_faults }
@@ -245,6 +246,7 @@ impl Files for MemFiles {
             (ChangesOnly name.now (files_held self.old) (files_held self.new)) }
         ensures no_memory { IsErrOf result WriteFailure.NoMemory →
             files_held self.new ≡ files_held self.old }
+        ensures kept { OnOk result (self.new.write_faults ≡ self.old.write_faults) }
         ensures later { self.old.write_faults ≤ self.new.write_faults }
         ensures failed { IsErrOf result WriteFailure.Failed →
             Rose self.old.write_faults self.new.write_faults }

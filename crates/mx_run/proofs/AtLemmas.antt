@@ -1,22 +1,19 @@
 -- A session after more bytes.
-use Rattle.std.proofs.Common.{◌≡◌, ℕ, zero, suc, ◌+◌, ◌-◌, ◌<◌, ◌≤◌, min, List, [], ◌∷◌, ◌++◌, Option, None, Result, Ok, Err, length, take, drop, get_or, refl, sym, ap, ◌∙◌, subst, append_assoc, append-nil, arith, length-append, length-take, take-append-drop}
+use Rattle.std.proofs.Common.{◌≡◌, ℕ, zero, suc, ◌+◌, ◌-◌, ◌<◌, ◌≤◌, min, List, [], ◌∷◌, ◌++◌, Option, None, Result, Ok, length, take, drop, get_or, refl, sym, ap, ◌∙◌, subst, append_assoc, append-nil, arith, length-append, length-take, take-append-drop}
 use Rattle.std.proofs.lemmas.List.{take_more}
 use Rattle.std.specs.List.{AllByRecursion}
-use Rattle.mx_outside.specs.declared.sink.WriteFailure.{WriteFailure}
-use Rattle.mx_outside.specs.declared.sink.WriteFailure.TheVariants as write
 use Rattle.mx_outside.proofs.Bytes.{append_known-nil}
 use Rattle.mx_run.specs.Script.{taken, complete, pending_after, complete_commands}
 use Rattle.mx_script.specs.Script.{Lines, split_lines, Command, Taken, HasNoLf}
-use Rattle.mx_state.specs.State.{State}
-use Rattle.mx_engine.specs.Engine.{first_state}
-use Rattle.mx_run.specs.Transcript.{Runs, Begins, Wrote, IsWithin, IsBrokenOff, IsCut}
+use Rattle.mx_outside.specs.Files.{FileMap}
+use Rattle.mx_commands.specs.Step.{RunState}
+use Rattle.mx_run.specs.Transcript.{Runs, Breaks, Wrote, begin, IsWithin, IsBrokenOff, IsCut}
 use Rattle.mx_run.specs.Session.{TakesLine, pending_of}
 use Rattle.mx_run.specs.At.{IsAfter, Halts}
-use Rattle.mx_run.specs.Stop.{stop_for}
 use Rattle.mx_run.specs.declared.take.Pending.{Pending}
 use Rattle.mx_run.specs.declared.stop.Stop.{Stop}
-use Rattle.mx_run.specs.declared.stop.Stop.TheVariants.{ReadFault, WriteFault, NoMemory, OverLimit}
-use Rattle.mx_run.proofs.RunLemmas.{run_more, begins_more, begins_whole}
+use Rattle.mx_run.specs.declared.stop.Stop.TheVariants.{ReadFault, FileFault, WriteFault, NoMemory, OverLimit}
+use Rattle.mx_run.proofs.RunLemmas.{run_more, breaks_more, begins_whole}
 use Rattle.mx_run.proofs.ScriptLemmas.{split_lines-end, split_lines-stretch, complete-append, pending_after-append}
 
 pub wrote_nothing : (old : Option (List ℕ)) (P : List ℕ → Type 0) → P [] → Wrote old old P
@@ -32,8 +29,8 @@ no_lf-take (suc k) [] none = tt
 no_lf-take (suc k) (b ∷ bs) none = (none.0, no_lf-take k bs none.1)
 
 -- what broke off in what was read broke off in more too
-broken_grow : (read more w : List ℕ) → IsBrokenOff read w → IsBrokenOff (read ++ more) w
-broken_grow read more w h = record {
+broken_grow : (first : Option FileMap) (stop : Stop) (read more w : List ℕ) → IsBrokenOff first stop read w → IsBrokenOff first stop (read ++ more) w
+broken_grow first stop read more w h = record {
   before = h.before;
   after = h.after ++ more;
   is = ap (λ (l : List ℕ). l ++ more) h.is ∙ append_assoc h.before h.after more;
@@ -41,11 +38,12 @@ broken_grow read more w h = record {
   output = h.output;
 }
 
-pub halts_grow : (stop : Stop) (read more w : List ℕ) → Halts stop read w → Halts stop (read ++ more) w
-halts_grow ReadFault read more w h = absurd h
-halts_grow WriteFault read more w h = broken_grow read more w h
-halts_grow NoMemory read more w h = broken_grow read more w h
-halts_grow OverLimit read more w h = record {
+pub halts_grow : (first : Option FileMap) (stop : Stop) (read more w : List ℕ) → Halts first stop read w → Halts first stop (read ++ more) w
+halts_grow first ReadFault read more w h = absurd h
+halts_grow first FileFault read more w h = broken_grow first FileFault read more w h
+halts_grow first WriteFault read more w h = broken_grow first WriteFault read more w h
+halts_grow first NoMemory read more w h = broken_grow first NoMemory read more w h
+halts_grow first OverLimit read more w h = record {
   before = h.before;
   byte = h.byte;
   after = h.after ++ more;
@@ -55,21 +53,21 @@ halts_grow OverLimit read more w h = record {
   output = h.output;
 }
 
-module _ (line : List ℕ) (lines size : ℕ) (pending : Option Command) (state : State) (read written : List ℕ) (at : IsAfter line lines size pending state read written) where
-  pub halts_memory : (more : List ℕ) → Halts NoMemory (read ++ more) written
+module _ (first : Option FileMap) (line : List ℕ) (lines size : ℕ) (pending : Option Command) (state : RunState) (read written : List ℕ) (at : IsAfter first line lines size pending state read written) where
+  pub halts_memory : (more : List ℕ) → Halts first NoMemory (read ++ more) written
   halts_memory more = record {
     before = read;
     after = more;
     is = refl;
     within = at.within;
-    output = begins_whole first_state (complete_commands read) written state at.blocks;
+    output = begins_whole (begin first) (complete_commands read) written state at.blocks;
   }
 
   same_commands : (s : List ℕ) → HasNoLf s → complete_commands (read ++ s) ≡ complete_commands read
   same_commands s none = ap (λ (l : Lines). complete 1 None l.whole) (split_lines-stretch read s none)
 
   -- bytes of the open line
-  pub at_inside : (s : List ℕ) → HasNoLf s → length line + length s ≤ 65536 → size + length s ≤ 16777216 → IsAfter (line ++ s) lines (size + length s) pending state (read ++ s) written
+  pub at_inside : (s : List ℕ) → HasNoLf s → length line + length s ≤ 65536 → size + length s ≤ 16777216 → IsAfter first (line ++ s) lines (size + length s) pending state (read ++ s) written
   at_inside s none short room =
       let e = split_lines-stretch read s none in
       record {
@@ -77,7 +75,7 @@ module _ (line : List ℕ) (lines size : ℕ) (pending : Option Command) (state 
         lines_before = at.lines_before ∙ ap (λ (l : Lines). length l.whole) (sym e);
         bytes = omega (arith, at.bytes, length-append read s);
         may_go_on = at.may_go_on ∙ ap (λ (l : Lines). pending_after 1 None l.whole) (sym e);
-        blocks = subst (λ (cs : List Command). Runs first_state cs written state) (sym (same_commands s none)) at.blocks;
+        blocks = subst (λ (cs : List Command). Runs (begin first) cs written state) (sym (same_commands s none)) at.blocks;
         within = record {
           size = omega (arith, at.bytes, length-append read s);
           whole = subst (λ (l : Lines). AllByRecursion (λ (x : List ℕ). length x ≤ 65536) l.whole) (sym e) at.within.whole;
@@ -86,7 +84,7 @@ module _ (line : List ℕ) (lines size : ℕ) (pending : Option Command) (state 
       }
 
   -- a limit is passed among them, at the byte after the first k
-  pub cut_line : (s : List ℕ) → HasNoLf s → (k : ℕ) → k ≡ min (65536 - length line) (16777216 - size) → size ≤ 16777216 → k < length s → IsCut (read ++ s) written
+  pub cut_line : (s : List ℕ) → HasNoLf s → (k : ℕ) → k ≡ min (65536 - length line) (16777216 - size) → size ≤ 16777216 → k < length s → IsCut first (read ++ s) written
   cut_line s none k is fits inside =
       let front = take k s in
       let byte = get_or s k 0 in
@@ -103,11 +101,11 @@ module _ (line : List ℕ) (lines size : ℕ) (pending : Option Command) (state 
         within = (at_inside front (no_lf-take k s none) (omega arith) (omega arith)).within;
         passes = λ within. let w = subst IsWithin more within in
             absurd (omega (arith, w.size, w.rest, ap (λ (l : Lines). length l.rest) e, ap length at.open_line, at.bytes, length-append (split_lines read).rest (take (k + 1) s), length-append read (take (k + 1) s), length-take (k + 1) s));
-        output = (state, subst (λ (cs : List Command). Runs first_state cs written state) (sym (same_commands front (no_lf-take k s none))) at.blocks);
+        output = (state, subst (λ (cs : List Command). Runs (begin first) cs written state) (sym (same_commands front (no_lf-take k s none))) at.blocks);
       }
 
   -- an LF past the script's limit
-  pub cut_end : 16777216 ≤ size → IsCut (read ++ 10 ∷ []) (written ++ [])
+  pub cut_end : 16777216 ≤ size → IsCut first (read ++ 10 ∷ []) (written ++ [])
   cut_end full = record {
     before = read;
     byte = 10;
@@ -115,7 +113,7 @@ module _ (line : List ℕ) (lines size : ℕ) (pending : Option Command) (state 
     is = refl;
     within = at.within;
     passes = λ within. absurd (omega (arith, within.size, at.bytes, length-append read (10 ∷ [])));
-    output = (state, subst (λ (w : List ℕ). Runs first_state (complete_commands read) w state) (sym (append-nil written)) at.blocks);
+    output = (state, subst (λ (w : List ℕ). Runs (begin first) (complete_commands read) w state) (sym (append-nil written)) at.blocks);
   }
 
   same_line : taken (1 + length (split_lines read).whole) (pending_after 1 None (split_lines read).whole) (split_lines read).rest ≡ taken (lines + 1) pending line
@@ -147,8 +145,8 @@ module _ (line : List ℕ) (lines size : ℕ) (pending : Option Command) (state 
         rest = subst (λ (l : Lines). length l.rest ≤ 65536) (sym e) (omega arith);
       }
 
-  at_line : (p : Option Pending) (new : State) (block : List ℕ) → size < 16777216 → TakesLine state (taken (lines + 1) pending line) (Ok p) new block
-      → IsAfter [] (lines + 1) (size + 1) (pending_of p) new (read ++ 10 ∷ []) (written ++ block)
+  at_line : (p : Option Pending) (new : RunState) (block : List ℕ) → size < 16777216 → TakesLine state (taken (lines + 1) pending line) (Ok p) new block
+      → IsAfter first [] (lines + 1) (size + 1) (pending_of p) new (read ++ 10 ∷ []) (written ++ block)
   at_line p new block room took =
       let e = split_lines-end read in
       record {
@@ -156,47 +154,52 @@ module _ (line : List ℕ) (lines size : ℕ) (pending : Option Command) (state 
         lines_before = omega (arith, at.lines_before, ap (λ (l : Lines). length l.whole) e, length-append (split_lines read).whole ((split_lines read).rest ∷ []));
         bytes = omega (arith, at.bytes, length-append read (10 ∷ []));
         may_go_on = took.0 ∙ sym pending_end;
-        blocks = subst (λ (cs : List Command). Runs first_state cs (written ++ block) new) (sym complete_end) (run_more first_state (complete_commands read) _ written block state new at.blocks took.1);
+        blocks = subst (λ (cs : List Command). Runs (begin first) cs (written ++ block) new) (sym complete_end) (run_more (begin first) (complete_commands read) _ written block state new at.blocks took.1);
         within = within_line room;
       }
 
-  line_begun : (block : List ℕ) → Begins state (taken (lines + 1) pending line).done block → Begins first_state (complete_commands (read ++ 10 ∷ [])) (written ++ block)
-  line_begun block begun = subst (λ (cs : List Command). Begins first_state cs (written ++ block)) (sym complete_end) (begins_more first_state (complete_commands read) _ written block state at.blocks begun)
-
-  line_broken : size < 16777216 → (block : List ℕ) → Begins state (taken (lines + 1) pending line).done block → IsBrokenOff (read ++ 10 ∷ []) (written ++ block)
-  line_broken room block begun = record {
+  line_broken : (stop : Stop) → size < 16777216 → (block : List ℕ) → Breaks stop state (taken (lines + 1) pending line).done block → IsBrokenOff first stop (read ++ 10 ∷ []) (written ++ block)
+  line_broken stop room block broken = record {
     before = read ++ 10 ∷ [];
     after = [];
     is = sym (append-nil (read ++ 10 ∷ []));
     within = within_line room;
-    output = line_begun block begun;
+    output = subst (λ (cs : List Command). Breaks stop (begin first) cs (written ++ block)) (sym complete_end) (breaks_more stop (begin first) (complete_commands read) _ written block state at.blocks broken);
   }
 
-  halts_line : size < 16777216 → (e : WriteFailure) (new : State) (block : List ℕ) → TakesLine state (taken (lines + 1) pending line) (Err e) new block → Halts (stop_for e) (read ++ 10 ∷ []) (written ++ block)
-  halts_line room write.Failed new block begun = line_broken room block begun
-  halts_line room write.NoMemory new block begun = line_broken room block begun
+  halts_line : (stop : Stop) → size < 16777216 → (block : List ℕ) → Breaks stop state (taken (lines + 1) pending line).done block → Halts first stop (read ++ 10 ∷ []) (written ++ block)
+  halts_line ReadFault room block broken = absurd broken
+  halts_line FileFault room block broken = line_broken FileFault room block broken
+  halts_line WriteFault room block broken = line_broken WriteFault room block broken
+  halts_line NoMemory room block broken = line_broken NoMemory room block broken
+  halts_line OverLimit room block broken = absurd broken
 
   -- the same as a call gives it, with what it took spelled otherwise
   module _ (kept : Option Pending) (same_pending : pending_of kept ≡ pending) (text : List ℕ) (same_text : text ≡ line) where
-    pub given : (result : Result (Option Pending) WriteFailure) (new : State) (block : List ℕ) → TakesLine state (taken (lines + 1) (pending_of kept) text) result new block
+    pub given : (result : Result (Option Pending) Stop) (new : RunState) (block : List ℕ) → TakesLine state (taken (lines + 1) (pending_of kept) text) result new block
         → TakesLine state (taken (lines + 1) pending line) result new block
     given result new block took =
         subst (λ (p : Option Command). TakesLine state (taken (lines + 1) p line) result new block) same_pending
         (subst (λ (l : List ℕ). TakesLine state (taken (lines + 1) (pending_of kept) l) result new block) same_text took)
 
-    pub fed_err : (old after : Option (List ℕ)) (e : WriteFailure) (new : State) (stop : Stop) → stop ≡ stop_for e → size < 16777216 → Wrote old after (TakesLine state (taken (lines + 1) (pending_of kept) text) (Err e) new)
-        → Wrote old after (λ block. Halts stop (read ++ 10 ∷ []) (written ++ block))
-    fed_err old after e new stop is room wrote = record {
+    pub given_broken : (stop : Stop) (block : List ℕ) → Breaks stop state (taken (lines + 1) (pending_of kept) text).done block → Breaks stop state (taken (lines + 1) pending line).done block
+    given_broken stop block broken =
+        subst (λ (p : Option Command). Breaks stop state (taken (lines + 1) p line).done block) same_pending
+        (subst (λ (l : List ℕ). Breaks stop state (taken (lines + 1) (pending_of kept) l).done block) same_text broken)
+
+    pub fed_err : (old after : Option (List ℕ)) (stop : Stop) → size < 16777216 → Wrote old after (Breaks stop state (taken (lines + 1) (pending_of kept) text).done)
+        → Wrote old after (λ block. Halts first stop (read ++ 10 ∷ []) (written ++ block))
+    fed_err old after stop room wrote = record {
       written = wrote.written;
       taken = wrote.taken;
-      holds = subst (λ (s : Stop). Halts s (read ++ 10 ∷ []) (written ++ wrote.written)) (sym is) (halts_line room e new wrote.written (given (Err e) new wrote.written wrote.holds));
+      holds = halts_line stop room wrote.written (given_broken stop wrote.written wrote.holds);
     }
 
-    pub fed_ok : (old after : Option (List ℕ)) (p : Option Pending) (new : State) (empty : List ℕ) → empty ≡ [] → size < 16777216 → Wrote old after (TakesLine state (taken (lines + 1) (pending_of kept) text) (Ok p) new)
-        → Wrote old after (λ block. IsAfter empty (lines + 1) (size + 1) (pending_of p) new (read ++ 10 ∷ []) (written ++ block))
+    pub fed_ok : (old after : Option (List ℕ)) (p : Option Pending) (new : RunState) (empty : List ℕ) → empty ≡ [] → size < 16777216 → Wrote old after (TakesLine state (taken (lines + 1) (pending_of kept) text) (Ok p) new)
+        → Wrote old after (λ block. IsAfter first empty (lines + 1) (size + 1) (pending_of p) new (read ++ 10 ∷ []) (written ++ block))
     fed_ok old after p new empty is room wrote = record {
       written = wrote.written;
       taken = wrote.taken;
-      holds = subst (λ (l : List ℕ). IsAfter l (lines + 1) (size + 1) (pending_of p) new (read ++ 10 ∷ []) (written ++ wrote.written)) (sym is)
+      holds = subst (λ (l : List ℕ). IsAfter first l (lines + 1) (size + 1) (pending_of p) new (read ++ 10 ∷ []) (written ++ wrote.written)) (sym is)
           (at_line p new wrote.written room (given (Ok p) new wrote.written wrote.holds));
     }

@@ -3,21 +3,20 @@ use Rattle.std.proofs.Common.{◌≡◌, ◌≢◌, ℕ, zero, suc, ◌+◌, ◌
 use Rattle.std.proofs.lemmas.List.{take_more}
 use Rattle.std.specs.Option.{option_to_list}
 use Rattle.std.specs.Io.KnownBytes.{append_known}
-use Rattle.mx_outside.specs.declared.sink.WriteFailure.{WriteFailure}
 use Rattle.mx_outside.proofs.Bytes.{append_known-append}
 use Rattle.mx_run.specs.Script.{taken, complete, pending_after, complete_commands, commands}
 use Rattle.mx_script.specs.Script.{split_lines, last_line, Command, Taken, HasNoLf}
-use Rattle.mx_state.specs.State.{State}
-use Rattle.mx_engine.specs.Engine.{first_state}
-use Rattle.mx_run.specs.Transcript.{Runs, Begins, Wrote, IsOutput}
+use Rattle.mx_outside.specs.Files.{FileMap}
+use Rattle.mx_commands.specs.Step.{RunState}
+use Rattle.mx_run.specs.Transcript.{Runs, Breaks, Wrote, begin}
 use Rattle.mx_run.specs.Session.{Answers, TakesLine, pending_of}
 use Rattle.mx_run.specs.At.{IsAfter, At, Halts, GoesOn, Finishes}
 use Rattle.mx_run.specs.declared.take.Pending.{Pending}
 use Rattle.mx_run.specs.declared.stop.Stop.{Stop}
 use Rattle.mx_run.specs.declared.session.Session.{Session}
-use Rattle.mx_run.proofs.RunLemmas.{run_more, begins_more, begins_less}
+use Rattle.mx_run.proofs.RunLemmas.{run_more, breaks_more, breaks_less}
 use Rattle.mx_run.proofs.ScriptLemmas.{complete-append, pending_after-append}
-use Rattle.mx_run.proofs.AtLemmas.{halts_grow, given}
+use Rattle.mx_run.proofs.AtLemmas.{halts_grow, given, given_broken}
 
 -- bytes with no LF, from their places
 pub no_lf_front : (s : List ℕ) (n : ℕ) → ((k : ℕ) → k < n → get_or s k 0 ≢ 10) → HasNoLf (take n s)
@@ -35,28 +34,28 @@ around_lf s n within lf = sym (take-append-drop (n + 1) s) ∙ ap (λ (l : List 
     ∙ ap (λ (b : ℕ). take n s ++ (b ∷ drop (n + 1) s)) lf
 
 -- What the calls for a line make of what was fed before it: `done` of the piece was, and the line is next.
-module _ (s : Session) (piece done rest line more read written : List ℕ) (is : piece ≡ done ++ rest) (next : rest ≡ line ++ more) (old mid : Option (List ℕ)) (first : Wrote old mid (λ block. At s (read ++ done) (written ++ block))) where
+module _ (files now : Option FileMap) (s : Session) (piece done rest line more read written : List ℕ) (is : piece ≡ done ++ rest) (next : rest ≡ line ++ more) (old mid : Option (List ℕ)) (first : Wrote old mid (λ block. At files now s (read ++ done) (written ++ block))) where
   regroup : ((read ++ done) ++ line) ++ more ≡ read ++ piece
   regroup = append_assoc (read ++ done) line more ∙ ap (λ (l : List ℕ). (read ++ done) ++ l) (sym next) ∙ append_assoc read done rest ∙ ap (λ (l : List ℕ). read ++ l) (sym is)
 
-  pub stop_inside : (stop : Stop) → ((r w : List ℕ) → At s r w → Halts stop (r ++ line) w) → Wrote old mid (λ block. Halts stop (read ++ piece) (written ++ block))
+  pub stop_inside : (stop : Stop) → ((r w : List ℕ) → At files now s r w → Halts files stop (r ++ line) w) → Wrote old mid (λ block. Halts files stop (read ++ piece) (written ++ block))
   stop_inside stop halts = record {
     written = first.written;
     taken = first.taken;
-    holds = subst (λ (r : List ℕ). Halts stop r (written ++ first.written)) regroup
-        (halts_grow stop ((read ++ done) ++ line) more (written ++ first.written) (halts (read ++ done) (written ++ first.written) first.holds));
+    holds = subst (λ (r : List ℕ). Halts files stop r (written ++ first.written)) regroup
+        (halts_grow files stop ((read ++ done) ++ line) more (written ++ first.written) (halts (read ++ done) (written ++ first.written) first.holds));
   }
 
-  pub goes_last : (t : Session) (result : Result (Unit {0}) Stop) → more ≡ [] → ((r w : List ℕ) → At s r w → GoesOn t result (r ++ line) w) → Wrote old mid (λ block. GoesOn t result (read ++ piece) (written ++ block))
+  pub goes_last : (t : Session) (result : Result (Unit {0}) Stop) → more ≡ [] → ((r w : List ℕ) → At files now s r w → GoesOn files now t result (r ++ line) w) → Wrote old mid (λ block. GoesOn files now t result (read ++ piece) (written ++ block))
   goes_last t result end goes = record {
     written = first.written;
     taken = first.taken;
-    holds = subst (λ (r : List ℕ). GoesOn t result r (written ++ first.written)) (sym (append-nil ((read ++ done) ++ line)) ∙ ap (λ (l : List ℕ). ((read ++ done) ++ line) ++ l) (sym end) ∙ regroup)
+    holds = subst (λ (r : List ℕ). GoesOn files now t result r (written ++ first.written)) (sym (append-nil ((read ++ done) ++ line)) ∙ ap (λ (l : List ℕ). ((read ++ done) ++ line) ++ l) (sym end) ∙ regroup)
         (goes (read ++ done) (written ++ first.written) first.holds);
   }
 
-  module _ (t : Session) (lengthens : (r w : List ℕ) → At s r w → At t (r ++ line) w) (new : Option (List ℕ)) where
-    pub stop_at_end : (stop : Stop) (behind : List ℕ) → more ≡ 10 ∷ behind → ((r w : List ℕ) → At t r w → Wrote mid new (λ block. Halts stop (r ++ 10 ∷ []) (w ++ block))) → Wrote old new (λ block. Halts stop (read ++ piece) (written ++ block))
+  module _ (t : Session) (lengthens : (r w : List ℕ) → At files now s r w → At files now t (r ++ line) w) (new : Option (List ℕ)) where
+    pub stop_at_end : (stop : Stop) (behind : List ℕ) → more ≡ 10 ∷ behind → ((r w : List ℕ) → At files now t r w → Wrote mid new (λ block. Halts files stop (r ++ 10 ∷ []) (w ++ block))) → Wrote old new (λ block. Halts files stop (read ++ piece) (written ++ block))
     stop_at_end stop behind lf ends =
         let last = ends ((read ++ done) ++ line) (written ++ first.written) (lengthens (read ++ done) (written ++ first.written) first.holds) in
         let all : (((read ++ done) ++ line) ++ 10 ∷ []) ++ behind ≡ read ++ piece =
@@ -64,25 +63,26 @@ module _ (s : Session) (piece done rest line more read written : List ℕ) (is :
         record {
           written = first.written ++ last.written;
           taken = last.taken ∙ ap (λ (x : Option (List ℕ)). append_known x last.written) first.taken ∙ append_known-append old first.written last.written;
-          holds = subst (λ (r : List ℕ). Halts stop r (written ++ (first.written ++ last.written))) all
-              (subst (λ (w : List ℕ). Halts stop ((((read ++ done) ++ line) ++ 10 ∷ []) ++ behind) w) (append_assoc written first.written last.written)
-              (halts_grow stop (((read ++ done) ++ line) ++ 10 ∷ []) behind ((written ++ first.written) ++ last.written) last.holds));
+          holds = subst (λ (r : List ℕ). Halts files stop r (written ++ (first.written ++ last.written))) all
+              (subst (λ (w : List ℕ). Halts files stop ((((read ++ done) ++ line) ++ 10 ∷ []) ++ behind) w) (append_assoc written first.written last.written)
+              (halts_grow files stop (((read ++ done) ++ line) ++ 10 ∷ []) behind ((written ++ first.written) ++ last.written) last.holds));
         }
 
-    pub goes_next : (u : Session) → ((r w : List ℕ) → At t r w → Wrote mid new (λ block. At u (r ++ 10 ∷ []) (w ++ block))) → Wrote old new (λ block. At u (read ++ (done ++ (line ++ 10 ∷ []))) (written ++ block))
-    goes_next u ends =
+    pub goes_next : (later : Option FileMap) (u : Session) → ((r w : List ℕ) → At files now t r w → Wrote mid new (λ block. At files later u (r ++ 10 ∷ []) (w ++ block))) → Wrote old new (λ block. At files later u (read ++ (done ++ (line ++ 10 ∷ []))) (written ++ block))
+    goes_next later u ends =
         let last = ends ((read ++ done) ++ line) (written ++ first.written) (lengthens (read ++ done) (written ++ first.written) first.holds) in
         record {
           written = first.written ++ last.written;
           taken = last.taken ∙ ap (λ (x : Option (List ℕ)). append_known x last.written) first.taken ∙ append_known-append old first.written last.written;
-          holds = subst (λ (r : List ℕ). At u r (written ++ (first.written ++ last.written))) (append_assoc (read ++ done) line (10 ∷ []) ∙ append_assoc read done (line ++ 10 ∷ []))
-              (subst (λ (w : List ℕ). At u (((read ++ done) ++ line) ++ 10 ∷ []) w) (append_assoc written first.written last.written) last.holds);
+          holds = subst (λ (r : List ℕ). At files later u r (written ++ (first.written ++ last.written))) (append_assoc (read ++ done) line (10 ∷ []) ∙ append_assoc read done (line ++ 10 ∷ []))
+              (subst (λ (w : List ℕ). At files later u (((read ++ done) ++ line) ++ 10 ∷ []) w) (append_assoc written first.written last.written) last.holds);
         }
 
-ended_more : (read : List ℕ) (cs ds : List Command) (state new : State) (w b : List ℕ) (result : Result (Unit {0}) WriteFailure) → commands read ≡ cs ++ ds → Runs first_state cs w state → Answers state ds result new b
-    → Finishes result read (w ++ b)
-ended_more read cs ds state new w b (Ok u) is run ended = subst (λ (x : List Command). IsOutput x (w ++ b)) (sym is) (new, run_more first_state cs ds w b state new run ended)
-ended_more read cs ds state new w b (Err e) is run begun = subst (λ (x : List Command). Begins first_state x (w ++ b)) (sym is) (begins_more first_state cs ds w b state run begun)
+-- what is owed of a script's last commands, behind those that were complete
+module _ (first : Option FileMap) (read : List ℕ) (cs ds : List Command) (state new : RunState) (w b : List ℕ) (is : commands read ≡ cs ++ ds) (run : Runs (begin first) cs w state) where
+  ended_more : (result : Result (Unit {0}) Stop) → Answers state ds result new b → Finishes first new.files result read (w ++ b)
+  ended_more (Ok u) ended = subst (λ (x : List Command). (after : RunState) × Runs (begin first) x (w ++ b) after × (after.files ≡ new.files)) (sym is) (new, run_more (begin first) cs ds w b state new run ended, refl)
+  ended_more (Err stop) broken = subst (λ (x : List Command). Breaks stop (begin first) x (w ++ b)) (sym is) (breaks_more stop (begin first) cs ds w b state run broken)
 
 last_line_empty : (r : List ℕ) → r ≡ [] → last_line r ≡ []
 last_line_empty r e = rw e refl
@@ -91,7 +91,7 @@ last_line_some : (r : List ℕ) → length r ≢ 0 → last_line r ≡ r ∷ []
 last_line_some [] some = absurd (some refl)
 last_line_some (b ∷ bs) some = refl
 
-module _ (line : List ℕ) (lines size : ℕ) (pending : Option Command) (state : State) (read written : List ℕ) (at : IsAfter line lines size pending state read written) where
+module _ (first : Option FileMap) (line : List ℕ) (lines size : ℕ) (pending : Option Command) (state : RunState) (read written : List ℕ) (at : IsAfter first line lines size pending state read written) where
   commands_empty : line ≡ [] → commands read ≡ complete_commands read ++ option_to_list pending
   commands_empty empty =
       ap (λ (last : List (List ℕ)). complete 1 None ((split_lines read).whole ++ last) ++ option_to_list (pending_after 1 None ((split_lines read).whole ++ last)))
@@ -119,40 +119,40 @@ module _ (line : List ℕ) (lines size : ℕ) (pending : Option Command) (state 
       ∙ append_assoc (complete_commands read) (taken (lines + 1) pending line).done (option_to_list (taken (lines + 1) pending line).pending)
 
   module _ (kept : Option Pending) (same_pending : pending_of kept ≡ pending) where
-    pub finish_empty : (result : Result (Unit {0}) WriteFailure) (new : State) (old after : Option (List ℕ)) → line ≡ []
-        → Wrote old after (Answers state (option_to_list (pending_of kept)) result new) → Wrote old after (λ block. Finishes result read (written ++ block))
+    pub finish_empty : (result : Result (Unit {0}) Stop) (new : RunState) (old after : Option (List ℕ)) → line ≡ []
+        → Wrote old after (Answers state (option_to_list (pending_of kept)) result new) → Wrote old after (λ block. Finishes first new.files result read (written ++ block))
     finish_empty result new old after empty wrote = record {
       written = wrote.written;
       taken = wrote.taken;
-      holds = ended_more read (complete_commands read) (option_to_list pending) state new written wrote.written result (commands_empty empty) at.blocks
+      holds = ended_more first read (complete_commands read) (option_to_list pending) state new written wrote.written (commands_empty empty) at.blocks result
           (subst (λ (p : Option Command). Answers state (option_to_list p) result new wrote.written) same_pending wrote.holds);
     }
 
     module _ (text : List ℕ) (same_text : text ≡ line) (some : length line ≢ 0) where
-      pub finish_line : (p : Option Pending) (mid_state : State) (result : Result (Unit {0}) WriteFailure) (new : State) (old mid after : Option (List ℕ))
+      pub finish_line : (p : Option Pending) (mid_state : RunState) (result : Result (Unit {0}) Stop) (new : RunState) (old mid after : Option (List ℕ))
           → Wrote old mid (TakesLine state (taken (lines + 1) (pending_of kept) text) (Ok p) mid_state)
-          → Wrote mid after (Answers mid_state (option_to_list (pending_of p)) result new) → Wrote old after (λ block. Finishes result read (written ++ block))
-      finish_line p mid_state result new old mid after first second =
-          let took = given line lines size pending state read written at kept same_pending text same_text (Ok p) mid_state first.written first.holds in
+          → Wrote mid after (Answers mid_state (option_to_list (pending_of p)) result new) → Wrote old after (λ block. Finishes first new.files result read (written ++ block))
+      finish_line p mid_state result new old mid after begun second =
+          let took = given first line lines size pending state read written at kept same_pending text same_text (Ok p) mid_state begun.written begun.holds in
           let t = taken (lines + 1) pending line in
           let last = subst (λ (q : Option Command). Answers mid_state (option_to_list q) result new second.written) took.0 second.holds in
           let is = commands_line some ∙ sym (append_assoc (complete_commands read) t.done (option_to_list t.pending)) in
           record {
-            written = first.written ++ second.written;
-            taken = second.taken ∙ ap (λ (x : Option (List ℕ)). append_known x second.written) first.taken ∙ append_known-append old first.written second.written;
-            holds = subst (λ (w : List ℕ). Finishes result read w) (append_assoc written first.written second.written)
-                (ended_more read (complete_commands read ++ t.done) (option_to_list t.pending) mid_state new (written ++ first.written) second.written result is
-                (run_more first_state (complete_commands read) t.done written first.written state mid_state at.blocks took.1) last);
+            written = begun.written ++ second.written;
+            taken = second.taken ∙ ap (λ (x : Option (List ℕ)). append_known x second.written) begun.taken ∙ append_known-append old begun.written second.written;
+            holds = subst (λ (w : List ℕ). Finishes first new.files result read w) (append_assoc written begun.written second.written)
+                (ended_more first read (complete_commands read ++ t.done) (option_to_list t.pending) mid_state new (written ++ begun.written) second.written is
+                (run_more (begin first) (complete_commands read) t.done written begun.written state mid_state at.blocks took.1) result last);
           }
 
-      pub finish_stop : (e : WriteFailure) (new : State) (old mid : Option (List ℕ))
-          → Wrote old mid (TakesLine state (taken (lines + 1) (pending_of kept) text) (Err e) new) → Wrote old mid (λ block. Finishes (Err e) read (written ++ block))
-      finish_stop e new old mid first =
-          let begun = given line lines size pending state read written at kept same_pending text same_text (Err e) new first.written first.holds in
+      pub finish_stop : (stop : Stop) (old mid : Option (List ℕ))
+          → Wrote old mid (Breaks stop state (taken (lines + 1) (pending_of kept) text).done) → Wrote old mid (λ block. Breaks stop (begin first) (commands read) (written ++ block))
+      finish_stop stop old mid begun =
+          let broken = given_broken first line lines size pending state read written at kept same_pending text same_text stop begun.written begun.holds in
           let t = taken (lines + 1) pending line in
           record {
-            written = first.written;
-            taken = first.taken;
-            holds = subst (λ (x : List Command). Begins first_state x (written ++ first.written)) (sym (commands_line some))
-                (begins_more first_state (complete_commands read) (t.done ++ option_to_list t.pending) written first.written state at.blocks (begins_less state t.done (option_to_list t.pending) first.written begun));
+            written = begun.written;
+            taken = begun.taken;
+            holds = subst (λ (x : List Command). Breaks stop (begin first) x (written ++ begun.written)) (sym (commands_line some))
+                (breaks_more stop (begin first) (complete_commands read) (t.done ++ option_to_list t.pending) written begun.written state at.blocks (breaks_less stop state t.done (option_to_list t.pending) begun.written broken));
           }

@@ -1,7 +1,9 @@
 pub mod RunLemmas
+pub mod CountLemmas
 pub mod TakeLemmas
 pub mod ScriptLemmas
 pub mod AtLemmas
+pub mod AnswerLemmas
 pub mod EndLemmas
 pub mod EndsLemmas
 pub mod WithinLemmas

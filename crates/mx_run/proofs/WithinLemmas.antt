@@ -3,6 +3,7 @@ use Rattle.std.proofs.Common.{◌≡◌, ℕ, ◌≤◌, List, [], ◌∷◌, �
 use Rattle.std.specs.List.{AllByRecursion}
 use Rattle.std.specs.Io.KnownBytes.{prepend_known}
 use Rattle.mx_script.specs.Script.{Lines, split_lines}
+use Rattle.mx_outside.specs.Files.{FileMap}
 use Rattle.mx_run.specs.Transcript.{IsWithin, IsCut}
 use Rattle.mx_run.proofs.ScriptLemmas.{glued, glued_rest, split_lines-append}
 
@@ -31,9 +32,9 @@ within_front a b within =
     }
 
 -- no run over a script within the limits passes one
-pub no_cut : (script read written : List ℕ) (left : Option (List ℕ)) → IsWithin script → Some script ≡ prepend_known read left → IsCut read written → ⊥
-no_cut script read written None within is cut = cc
-no_cut script read written (Some rest) within is cut =
+pub no_cut : (first : Option FileMap) (script read written : List ℕ) (left : Option (List ℕ)) → IsWithin script → Some script ≡ prepend_known read left → IsCut first read written → ⊥
+no_cut first script read written None within is cut = cc
+no_cut first script read written (Some rest) within is cut =
     let whole : script ≡ read ++ rest = cc in
     let split : script ≡ (cut.before ++ cut.byte ∷ []) ++ (cut.after ++ rest) =
     whole ∙ ap (λ (l : List ℕ). l ++ rest) cut.is ∙ append_assoc cut.before (cut.byte ∷ cut.after) rest ∙ sym (append_assoc cut.before (cut.byte ∷ []) (cut.after ++ rest)) in

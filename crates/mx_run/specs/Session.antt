@@ -1,10 +1,10 @@
 -- What is kept of the bytes read so far.
 use Rattle.std.specs.Prelude.{◌≡◌, ℕ, Option, Result, Ok, Err, List}
 use Rattle.std.specs.Option.{option_map}
-use Rattle.mx_outside.specs.declared.sink.WriteFailure.{WriteFailure}
 use Rattle.mx_script.specs.Script.{Command, Taken}
-use Rattle.mx_state.specs.State.{State}
-use Rattle.mx_run.specs.Transcript.{Runs, Begins}
+use Rattle.mx_commands.specs.Step.{RunState}
+use Rattle.mx_run.specs.Transcript.{Runs, Breaks}
+use Rattle.mx_run.specs.declared.stop.Stop.{Stop}
 use Rattle.mx_run.specs.declared.take.Pending.{Pending}
 
 abbrev pub command_of : Pending → Command
@@ -14,11 +14,11 @@ abbrev pub pending_of : Option Pending → Option Command
 pending_of p = option_map command_of p
 
 -- commands are answered one after another, or broken off
-abbrev pub Answers : State → List Command → Result (Unit {0}) WriteFailure → State → List ℕ → Type 0
+abbrev pub Answers : RunState → List Command → Result (Unit {0}) Stop → RunState → List ℕ → Type 0
 Answers state cs (Ok u) new block = Runs state cs block new
-Answers state cs (Err e) new block = Begins state cs block
+Answers state cs (Err stop) new block = Breaks stop state cs block
 
 -- a line's complete commands are answered, and the one that may go on is kept
-abbrev pub TakesLine : State → Taken → Result (Option Pending) WriteFailure → State → List ℕ → Type 0
+abbrev pub TakesLine : RunState → Taken → Result (Option Pending) Stop → RunState → List ℕ → Type 0
 TakesLine state t (Ok p) new block = (pending_of p ≡ t.pending) × Runs state t.done block new
-TakesLine state t (Err e) new block = Begins state t.done block
+TakesLine state t (Err stop) new block = Breaks stop state t.done block

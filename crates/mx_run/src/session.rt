@@ -1,15 +1,16 @@
 //! A script as it is read: each command is answered as soon as it is complete.
-ghost use Rattle.std.specs.Prelude.{◌≡◌, ◌≤◌, ◌++◌, ◌∷◌, [], ℕ, List, IsErrOf, IfOk, OnOk};
-ghost use Rattle.mx_outside.specs.Outside.{Rose};
+ghost use Rattle.std.specs.Prelude.{◌≡◌, ◌≤◌, ◌++◌, ◌∷◌, [], ℕ, List, Option, IfOk, IfErr};
+ghost use Rattle.mx_outside.specs.Files.{FileMap};
+ghost use Rattle.mx_run.specs.Counts.{AreAfter, counts, CanStopInside};
 ghost use Rattle.mx_script.specs.Script.{HasNoLf};
 ghost use Rattle.mx_run.specs.Transcript.{Wrote};
 
-use crate::answer::Interpreter;
 use crate::line::line_end;
-use crate::stop::{Stop, stop_of};
+use crate::stop::Stop;
 use crate::take::{Pending, finish_commands, take_line};
+use mx_commands::Interpreter;
 use mx_frames::steps::Steps;
-use mx_outside::{Sink, WriteFailure};
+use mx_outside::{Files, Sink};
 use std::alloc::{AllocError, Global};
 use std::sync::ledger::Ledger;
 
@@ -23,7 +24,6 @@ pub const MAX_SCRIPT: usize = 16_777_216;
 /// engine.
 #[derive(Drop)]
 pub struct Session {
-    pub alloc: Global,
     pub line: Vec<u8>,
     pub lines: u64,
     pub size: usize,
@@ -38,10 +38,9 @@ impl Session {
 
     /// A session that has read nothing.
     pub fn new(alloc: Global) -> Result<Session, AllocError>
-        ensures { IfOk result (λ s. At s [] []) }
+        ensures { IfOk result (λ s. (first : Option FileMap) → At first first s [] []) }
     {
         Ok(Session {
-            alloc,
             line: Vec::new(alloc),
             lines: 0,
             size: 0,
@@ -52,9 +51,10 @@ impl Session {
 
     /// Takes bytes of the open line.
     fn lengthen(&mut self, bytes: &[u8]) -> Result<(), Stop>
-        ensures output { (read : List ℕ) (written : List ℕ) → HasNoLf bytes.now →
-            At self.old read written → GoesOn self.new result (read ++ bytes.now) written }
-        ensures stop { IsErrOf result Stop.WriteFault → ⊥ }
+        ensures output { (first : Option FileMap) (now : Option FileMap) (read : List ℕ)
+            (written : List ℕ) → HasNoLf bytes.now → At first now self.old read written →
+            GoesOn first now self.new result (read ++ bytes.now) written }
+        ensures stop { IfErr result CanStopInside }
     {
         let count = bytes.len();
         let room = MAX_LINE
@@ -71,31 +71,32 @@ impl Session {
     }
 
     /// Takes the LF that ends the open line.
-    fn end_line<K: Sink, L: Ledger>(
+    fn end_line<F: Files, K: Sink, L: Ledger>(
         &mut self,
         steps: &mut Steps<L>,
+        files: &mut F,
         out: &mut K,
     ) -> Result<(), Stop>
-        ensures output { (read : List ℕ) (written : List ℕ) → At self.old read written →
-            Wrote (K.taken out.old) (K.taken out.new)
-            (λ block. GoesOn self.new result (read ++ 10 ∷ []) (written ++ block)) }
-        ensures kept { OnOk result (K.faults out.new ≡ K.faults out.old) }
-        ensures later { K.faults out.old ≤ K.faults out.new }
-        ensures failed { IsErrOf result Stop.WriteFault →
-            Rose (K.faults out.old) (K.faults out.new) }
-        ensures limit { IsErrOf result Stop.OverLimit → K.faults out.new ≡ K.faults out.old }
+        ensures output { (first : Option FileMap) (read : List ℕ) (written : List ℕ) →
+            At first (F.held files.old) self.old read written →
+            Wrote (K.taken out.old) (K.taken out.new) (λ block. GoesOn first (F.held files.new)
+            self.new result (read ++ 10 ∷ []) (written ++ block)) }
+        ensures held { F.held files.new ≡ F.held files.old }
+        ensures counted { AreAfter result
+            (counts (K.faults out.old) (F.read_faults files.old) (F.write_faults files.old))
+            (counts (K.faults out.new) (F.read_faults files.new) (F.write_faults files.new)) }
     {
         if self.size >= MAX_SCRIPT {
             return Err(Stop::OverLimit);
         }
         let pending = self.pending.take();
         match take_line(
-            self.alloc,
             &mut self.interpreter,
             pending,
             self.lines + 1,
             &self.line,
             steps,
+            files,
             out,
         ) {
             Ok(pending) => {
@@ -105,32 +106,33 @@ impl Session {
                 self.lines += 1;
                 return Ok(());
             }
-            Err(failure) => return Err(stop_of(failure)),
+            Err(stop) => return Err(stop),
         }
     }
 
     /// Takes the next bytes of the script.
-    pub fn feed<K: Sink, L: Ledger>(
+    pub fn feed<F: Files, K: Sink, L: Ledger>(
         &mut self,
         piece: &[u8],
         steps: &mut Steps<L>,
+        files: &mut F,
         out: &mut K,
     ) -> Result<(), Stop>
-        ensures output { (read : List ℕ) (written : List ℕ) → At self.old read written →
-            Wrote (K.taken out.old) (K.taken out.new)
-            (λ block. GoesOn self.new result (read ++ piece.now) (written ++ block)) }
-        ensures kept { OnOk result (K.faults out.new ≡ K.faults out.old) }
-        ensures later { K.faults out.old ≤ K.faults out.new }
-        ensures failed { IsErrOf result Stop.WriteFault →
-            Rose (K.faults out.old) (K.faults out.new) }
-        ensures limit { IsErrOf result Stop.OverLimit → K.faults out.new ≡ K.faults out.old }
+        ensures output { (first : Option FileMap) (read : List ℕ) (written : List ℕ) →
+            At first (F.held files.old) self.old read written →
+            Wrote (K.taken out.old) (K.taken out.new) (λ block. GoesOn first (F.held files.new)
+            self.new result (read ++ piece.now) (written ++ block)) }
+        ensures held { F.held files.new ≡ F.held files.old }
+        ensures counted { AreAfter result
+            (counts (K.faults out.old) (F.read_faults files.old) (F.write_faults files.old))
+            (counts (K.faults out.new) (F.read_faults files.new) (F.write_faults files.new)) }
     {
         let mut rest = piece;
         'lines: while let Some(end) = line_end(rest) {
             if let Err(stop) = self.lengthen(&rest[..end]) {
                 return Err(stop);
             }
-            if let Err(stop) = self.end_line(steps, out) {
+            if let Err(stop) = self.end_line(steps, files, out) {
                 return Err(stop);
             }
             rest = &rest[end + 1..];
@@ -139,34 +141,42 @@ impl Session {
     }
 
     /// Answers what is left at the script's end.
-    pub fn finish<K: Sink, L: Ledger>(
+    pub fn finish<F: Files, K: Sink, L: Ledger>(
         &mut self,
         steps: &mut Steps<L>,
+        files: &mut F,
         out: &mut K,
-    ) -> Result<(), WriteFailure>
-        ensures output { (read : List ℕ) (written : List ℕ) → At self.old read written →
-            Wrote (K.taken out.old) (K.taken out.new)
-            (λ block. Finishes result read (written ++ block)) }
-        ensures kept { OnOk result (K.faults out.new ≡ K.faults out.old) }
-        ensures later { K.faults out.old ≤ K.faults out.new }
-        ensures failed { IsErrOf result WriteFailure.Failed →
-            Rose (K.faults out.old) (K.faults out.new) }
+    ) -> Result<(), Stop>
+        ensures output { (first : Option FileMap) (read : List ℕ) (written : List ℕ) →
+            At first (F.held files.old) self.old read written →
+            Wrote (K.taken out.old) (K.taken out.new) (λ block. Finishes first (F.held files.new)
+            result read (written ++ block)) }
+        ensures held { F.held files.new ≡ F.held files.old }
+        ensures counted { AreAfter result
+            (counts (K.faults out.old) (F.read_faults files.old) (F.write_faults files.old))
+            (counts (K.faults out.new) (F.read_faults files.new) (F.write_faults files.new)) }
     {
         let pending = self.pending.take();
         if self.line.is_empty() {
-            return finish_commands(&mut self.interpreter, pending, steps, out);
+            return finish_commands(&mut self.interpreter, pending, steps, files, out);
         }
         match take_line(
-            self.alloc,
             &mut self.interpreter,
             pending,
             self.lines + 1,
             &self.line,
             steps,
+            files,
             out,
         ) {
-            Ok(pending) => return finish_commands(&mut self.interpreter, pending, steps, out),
-            Err(failure) => return Err(failure),
+            Ok(pending) => return finish_commands(
+                &mut self.interpreter,
+                pending,
+                steps,
+                files,
+                out,
+            ),
+            Err(stop) => return Err(stop),
         }
     }
 }

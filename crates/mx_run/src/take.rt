@@ -1,20 +1,22 @@
 //! One line after another, and the commands that they complete.
-ghost use Rattle.std.specs.Prelude.{◌≡◌, ◌≤◌, ◌++◌, ◌∷◌, ℕ, IsErrOf, IfOk, OnOk};
+ghost use Rattle.std.specs.Prelude.{◌≡◌, ◌++◌, ◌∷◌, IfOk};
 ghost use Rattle.std.specs.Option.{option_to_list};
-ghost use Rattle.mx_outside.specs.Outside.{Rose};
 ghost use Rattle.mx_run.specs.Script.{started, taken};
 ghost use Rattle.mx_script.specs.Script.{without_cr};
-ghost use Rattle.mx_state.specs.State.{State};
+ghost use Rattle.mx_commands.specs.Step.{run_state};
+ghost use Rattle.mx_run.specs.Counts.{AreAfter, counts};
 ghost use Rattle.mx_run.specs.Transcript.{Wrote};
 ghost use Rattle.mx_run.specs.Session.{Answers, TakesLine, pending_of, command_of};
 
-use crate::answer::Interpreter;
+use crate::answer::answer;
 use crate::line::{blank, continues, strip_cr};
+use crate::stop::Stop;
+use mx_commands::Interpreter;
 use mx_frames::steps::Steps;
-use mx_outside::{Sink, WriteFailure};
+use mx_outside::{Files, Sink};
 use mx_words::table::{WORDS, takes_lines};
 use mx_words::text::strip_spaces;
-use std::alloc::{AllocError, Global};
+use std::alloc::AllocError;
 use std::sync::ledger::Ledger;
 
 /// A command that may go on in the next line.
@@ -37,33 +39,34 @@ fn continued(command: Pending, line: &[u8]) -> Result<Pending, AllocError>
 }
 
 /// Takes a line that goes on with nothing before it.
-fn start_line<K: Sink, L: Ledger>(
-    alloc: Global,
+fn start_line<F: Files, K: Sink, L: Ledger>(
     interpreter: &mut Interpreter,
     number: u64,
     line: &[u8],
     steps: &mut Steps<L>,
+    files: &mut F,
     out: &mut K,
-) -> Result<Option<Pending>, WriteFailure>
+) -> Result<Option<Pending>, Stop>
     ensures output { let next = started number line.now in
         Wrote (K.taken out.old) (K.taken out.new)
-        (TakesLine interpreter.old.engine next result interpreter.new.engine) }
-    ensures kept { OnOk result (K.faults out.new ≡ K.faults out.old) }
-    ensures later { K.faults out.old ≤ K.faults out.new }
-    ensures failed { IsErrOf result WriteFailure.Failed →
-        Rose (K.faults out.old) (K.faults out.new) }
+        (TakesLine (run_state interpreter.old.engine (F.held files.old)) next result
+        (run_state interpreter.new.engine (F.held files.new))) }
+    ensures held { F.held files.new ≡ F.held files.old }
+    ensures counted { AreAfter result
+        (counts (K.faults out.old) (F.read_faults files.old) (F.write_faults files.old))
+        (counts (K.faults out.new) (F.read_faults files.new) (F.write_faults files.new)) }
 {
     let text = strip_spaces(line);
     if blank(text) {
         return Ok(None);
     }
     if takes_lines(&WORDS, text) {
-        let Ok(text) = Vec::from_slice(alloc, line) else {
-            return Err(WriteFailure::NoMemory);
+        let Ok(text) = Vec::from_slice(interpreter.alloc, line) else {
+            return Err(Stop::NoMemory);
         };
         return Ok(Some(Pending { number, text }));
     }
-    match interpreter.answer(number, line, steps, out) {
+    match answer(interpreter, number, line, steps, files, out) {
         Ok(()) => return Ok(None),
         Err(failure) => return Err(failure),
     }
@@ -71,58 +74,75 @@ fn start_line<K: Sink, L: Ledger>(
 
 /// Takes a whole line, with the command before it that may go on: answers the commands that it
 /// completes, and gives the one that may go on after it.
-pub fn take_line<K: Sink, L: Ledger>(
-    alloc: Global,
+pub fn take_line<F: Files, K: Sink, L: Ledger>(
     interpreter: &mut Interpreter,
     pending: Option<Pending>,
     number: u64,
     line: &[u8],
     steps: &mut Steps<L>,
+    files: &mut F,
     out: &mut K,
-) -> Result<Option<Pending>, WriteFailure>
+) -> Result<Option<Pending>, Stop>
     ensures output { let next = taken number (pending_of pending) line.now in
         Wrote (K.taken out.old) (K.taken out.new)
-        (TakesLine interpreter.old.engine next result interpreter.new.engine) }
-    ensures kept { OnOk result (K.faults out.new ≡ K.faults out.old) }
-    ensures later { K.faults out.old ≤ K.faults out.new }
-    ensures failed { IsErrOf result WriteFailure.Failed →
-        Rose (K.faults out.old) (K.faults out.new) }
+        (TakesLine (run_state interpreter.old.engine (F.held files.old)) next result
+        (run_state interpreter.new.engine (F.held files.new))) }
+    ensures held { F.held files.new ≡ F.held files.old }
+    ensures counted { AreAfter result
+        (counts (K.faults out.old) (F.read_faults files.old) (F.write_faults files.old))
+        (counts (K.faults out.new) (F.read_faults files.new) (F.write_faults files.new)) }
 {
     let line = strip_cr(line);
     let Some(command) = pending else {
-        return start_line(alloc, interpreter, number, line, steps, out);
+        return start_line(interpreter, number, line, steps, files, out);
     };
     if continues(line) {
         let Ok(command) = continued(command, line) else {
-            return Err(WriteFailure::NoMemory);
+            return Err(Stop::NoMemory);
         };
         return Ok(Some(command));
     }
-    match interpreter.answer(command.number, &command.text, steps, out) {
-        Ok(()) => return start_line(alloc, interpreter, number, line, steps, out),
+    match answer(
+        interpreter,
+        command.number,
+        &command.text,
+        steps,
+        files,
+        out,
+    ) {
+        Ok(()) => return start_line(interpreter, number, line, steps, files, out),
         Err(failure) => return Err(failure),
     }
 }
 
 /// Answers the command that could have gone on.
-pub fn finish_commands<K: Sink, L: Ledger>(
+pub fn finish_commands<F: Files, K: Sink, L: Ledger>(
     interpreter: &mut Interpreter,
     pending: Option<Pending>,
     steps: &mut Steps<L>,
+    files: &mut F,
     out: &mut K,
-) -> Result<(), WriteFailure>
+) -> Result<(), Stop>
     ensures output { let last = option_to_list (pending_of pending) in
         Wrote (K.taken out.old) (K.taken out.new)
-        (Answers interpreter.old.engine last result interpreter.new.engine) }
-    ensures kept { OnOk result (K.faults out.new ≡ K.faults out.old) }
-    ensures later { K.faults out.old ≤ K.faults out.new }
-    ensures failed { IsErrOf result WriteFailure.Failed →
-        Rose (K.faults out.old) (K.faults out.new) }
+        (Answers (run_state interpreter.old.engine (F.held files.old)) last result
+        (run_state interpreter.new.engine (F.held files.new))) }
+    ensures held { F.held files.new ≡ F.held files.old }
+    ensures counted { AreAfter result
+        (counts (K.faults out.old) (F.read_faults files.old) (F.write_faults files.old))
+        (counts (K.faults out.new) (F.read_faults files.new) (F.write_faults files.new)) }
 {
     let Some(command) = pending else {
         return Ok(());
     };
-    match interpreter.answer(command.number, &command.text, steps, out) {
+    match answer(
+        interpreter,
+        command.number,
+        &command.text,
+        steps,
+        files,
+        out,
+    ) {
         Ok(()) => return Ok(()),
         Err(failure) => return Err(failure),
     }

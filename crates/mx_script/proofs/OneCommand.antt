@@ -1,5 +1,5 @@
 -- There is one answer for the text of a command.
-use Rattle.std.proofs.Common.{◌≡◌, ◌≢◌, ℕ, ◌+◌, List, Option, Some, None, Bool, true, false, codes, take, Result, Ok, Err, sym, ◌∙◌}
+use Rattle.std.proofs.Common.{◌≡◌, ◌≢◌, ℕ, ◌+◌, List, Option, Some, None, Bool, true, false, codes, take, Result, Ok, Err, sym, ap, subst, ◌∙◌}
 use Rattle.mx_value.specs.declared.node.Node.{Node}
 use Rattle.mx_value.specs.declared.node.Node.TheVariants.{Cell, Item}
 use Rattle.mx_grammar.specs.declared.refusal.ParseRefusal.{ParseRefusal}
@@ -13,6 +13,8 @@ use Rattle.mx_grammar.proofs.Languages.{nodes, literals}
 use Rattle.mx_parse.specs.Formulas.{formula_text, params_text}
 use Rattle.mx_parse.specs.FormulaLimits.{formula_limits, params_limits}
 use Rattle.mx_parse.proofs.Languages.{formulas, space_parameters}
+use Rattle.mx_outside.specs.Names.{IsFileName}
+use Rattle.mx_words.specs.declared.command.FormRefusal.{FormRefusal}
 use Rattle.mx_words.specs.declared.command.FormRefusal.TheVariants.{NoMemory}
 use Rattle.mx_words.specs.declared.table.CommandWord.{CommandWord}
 use Rattle.mx_words.specs.declared.table.Form.{Form}
@@ -36,9 +38,10 @@ use Rattle.mx_words.specs.Words.{rest_of, word_of}
 use Rattle.mx_words.specs.Phrases.{phrase_text, address_text}
 use Rattle.mx_words.specs.PhraseParsers.{phrase_by, address_by}
 use Rattle.mx_words.specs.Parts.{Answer, Sequel, Onward, Decides}
-use Rattle.mx_script.specs.Commands.{opens, form_of, HeadAnswers, ref_value, reference_of, referred, RefHead, RefersBy, newline_of, AddressAnswers, cells_at, cleared_of, clearing_of, ClearsBy, defined, Defines, parametrized, Parametrizes, asked_of, Asks, argument_of, place_behind, input_node, input_literal, has_literal, input_of, Sets, Inputs, ReadsRest, ReadsBy, ReadsAs, Unless}
+use Rattle.mx_script.specs.Commands.{opens, form_of, HeadAnswers, ref_value, reference_of, referred, RefHead, RefersBy, newline_of, AddressAnswers, cells_at, cleared_of, clearing_of, ClearsBy, defined, Defines, parametrized, Parametrizes, asked_of, Asks, argument_of, place_behind, input_node, input_literal, has_literal, input_of, Sets, Inputs, FileAnswers, behind_name, TableHead, file_of, from_file, FromFile, ReadsTable, ReadsRest, ReadsBy, ReadsAs, Unless}
 use Rattle.mx_words.proofs.HeadRules.{by_form}
 use Rattle.mx_words.proofs.PhraseRules.{phrases, addresses}
+use Rattle.mx_words.proofs.PartAnswers.{failed}
 use Rattle.mx_words.proofs.OnePart.{Unique, one_part, one_sequel, one_onward, one_decides}
 
 one_asking : (a : Asked) (start : ℕ) (source : List ℕ) → Unique (Asks a start source)
@@ -53,6 +56,15 @@ one_set start source false (Ok (Item space args)) r s p q = p ∙ sym q
 
 one_input : (start : ℕ) (source : List ℕ) → Unique (Inputs start source)
 one_input start source = one_sequel (Answers node_text (input_node source)) (Sets start source (has_literal source)) (one_answer node_text _ nodes (input_node source)) (one_set start source (has_literal source))
+
+abbrev named : List ℕ → Result (List ℕ) FormRefusal
+named n = Ok n
+
+one_file : (start : ℕ) (source : List ℕ) → Unique (FileAnswers start source)
+one_file start source (Ok a) (Ok b) p q = ap named (p.1 ∙ sym q.1)
+one_file start source (Ok a) (Err e) p q = absurd (q.0 (subst IsFileName p.1 p.0))
+one_file start source (Err d) (Ok b) p q = absurd (p.0 (subst IsFileName q.1 q.0))
+one_file start source (Err d) (Err e) p q = ap failed (p.1 ∙ sym q.1)
 
 module _ (lead : ℕ) (text : List ℕ) where
   one_head : Unique (HeadAnswers lead text)
@@ -80,6 +92,10 @@ module _ (lead : ℕ) (text : List ℕ) where
       let Next : List Segment → Answer → Type 0 = λ a answer. answer ≡ done a in
       one_sequel (AddressAnswers name lead text) (Onward Next) (one_part (address_text name) (λ n. line (worded (address_by name n))) (addresses name) true lead text) (one_onward Next (λ a r s p q. p ∙ sym q))
 
+  one_table : Unique (ReadsTable lead text)
+  one_table = one_sequel (TableHead lead text) (Onward (FromFile lead text)) (one_part (head_text head.Name) (λ m. line (head_by head.Name)) (by_form head.Name) false lead (take (place_behind text (behind_name text)) text))
+      (one_onward (FromFile lead text) (λ t. one_decides (FileAnswers (lead + place_behind text (file_of text)) (file_of text)) (from_file t) (one_file (lead + place_behind text (file_of text)) (file_of text))))
+
   one_clearing : (c : Clearing) → Unique (ClearsBy c lead text)
   one_clearing clearing.All = one_part (phrase_text phrase.ClearAll) (λ n. line (worded (phrase_by phrase.ClearAll n))) (phrases phrase.ClearAll) false lead text
   one_clearing clearing.Space = one_address (codes "space") (λ a. Ok (command.Clear (scope.Space a)))
@@ -92,6 +108,7 @@ module _ (lead : ℕ) (text : List ℕ) where
   one_rest (form.Phrase p) = one_part (phrase_text p) (λ n. line (worded (phrase_by p n))) (phrases p) false lead text
   one_rest (form.Node a) = one_asking a (lead + place_behind text (argument_of text)) (argument_of text)
   one_rest form.Input = one_input (lead + place_behind text (argument_of text)) (argument_of text)
+  one_rest form.Table = one_table
   one_rest form.Clear = one_clearing (clearing_of (first_name (argument_of text)))
   one_rest (form.Reference o) = one_reference o (reference_of (first_name (ref_value text)))
 

@@ -1,5 +1,5 @@
 -- What the code takes out of a command's text is what its answer speaks of.
-use Rattle.std.proofs.Common.{◌≡◌, ℕ, zero, suc, ◌<◌, ◌+◌, ◌-◌, Bool, true, false, List, [], ◌∷◌, length, take, drop, Some, None, Ok, Err, refl, sym, ap, subst, ◌∙◌, slice_get, arith}
+use Rattle.std.proofs.Common.{◌≡◌, ℕ, zero, suc, ◌<◌, ◌+◌, ◌-◌, Bool, true, false, List, [], ◌∷◌, length, take, drop, Some, None, Result, Ok, Err, refl, sym, ap, subst, ◌∙◌, slice_get, arith}
 use Rattle.std.proofs.lemmas.List.{take_rest}
 use Rattle.std.proofs.lemmas.Option.{slice_get_within, slice_get-get_or}
 use Rattle.mx_value.specs.declared.value.Value.{Value}
@@ -11,7 +11,8 @@ use Rattle.mx_grammar.specs.Literals.{node_text, literal_text}
 use Rattle.mx_words.specs.declared.command.FormRefusal.TheVariants.{BadForm}
 use Rattle.mx_words.specs.Texts.{behind_spaces, name_length, first_name, behind_equals}
 use Rattle.mx_words.specs.Parts.{Answer, Decides}
-use Rattle.mx_script.specs.Commands.{ref_value, has_literal, input_literal, input_of, input_node, Inputs, behind_node, Sets, cells_by, cells_at}
+use Rattle.mx_words.specs.declared.command.FormRefusal.{FormRefusal}
+use Rattle.mx_script.specs.Commands.{FileAnswers, file_of, place_behind, ref_value, has_literal, input_literal, input_of, input_node, Inputs, behind_node, Sets, cells_by, cells_at}
 
 -- the rest of a text behind so many bytes
 pub behind_all : (text : List ℕ) (m n : ℕ) → m ≡ n → (rest : List ℕ) → rest ≡ behind_spaces (take (length text - m) (drop m text)) → rest ≡ behind_spaces (drop n text)
@@ -74,3 +75,10 @@ no_last place (s ∷ a) n e g =
 
 pub ref_word : (text : List ℕ) (n : ℕ) → n ≡ behind_equals text → (value : List ℕ) → value ≡ behind_spaces (take (length text - n) (drop n text)) → (w : ℕ) → w ≡ name_length value → take w value ≡ first_name (ref_value text)
 ref_word text n e value v w h = begins_named value (ref_value text) w (behind_all text n (behind_equals text) e value v) h
+
+-- ---- files
+
+-- the answer for what stands behind the spaces, at its place
+pub file_at : (lead : ℕ) (text source : List ℕ) → source ≡ file_of text → (start : ℕ) → start ≡ lead + place_behind text source → (r : Result (List ℕ) FormRefusal) → FileAnswers start source r → FileAnswers (lead + place_behind text (file_of text)) (file_of text) r
+file_at lead text source same start at r h =
+    subst (λ (s : List ℕ). FileAnswers (lead + place_behind text s) s r) same (subst (λ (n : ℕ). FileAnswers n source r) at h)

@@ -7,6 +7,7 @@ use Rattle.mx_value.specs.declared.value.Value.{Value}
 use Rattle.mx_value.specs.declared.value.Segment.{Segment}
 use Rattle.mx_value.specs.declared.value.Segment.TheVariants.{Name}
 use Rattle.mx_edit.specs.declared.scope.Scope.TheVariants as scope
+use Rattle.mx_outside.specs.Names.{IsFileName}
 use Rattle.mx_value.specs.declared.node.Node.{Node}
 use Rattle.mx_value.specs.declared.node.Node.TheVariants.{Cell, Item}
 use Rattle.mx_syntax.specs.declared.stmt.Formula.{Formula}
@@ -216,6 +217,36 @@ ClearsBy clearing.Node lead text = Asks asked.Clear (lead + place_behind text (c
 abbrev pub Clears : ℕ → List ℕ → Answer → Type 0
 Clears lead text = ClearsBy (clearing_of (first_name (argument_of text))) lead text
 
+-- ---- tables from files
+
+-- The answer for the rest of a line, which begins at this place: without the spaces at its end it has to be the name of a file.
+abbrev pub FileAnswers : ℕ → List ℕ → Result (List ℕ) FormRefusal → Type 0
+FileAnswers start source (Ok name) = IsFileName name × (name ≡ before_spaces source)
+FileAnswers start source (Err e) = (IsFileName (before_spaces source) → ⊥) × (e ≡ BadForm start)
+
+-- what stands behind the name that follows the word, of which it need not be apart
+abbrev pub behind_name : List ℕ → List ℕ
+behind_name text = drop (name_length (argument_of text)) (argument_of text)
+
+-- the answer for the head, which is the word and that name
+abbrev pub TableHead : ℕ → List ℕ → Result Target FormRefusal → Type 0
+TableHead lead text r = PartAnswers (head_text head.Name) false lead (take (place_behind text (behind_name text)) text) r
+
+-- the name of the file
+abbrev pub file_of : List ℕ → List ℕ
+file_of text = behind_spaces (behind_name text)
+
+abbrev pub from_file : Target → Result (List ℕ) FormRefusal → Answer
+from_file t (Err e) = Err e
+from_file t (Ok file) = Ok (command.Table t.name file)
+
+abbrev pub FromFile : ℕ → List ℕ → Target → Answer → Type 0
+FromFile lead text t = Decides (FileAnswers (lead + place_behind text (file_of text)) (file_of text)) (from_file t)
+
+-- the head, and then the name of a file
+abbrev pub ReadsTable : ℕ → List ℕ → Answer → Type 0
+ReadsTable lead text = Sequel (TableHead lead text) (Onward (FromFile lead text))
+
 -- ---- commands
 
 abbrev pub ReadsRest : Form → ℕ → List ℕ → Answer → Type 0
@@ -224,6 +255,7 @@ ReadsRest form.Params lead text answer = Parametrizes lead text answer
 ReadsRest (form.Phrase p) lead text answer = PartAnswers (phrase_text p) false lead text answer
 ReadsRest (form.Node a) lead text answer = Asks a (lead + place_behind text (argument_of text)) (argument_of text) answer
 ReadsRest form.Input lead text answer = Inputs (lead + place_behind text (argument_of text)) (argument_of text) answer
+ReadsRest form.Table lead text answer = ReadsTable lead text answer
 ReadsRest form.Clear lead text answer = Clears lead text answer
 ReadsRest (form.Reference o) lead text answer = Refers o lead text answer
 

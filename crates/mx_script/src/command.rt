@@ -17,6 +17,8 @@ ghost use Rattle.mx_words.specs.Phrases.{phrase_text};
 ghost use Rattle.mx_script.specs.Commands as spec;
 ghost use Rattle.mx_script.specs.Commands.{AddressAnswers, ClearsBy, Clears, HeadAnswers, Defines, Parametrizes, Asks, Inputs, RefersBy, Refers, ReadsAs, Unless};
 
+use crate::argument::{argument, start_of};
+use crate::table::table;
 use mx_edit::edit::Edit;
 use mx_edit::reference::RefValue;
 use mx_edit::scope::Scope;
@@ -324,25 +326,6 @@ fn input(alloc: Global, start: usize, source: &[u8]) -> Result<Command, FormRefu
     }
 }
 
-/// What stands behind a command's word.
-fn argument(text: &[u8]) -> &[u8]
-    ensures { result.now ≡ spec.argument_of text.now }
-{
-    let end = word_length(text);
-    strip_spaces(&text[end..])
-}
-
-/// Where a text begins in a command that ends with it and has so many spaces in front.
-fn start_of(lead: usize, text: &[u8], source: &[u8]) -> Result<usize, AllocError>
-    ensures { IfOk result (λ start. start ≡ lead + spec.place_behind text.now source.now) }
-{
-    let place = text.len().saturating_sub(source.len());
-    match lead.checked_add(place) {
-        Some(start) => Ok(start),
-        None => Err(AllocError),
-    }
-}
-
 /// What a value refers to, by the word that it begins with.
 fn reference_of(word: &[u8]) -> Option<Reference>
     ensures { result ≡ spec.reference_of word.now }
@@ -575,6 +558,7 @@ fn rest(alloc: Global, form: Form, lead: usize, text: &[u8]) -> Result<Command, 
             };
             input(alloc, start, source)
         }
+        Form::Table => table(alloc, lead, text),
         Form::Clear => clear(alloc, lead, text),
         Form::Reference(owner) => refers(alloc, owner, lead, text),
     }

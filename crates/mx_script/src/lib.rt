@@ -3,8 +3,10 @@
 //! Room: engine and scripts.
 #![tactic(auto)]
 
+mod argument;
 mod command;
 pub mod laws;
+mod table;
 
 pub use command::read_command;
 pub use mx_words::command::{Command, FormRefusal};

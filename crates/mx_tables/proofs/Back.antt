@@ -186,15 +186,15 @@ header_two names h = leb-true 2 (length names) (and_parts (nat_le 2 (length name
 said_whole : (t : TableRows) → IsHeld t → IsSound t → table_said (table_records t) ≡ Ok t
 said_whole t h s =
     let narrow = s.narrow in
-    let count = records_even t.keys t.rows h.even in
+    let count = records_even t.keys t.rows h.table.even in
     let few = s.few in
     let names = h.names in
     let header = s.header in
     let width : length t.columns ≡ length t.columns - 1 + 1 = omega (arith, header_two t.columns s.header) in
-    let rows = ap (λ c. rows_said c 1 [] (row_records t.keys t.rows)) width ∙ rows_back t.keys t.rows (length t.columns - 1) 1 [] h.even h.keys h.rows s.rows in
+    let rows = ap (λ c. rows_said c 1 [] (row_records t.keys t.rows)) width ∙ rows_back t.keys t.rows (length t.columns - 1) 1 [] h.table.even h.keys h.rows s.rows in
     rw (narrow, count, few, names, header, rows) refl
 
 pub table_back : (t : TableRows) → IsHeld t → table_of (table_text t) ≡ Ok t
 table_back t h =
-    let s = is_sound t h.sound in
+    let s = is_sound t h.table.sound in
     ap table_said (reads_back (table_records t) (whole_text t.columns (row_records t.keys t.rows) h.names s.header (fields_there t.keys t.rows))) ∙ said_whole t h s

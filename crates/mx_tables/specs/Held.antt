@@ -1,9 +1,9 @@
 -- The tables that a program holds.
-use Rattle.std.specs.Prelude.{◌≡◌, ◌≤◌, ◌<◌, ◌^◌, ℤ, pos, negsuc, true, List, [], ◌∷◌, length, None, unsigned_abs}
+use Rattle.std.specs.Prelude.{◌≡◌, ◌≤◌, ◌<◌, ◌^◌, ℤ, pos, negsuc, true, List, [], ◌∷◌, unsigned_abs}
 use Rattle.mx_value.specs.declared.value.Value.{Value}
 use Rattle.mx_value.specs.declared.value.Value.TheVariants as made
 use Rattle.mx_edit.specs.Rows.{TableRows}
-use Rattle.mx_edit.specs.Table.{table_trouble}
+use Rattle.mx_edit.specs.Table.{IsTable}
 use Rattle.mx_tables.specs.Reading.{are_printable}
 
 -- from -2^63 to 2^63 - 1
@@ -29,10 +29,10 @@ abbrev pub RowsWithin : List (List Value) → Type 0
 RowsWithin [] = Unit {0}
 RowsWithin (row ∷ rows) = AreWithin row × RowsWithin rows
 
--- names are printable, keys and numbers within their types, and the rows make a table
+-- names are printable, keys and numbers within their types, and the rows make a table: this is so of every `Table`, the
+-- last by what it keeps
 pub record IsHeld (t : TableRows) : Type 0 where
   pub names : are_printable t.columns ≡ true
   pub keys : AreInts t.keys
   pub rows : RowsWithin t.rows
-  pub even : length t.keys ≡ length t.rows
-  pub sound : table_trouble t ≡ None
+  pub table : IsTable t

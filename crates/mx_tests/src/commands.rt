@@ -145,6 +145,63 @@ const INPUTS: [(&[u8], &str); 20] = [
     (b"input S[1]", "bad form at 10"),
 ];
 
+/// Tables from files: a name, and the name of a file, which is no tokens. How long the name of a table may be is tested with the edit.
+const TABLES: [(&[u8], &str); 41] = [
+    (b"table t t.csv", "table t from t.csv"),
+    (b"  table   t   t.csv  ", "table t from t.csv"),
+    (b"table t a/b-1/c_2.CSV", "table t from a/b-1/c_2.CSV"),
+    (b"table t t", "table t from t"),
+    (b"table table table", "table table from table"),
+    (b"table t ...", "table t from ..."),
+    (b"table _ t.csv", "table _ from t.csv"),
+    (b"table t.csv", "table t from .csv"),
+    (b"table t-u", "table t from -u"),
+    (
+        b"table tttttttttttttttttttttttttttttttttttttttttttttttttttttttttttttttt t.csv",
+        "table tttttttttttttttttttttttttttttttttttttttttttttttttttttttttttttttt from t.csv",
+    ),
+    (
+        b"table ttttttttttttttttttttttttttttttttttttttttttttttttttttttttttttttttt t.csv",
+        "table ttttttttttttttttttttttttttttttttttttttttttttttttttttttttttttttttt from t.csv",
+    ),
+    (
+        b"table t fffffffffffffffffffffffffffffffffffffffffffffffffffffffffffffff/fffffffffffffffffffffffffffffffffffffffffffffffffffffffffffffff/fffffffffffffffffffffffffffffffffffffffffffffffffffffffffffffff/fffffffffffffffffffffffffffffffffffffffffffffffffffffffffffffff",
+        "table t from fffffffffffffffffffffffffffffffffffffffffffffffffffffffffffffff/fffffffffffffffffffffffffffffffffffffffffffffffffffffffffffffff/fffffffffffffffffffffffffffffffffffffffffffffffffffffffffffffff/fffffffffffffffffffffffffffffffffffffffffffffffffffffffffffffff",
+    ),
+    (
+        b"table t fffffffffffffffffffffffffffffffffffffffffffffffffffffffffffffff/fffffffffffffffffffffffffffffffffffffffffffffffffffffffffffffff/fffffffffffffffffffffffffffffffffffffffffffffffffffffffffffffff/ffffffffffffffffffffffffffffffffffffffffffffffffffffffffffffffff",
+        "bad form at 8",
+    ),
+    (b"table", "bad form at 5"),
+    (b"table  ", "bad form at 7"),
+    (b"table t", "bad form at 7"),
+    (b" table t  ", "bad form at 10"),
+    (b"table t t.csv # note", "bad form at 8"),
+    (b"table t a b", "bad form at 8"),
+    (b"  table  t  ../t.csv", "bad form at 12"),
+    (b"table t .", "bad form at 8"),
+    (b"table t ./t.csv", "bad form at 8"),
+    (b"table t a/../b", "bad form at 8"),
+    (b"table t /t.csv", "bad form at 8"),
+    (b"table t a//b", "bad form at 8"),
+    (b"table t a/", "bad form at 8"),
+    (b"table t a\\b", "bad form at 8"),
+    (b"table t \"t.csv\"", "bad form at 8"),
+    (b"table t \xc3\xa9.csv", "bad form at 8"),
+    (b"table t[1] t.csv", "bad form at 7"),
+    (b"table A.t f", "bad form at 7"),
+    (b"table t\"x\"", "bad form at 7"),
+    (b"table t\tf", "bad form at 7"),
+    (b"table 5 t.csv", "bad form at 6"),
+    (b"table 't' $", "bad form at 6"),
+    (b"table if t.csv", "bad form at 6"),
+    (b"table \"t\" f", "bad form at 6"),
+    (b"table 1x f", "formula: bad number at 6"),
+    (b" table 07 t.csv", "formula: bad number at 7"),
+    (b"tables t t.csv", "unknown word"),
+    (b"table#t f", "unknown word"),
+];
+
 /// References of spaces and of the model, and bases.
 const REFERENCES: [(&[u8], &str); 40] = [
     (b"ref k = 3", "ref Main.k = 3"),
@@ -300,6 +357,11 @@ fn spaces_get_parameters(rt: HostRuntime) -> Result<(), Fail> {
 #[test]
 fn an_input_is_a_node_and_a_literal(rt: HostRuntime) -> Result<(), Fail> {
     compare(&rt, rt.alloc(), Reader::Command, &INPUTS)
+}
+
+#[test]
+fn a_table_is_a_name_and_a_file(rt: HostRuntime) -> Result<(), Fail> {
+    compare(&rt, rt.alloc(), Reader::Command, &TABLES)
 }
 
 #[test]

@@ -207,9 +207,17 @@ fn push_limit(out: &mut Vec<u8>, limit: u32) -> Result<(), AllocError> {
     push_number(out, u64::from(limit))
 }
 
+fn push_table(out: &mut Vec<u8>, name: &Label, file: &Label) -> Result<(), AllocError> {
+    push(out, b"table ")?;
+    push(out, name.as_slice())?;
+    push(out, b" from ")?;
+    push(out, file.as_slice())
+}
+
 fn push_command(alloc: Global, out: &mut Vec<u8>, command: &Command) -> Result<(), AllocError> {
     match command {
         Command::Edit(edit) => push_edit(alloc, out, edit),
+        Command::Table { name, file } => push_table(out, name, file),
         Command::Eval(node) => push_asked(out, b"eval ", node),
         Command::Precedents(node) => push_asked(out, b"precedents ", node),
         Command::Succs(node) => push_asked(out, b"succs ", node),

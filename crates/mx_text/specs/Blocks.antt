@@ -8,10 +8,13 @@ use Rattle.mx_value.specs.declared.value.Value.{Value}
 use Rattle.mx_value.specs.declared.refusal.EvalRefusal.{EvalRefusal}
 use Rattle.mx_syntax.specs.Lists.{flat}
 use Rattle.mx_edit.specs.declared.refusal.EditRefusal.{EditRefusal}
+use Rattle.mx_edit.specs.declared.table.TableRefusal.{TableRefusal}
 use Rattle.mx_print.specs.Texts.{Text, commas}
 use Rattle.mx_print.specs.Values.{value_text, node_text}
 use Rattle.mx_text.specs.Edit.{path_text, edit_refusal_text}
 use Rattle.mx_text.specs.Evaluation.{refusal_text}
+use Rattle.mx_text.specs.File.{missing_text, too_big_text}
+use Rattle.mx_text.specs.Table.{table_refusal_text}
 use Rattle.mx_text.specs.Reads.{read_text}
 
 abbrev pub node_line : Node → Text
@@ -60,6 +63,16 @@ refused_block why = codes "refused: " ++ (why ++ 10 ∷ [])
 abbrev pub edit_block : Result ℕ EditRefusal → Text
 edit_block (Ok dropped) = accepted_block
 edit_block (Err why) = refused_block (edit_refusal_text why)
+
+-- a file that is not read, and one that says no table
+abbrev pub missing_block : Label → Text
+missing_block name = refused_block (missing_text name)
+
+abbrev pub too_big_block : Label → Text
+too_big_block name = refused_block (too_big_text name)
+
+abbrev pub table_block : TableRefusal → Text
+table_block why = refused_block (table_refusal_text why)
 
 -- the paths of layers, in order
 abbrev pub order_block : List (List Label) → Text

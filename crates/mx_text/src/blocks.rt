@@ -9,10 +9,14 @@ ghost use Rattle.mx_text.specs.Blocks.{node_line, read_line};
 use crate::counted::push_counted;
 use crate::edit::{push_edit_refusal, push_path};
 use crate::evaluation::push_refusal;
+use crate::file::{push_missing, push_too_big};
 use crate::reads::push_read;
+use crate::table::push_table_refusal;
 use mx_edit::refusal::EditRefusal;
+use mx_edit::table::TableRefusal;
 use mx_print::append::{push, push_number};
 use mx_print::value::{push_node, push_value};
+use mx_value::label::Label;
 use mx_value::node::{Node, Path};
 use mx_value::read::Read;
 use mx_value::refusal::EvalRefusal;
@@ -144,6 +148,34 @@ pub fn push_refused_edit(out: &mut Vec<u8>, refusal: &EditRefusal) -> Result<(),
 {
     push(out, b"refused: ")?;
     push_edit_refusal(out, refusal)?;
+    push(out, b"\n")
+}
+
+/// Adds the block that says that there is no file of this name.
+pub fn push_missing_block(out: &mut Vec<u8>, name: &Label) -> Result<(), AllocError>
+    ensures { OnOk result (out.new.items ≡ out.old.items ++ spec.missing_block name.now) }
+{
+    push(out, b"refused: ")?;
+    push_missing(out, name)?;
+    push(out, b"\n")
+}
+
+/// Adds the block that says that the file of this name is too big.
+pub fn push_too_big_block(out: &mut Vec<u8>, name: &Label) -> Result<(), AllocError>
+    ensures { OnOk result (out.new.items ≡ out.old.items ++ spec.too_big_block name.now) }
+{
+    push(out, b"refused: ")?;
+    push_too_big(out, name)?;
+    push(out, b"\n")
+}
+
+/// Adds the block of a file that says no table. Want of memory is handed on: it has no text.
+pub fn push_table_block(out: &mut Vec<u8>, refusal: TableRefusal) -> Result<(), AllocError>
+    ensures text { OnOk result (out.new.items ≡ out.old.items ++ spec.table_block refusal) }
+    ensures memory { OnOk result (refusal ≢ TableRefusal.NoMemory) }
+{
+    push(out, b"refused: ")?;
+    push_table_refusal(out, refusal)?;
     push(out, b"\n")
 }
 

@@ -1,4 +1,4 @@
-//! The texts of values, addresses, nodes and reads, of why evaluations, edits, sources, tables and commands are refused, and
+//! The texts of values, addresses, nodes and reads, of why evaluations, edits, sources, files, tables and commands are refused, and
 //! of the blocks that answer the commands of a script.
 //!
 //! Room: engine and scripts.
@@ -9,6 +9,7 @@ pub mod blocks;
 mod counted;
 pub mod edit;
 pub mod evaluation;
+mod file;
 pub mod form;
 pub mod parsing;
 pub mod reads;

@@ -42,6 +42,7 @@ owned owner.Model = accept name_of >>= λ n. pure (target_of n [])
 abbrev pub named_by : HeadForm → Parser Target
 named_by form.Names = target
 named_by form.Opened = ended symbol.OpenRound target
+named_by form.Name = owned owner.Model
 named_by (form.Reference o) = ended symbol.Assign (owned o)
 
 abbrev pub head_by : HeadForm → Parser Target

@@ -38,11 +38,12 @@ abbrev pub OwnedText : Owner → Spelling Target
 OwnedText owner.Space = TargetText
 OwnedText owner.Model = Mapped NameText (λ n. target_of n [])
 
--- A command's word and what it names: cells with the opening parenthesis of their formula behind them or in the text, or a
--- reference with `=`.
+-- A command's word and what it names: cells with the opening parenthesis of their formula behind them or in the text, one name, or
+-- a reference with `=`.
 abbrev pub HeadText : HeadForm → Spelling Target
 HeadText form.Names = Worded TargetText
 HeadText form.Opened = Worded (Ended symbol.OpenRound TargetText)
+HeadText form.Name = Worded (OwnedText owner.Model)
 HeadText (form.Reference o) = Worded (Ended symbol.Assign (OwnedText o))
 
 abbrev pub head_text : HeadForm → Language Target

@@ -17,7 +17,7 @@ use Rattle.mx_words.specs.Texts.{first_word}
 abbrev pub every_word : List CommandWord
 every_word =
     words.Space ∷ words.Unspace ∷ words.Bases ∷ words.Cells ∷ words.Def ∷ words.Uncells ∷ words.Allow ∷ words.Disallow ∷ words.Ref ∷ words.Unref ∷ words.Params ∷ words.Unparams
-    ∷ words.Global ∷ words.Unglobal ∷ words.Input ∷ words.Uninput ∷ words.Eval ∷ words.Precedents ∷ words.Succs ∷ words.Held ∷ words.Clear ∷ words.Limit ∷ words.Order ∷ []
+    ∷ words.Global ∷ words.Unglobal ∷ words.Input ∷ words.Uninput ∷ words.Table ∷ words.Eval ∷ words.Precedents ∷ words.Succs ∷ words.Held ∷ words.Clear ∷ words.Limit ∷ words.Order ∷ []
 
 -- a command of one line, and one that takes further lines
 abbrev pub one : Form → Rest
@@ -47,6 +47,7 @@ rest_of words.Global = one (form.Reference owner.Model)
 rest_of words.Unglobal = one (form.Phrase phrase.DelGlobal)
 rest_of words.Input = one form.Input
 rest_of words.Uninput = one (form.Node asked.DelInput)
+rest_of words.Table = one form.Table
 rest_of words.Eval = one (form.Node asked.Value)
 rest_of words.Precedents = one (form.Node asked.Precedents)
 rest_of words.Succs = one (form.Node asked.Successors)
@@ -72,6 +73,7 @@ is_word words.Global text = pointwise ◌==◌ text (codes "global")
 is_word words.Unglobal text = pointwise ◌==◌ text (codes "unglobal")
 is_word words.Input text = pointwise ◌==◌ text (codes "input")
 is_word words.Uninput text = pointwise ◌==◌ text (codes "uninput")
+is_word words.Table text = pointwise ◌==◌ text (codes "table")
 is_word words.Eval text = pointwise ◌==◌ text (codes "eval")
 is_word words.Precedents text = pointwise ◌==◌ text (codes "precedents")
 is_word words.Succs text = pointwise ◌==◌ text (codes "succs")

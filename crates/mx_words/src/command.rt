@@ -2,6 +2,7 @@
 use mx_edit::edit::Edit;
 use mx_edit::scope::Scope;
 use mx_grammar::refusal::ParseRefusal;
+use mx_value::label::Label;
 use mx_value::node::{Node, Path};
 use std::alloc::AllocError;
 
@@ -10,6 +11,8 @@ use std::alloc::AllocError;
 pub enum Command {
     /// Changes the model text.
     Edit(Edit),
+    /// Sets a table of this name, as a file says it.
+    Table { name: Label, file: Label },
     /// Evaluates a node.
     Eval(Node),
     /// What a node reads.

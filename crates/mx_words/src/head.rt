@@ -1,4 +1,5 @@
-//! The heads of commands that name cells: names with points between, of which the last is that of the cells.
+//! The heads of commands that name cells, references or tables: names with points between, of which the last is that of the
+//! cells, or one name.
 ghost use Rattle.std.specs.Prelude.{◌≡◌, ℕ, List as Names, IfOk};
 ghost use Rattle.mx_grammar.specs.Reading.{Reads, Gives, parsed, line};
 ghost use Rattle.mx_words.specs.Heads.{target_of};
@@ -29,6 +30,8 @@ pub enum HeadForm {
     Names,
     /// The same, with an opening parenthesis that has to be in the head.
     Opened,
+    /// One name; what stands behind the head is no part of it.
+    Name,
     /// The name of a reference, and `=`.
     Reference(Owner),
 }
@@ -106,6 +109,7 @@ fn named(alloc: Global, tokens: &mut Cursor<'_>, form: HeadForm) -> Result<Targe
             tokens.expect(Symbol::OpenRound)?;
             Ok(target)
         }
+        HeadForm::Name => owned(alloc, tokens, Owner::Model),
         HeadForm::Reference(owner) => {
             let target = owned(alloc, tokens, owner)?;
             tokens.expect(Symbol::Assign)?;

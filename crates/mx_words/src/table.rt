@@ -23,6 +23,7 @@ pub enum CommandWord {
     Unglobal,
     Input,
     Uninput,
+    Table,
     Eval,
     Precedents,
     Succs,
@@ -33,7 +34,7 @@ pub enum CommandWord {
 }
 
 /// Every word, in order of the table.
-pub const WORDS: [CommandWord; 23] = [
+pub const WORDS: [CommandWord; 24] = [
     CommandWord::Space,
     CommandWord::Unspace,
     CommandWord::Bases,
@@ -50,6 +51,7 @@ pub const WORDS: [CommandWord; 23] = [
     CommandWord::Unglobal,
     CommandWord::Input,
     CommandWord::Uninput,
+    CommandWord::Table,
     CommandWord::Eval,
     CommandWord::Precedents,
     CommandWord::Succs,
@@ -142,6 +144,8 @@ pub enum Form {
     Node(Asked),
     /// A node, `=` and a literal.
     Input,
+    /// The name of a table, and the name of its file.
+    Table,
     /// A reference, `=` and its value.
     Reference(Owner),
     /// What is dropped.
@@ -200,6 +204,7 @@ pub fn rest_of(word: CommandWord) -> Rest
         CommandWord::Unglobal => one(Form::Phrase(Phrase::DelGlobal)),
         CommandWord::Input => one(Form::Input),
         CommandWord::Uninput => one(Form::Node(Asked::DelInput)),
+        CommandWord::Table => one(Form::Table),
         CommandWord::Eval => one(Form::Node(Asked::Value)),
         CommandWord::Precedents => one(Form::Node(Asked::Precedents)),
         CommandWord::Succs => one(Form::Node(Asked::Successors)),
@@ -231,6 +236,7 @@ fn is_word(word: CommandWord, text: &[u8]) -> bool
         CommandWord::Unglobal => text == b"unglobal".as_slice(),
         CommandWord::Input => text == b"input".as_slice(),
         CommandWord::Uninput => text == b"uninput".as_slice(),
+        CommandWord::Table => text == b"table".as_slice(),
         CommandWord::Eval => text == b"eval".as_slice(),
         CommandWord::Precedents => text == b"precedents".as_slice(),
         CommandWord::Succs => text == b"succs".as_slice(),

@@ -1,9 +1,10 @@
-use Rattle.std.proofs.Common.{Ok, refl}
 use Rattle.mx_cli.proofs.SureLemmas.{complete_run}
 use Rattle.mx_cli.proofs.top.mx_top.Goals as goal
 
-pub returns-then-is_run-clause-complete : goal.returns-then-is_run-clause-complete
-returns-then-is_run-clause-complete g c = λ _. complete_run _ _ _ c.run_script.ensures.run
-
-pub returns-in-Ok-clause-refused : goal.returns-in-Ok-clause-refused
-returns-in-Ok-clause-refused g c = λ _. record { printed = Ok tt; told = refl; output = c.in-Ok.ensures.ok }
+pub returns-then-is_run-clause-answered : goal.returns-then-is_run-clause-answered
+returns-then-is_run-clause-answered g c = record {
+  run = λ h. c.run_script.ensures;
+  complete = λ h. complete_run _ _ _ c.run_script.ensures;
+  refused = λ other. absurd (other (c.is_run.ensures.0 c.if-is_run.true));
+  later = c.run_script.ensures.run.later;
+}

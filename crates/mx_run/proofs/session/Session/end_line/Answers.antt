@@ -6,11 +6,11 @@ use Rattle.mx_run.proofs.AtLemmas.{fed_err, fed_ok}
 use Rattle.mx_run.proofs.session.Session.end_line.Goals as goal
 
 pub returns-in-Ok-clause-output : goal.returns-in-Ok-clause-output
-returns-in-Ok-clause-output g c = λ read written at.
-    fed_ok _ _ _ _ _ read written at c.take-pending.result (ap (λ (p : Option Pending). pending_of p) c.take-pending.ensures.value) c.deref.result.now c.deref.ensures.value
+returns-in-Ok-clause-output g c = λ first read written at.
+    fed_ok first _ _ _ _ _ read written at c.take-pending.result (ap (λ (p : Option Pending). pending_of p) c.take-pending.ensures.value) c.deref.result.now c.deref.ensures.value
     _ _ c.in-Ok.pending _ _ c.clear.ensures.items (omega arith) c.in-Ok.ensures.output
 
 pub returns-in-Err-clause-output : goal.returns-in-Err-clause-output
-returns-in-Err-clause-output g c = λ read written at.
-    fed_err _ _ _ _ _ read written at c.take-pending.result (ap (λ (p : Option Pending). pending_of p) c.take-pending.ensures.value) c.deref.result.now c.deref.ensures.value
-    _ _ c.in-Err.failure c.args.self.now.interpreter.engine c.stop_of.result c.stop_of.ensures (omega arith) c.in-Err.ensures.output
+returns-in-Err-clause-output g c = λ first read written at.
+    fed_err first _ _ _ _ _ read written at c.take-pending.result (ap (λ (p : Option Pending). pending_of p) c.take-pending.ensures.value) c.deref.result.now c.deref.ensures.value
+    _ _ c.in-Err.stop (omega arith) c.in-Err.ensures.output
