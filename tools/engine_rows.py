@@ -1,18 +1,16 @@
 #!/usr/bin/env python3
-"""Rows for what the engine does and no script asks for: tables, bound forms and worlds that are put in.
+"""Rows for what the engine does and no script asks for: bound forms and worlds that are put in.
 
     tools/engine_rows.py            writes crates/mx_engine_rows/stdin and crates/mx_engine_rows/stdout
 
-The answers of tools/engine_rows.txt, which has the form of tools/rows/*.txt, are worked by hand. Those of both products, which read
-tables, come from Python. Beside the commands of scripts there are
+The answers of tools/engine_rows.txt, which has the form of tools/rows/*.txt, are worked by hand. Beside the commands of scripts there
+are
 
-    table NAME KEYS COLUMN ..; KEY NUMBER ..; ..      sets a table
-    bound NODE                                        the bound form of a node, or `none`
-    replace EDIT                                      puts another world in: the new model with one edit made
+    bound NODE          the bound form of a node, or `none`
+    replace EDIT        puts another world in: the new model with one edit made
 """
 import pathlib
 
-import product_rows
 from rows import worked
 
 FOLDER = pathlib.Path(__file__).resolve().parent
@@ -33,7 +31,7 @@ def plain(command, answer):
 
 def main():
     commands, answers = [], []
-    for name, rows in worked(FOLDER / "engine_rows.txt") + product_rows.products():
+    for name, rows in worked(FOLDER / "engine_rows.txt"):
         commands.append(f"# {name}")
         answers.append(f"# {name}")
         for command, answer in [row for made in rows for row in plain(*made)]:

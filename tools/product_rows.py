@@ -1,5 +1,5 @@
-"""Whole models, and what Python gives for them, for rows: the two sample products, which
-read tables (tools/engine_rows.py), and generated models of many spaces (tools/rows.py).
+"""Whole models, and what Python gives for them, for the rows of scripts: the two sample products, which read tables, and generated
+models of many spaces.
 
 Nothing here stands on the engine. A formula is read by Python's own parser, its operators are those of
 tools/operator_vectors.py, and each value is kept by its address, name and arguments, so that the number of runs is told too.
@@ -152,7 +152,7 @@ def product(sample, space, items):
     tables = {}
     for name, csv in (("mort", MORT), ("disc", DISC)):
         head, records = table_of(csv)
-        rows.append((f"table {name} {' '.join(head)}; " + "; ".join(" ".join(map(str, r)) for r in records), "ok"))
+        rows += [(f"file {name}.csv {'; '.join(csv.splitlines())}", "ok"), (f"table {name} {name}.csv", "ok")]
         tables[name] = {(r[0], head[1]): literal(r[1]) for r in records}
     for name, contents in files(sample):
         for line in contents.splitlines() if name.endswith(".mx") and name != "model.mx" else ():
@@ -215,24 +215,18 @@ def generated(count, seed):
     return rows
 
 
-def products():
-    """The name of each group of rows that read tables, and its rows."""
+def groups():
+    """The name of each group, and its rows."""
     return [
         ("the term product gives what Python gives", product("term_s", "Term", [(40, 10, 200000, 1), (35, 2, 50000, 1)])),
         ("the savings product gives what Python gives", product("savings_s", "Savings", [(50, 3, 300000, 280000, 1)])),
-    ]
-
-
-def groups():
-    """The name of each group of rows of scripts, and its rows."""
-    return [
         ("a generated model of one space gives what Python gives", generated(1, 0)),
         ("a generated model of two hundred spaces gives what Python gives", generated(200, 7)),
     ]
 
 
 if __name__ == "__main__":
-    for name, rows in products() + groups():
+    for name, rows in groups():
         print("#", name)
         for row in rows[-30:]:
             print(*row, sep=" | ")

@@ -1,7 +1,8 @@
 """Random scripts, and what tools/reference.py gives for them, for the rows that tools/rows.py runs.
 
-A script makes a small model whose names meet often (a child, cells and a reference of one name, parameters over references) and then
-edits, evaluates and clears it in turn. Every call of a formula counts down or has arguments from a few, so that each evaluation ends.
+A script makes a small model whose names meet often (a child, cells and a reference of one name, parameters over references), with tables
+from files of a few lines, and then edits, evaluates and clears it in turn. Every call of a formula counts down or has arguments from a
+few, so that each evaluation ends.
 A script that the reference would run too deep for Python is left out.
 
     tools/random_rows.py [SCRIPTS [SEED]]      runs so many others through `mx run`, the built program, and compares
@@ -9,12 +10,15 @@ A script that the reference would run too deep for Python is left out.
 import random
 import sys
 
-from row_runner import difference
-from reference import Cells, CellsAt, Engine, Formula, Item, NoOrder, Node, Record, Refused, Space, Target, key, literal, text
+from row_runner import apart, difference
+from reference import (Cells, CellsAt, Engine, Formula, Item, NoOrder, Node, Record, Refused, Space, TableValue, Target, key, literal,
+                       table_of, text)
 
 TOPS, CHILDREN, PARAMETERS = ("A", "B", "C", "D"), ("x", "y", "A", "f"), ("n", "m")
 CELLS, REFERENCES = ("f", "g", "h", "x", "p"), ("p", "q", "r", "f", "x")
 LITERALS = ("0", "1", "2", "3", "-1", "True", "None", '"s"', "1.0", "1.5", "(1, 2)", "()")
+TABLES, COLUMNS = ("t", "u", "p"), ("key", "a", "b")
+NUMBERS, NO_NUMBERS = ("0", "1", "2", "-1", "1.0", "1.5", "-0.25"), ("", "x", "01", " 1", "1.", ".5", "1e2", "True")
 DEEPEST = 20_000
 
 
@@ -29,7 +33,9 @@ class Formulas:
         self.draw, self.model = draw, model
         layers = layers_of(model, path)
         self.own = [(name, cells) for layer in layers for name, cells in model.spaces[layer].cells.items()]
-        self.references = [name for layer in layers for name in model.spaces[layer].refs] + list(model.globals)
+        seen = [*(ref for layer in layers for ref in model.spaces[layer].refs.items()), *model.globals.items()]
+        self.references = [name for name, _ in seen]
+        self.tables = [name for name, value in seen if isinstance(value, TableValue)]
         self.others = [(found, name, cells) for found, found_layers in model.static_paths() for layer in found_layers or ()
                        for name, cells in model.spaces[layer].cells.items()]
 
@@ -80,9 +86,18 @@ class Formulas:
             way = self.draw.choice(self.references)
         return f"{way}.{name}({self.arguments(names, len(cells.formula.params))})"
 
+    def entry(self, names):
+        """A table with subscripts, mostly a whole number and the name of a column."""
+        subscripts = [self.argument(names), f'"{self.draw.choice(COLUMNS[1:])}"']
+        if self.draw.random() < 0.15:
+            self.draw.choice((subscripts.pop, subscripts.reverse, lambda: subscripts.append("0")))()
+        return f"{self.draw.choice(self.tables)}[{', '.join(subscripts)}]"
+
     def expression(self, depth, names):
         draw, chance = self.draw, self.draw.random()
         inner = lambda: self.expression(depth - 1, names)
+        if self.tables and draw.random() < 0.25:
+            return self.entry(names)
         if depth == 0 or chance < 0.15:
             pool = names if names and draw.random() < 0.6 else self.references if self.references and draw.random() < 0.4 else LITERALS
             return draw.choice(pool)
@@ -182,9 +197,12 @@ class Script:
     """A script that is drawn and answered command by command."""
 
     def __init__(self, draw):
-        self.draw, self.engine, self.rows = draw, Engine(), []
+        self.draw, self.engine, self.rows, self.files = draw, Engine(), [], 0
         for _ in range(draw.randint(3, 8)):
             self.new_space()
+        for _ in range(draw.randint(1, 3)):
+            self.set_table()
+            self.set_reference(self.table())
         for _ in range(draw.randint(4, 12)):
             self.set_cells()
         for _ in range(4):
@@ -312,16 +330,25 @@ class Script:
         path = self.static_path() + ((self.draw.choice(CELLS + CHILDREN),) if self.draw.random() < 0.3 else ())
         return Target(path, self.draw.random() < 0.4)
 
-    def set_reference(self):
+    def table(self):
+        tables = [*self.engine.model.tables]
+        return TableValue(self.draw.choice(tables if tables and self.draw.random() < 0.9 else TABLES))
+
+    def set_reference(self, value=None):
         draw, name = self.draw, self.draw.choice(REFERENCES)
         path = () if draw.random() < 0.25 else self.path()
-        value = literal(draw.choice(LITERALS)) if draw.random() < 0.45 else self.target()
-        written = f"{'abs' if value.fixed else 'to'} {dotted(value.path)}" if isinstance(value, Target) else text(value)
+        chance = draw.random()
+        if value is None:
+            value = literal(draw.choice(LITERALS)) if chance < 0.35 else self.table() if chance < 0.5 else self.target()
+        written = (f"table {value.name}" if isinstance(value, TableValue) else text(value) if not isinstance(value, Target)
+                   else f"{'abs' if value.fixed else 'to'} {dotted(value.path)}")
 
         def change(model):
             record = path and space_of(model, path)
             if isinstance(value, Target) and model.layers(value.path) is None and (
                     len(value.path) < 2 or model.cells(value.path[:-1], value.path[-1]) is None):
+                raise Refused("NoSuchMember")
+            if isinstance(value, TableValue) and value.name not in model.tables:
                 raise Refused("NoSuchMember")
             if name in (record.cells.keys() | set(model.children(path)) if path else {p[0] for p in model.spaces}):
                 raise Refused("NameTaken")
@@ -339,6 +366,26 @@ class Script:
             del refs[name]
 
         self.edit(f"unref {dotted(path)}.{name}" if path else f"unglobal {name}", change)
+
+    def table_lines(self):
+        """The lines of a table's file, at times with something wrong in them."""
+        draw = self.draw
+        records = [[str(number), draw.choice(NUMBERS), draw.choice(NUMBERS)] for number in draw.sample(range(-1, 4), draw.randint(2, 5))]
+        lines, chance = [list(COLUMNS), *records], draw.random()
+        if chance < 0.1:
+            draw.choice(lines)[draw.randrange(3)] = draw.choice(NO_NUMBERS)
+        elif chance < 0.2:
+            lines.insert(draw.randrange(len(lines) + 1), draw.choice(lines)[:draw.randint(2, 3)])
+        return [",".join(fields) for fields in lines]
+
+    def set_table(self):
+        name, lines, self.files = self.draw.choice(TABLES), self.table_lines(), self.files + 1
+        file = f"{self.files}.csv"
+        if self.draw.random() < 0.05:
+            return self.add(f"table {name} {file}", [f"refused: missing {file}"])
+        self.rows.append((f"file {file} {'; '.join(lines)}", "ok"))
+        table = "".join(f"{line}\n" for line in lines).encode()
+        self.edit(f"table {name} {file}", lambda model: model.tables.update({name: table_of(table)}))
 
     def set_params(self):
         path = self.path()
@@ -425,9 +472,9 @@ class Script:
         self.add(f"limit {limit}", ["ok" if 1 <= limit <= 100_000 else "refused: BadLimit"])
 
     def go_on(self, steps):
-        kinds = {self.set_cells: 14, self.delete_cells: 2, self.allow: 2, self.new_space: 4, self.delete_space: 1.5, self.set_bases: 6,
-                 self.set_reference: 9, self.delete_reference: 1.5, self.set_params: 6, self.set_input: 4, self.clear: 4, self.ask: 45,
-                 self.order: 3, self.set_limit: 2}
+        kinds = {self.set_cells: 14, self.delete_cells: 2, self.allow: 2, self.set_table: 4, self.new_space: 4, self.delete_space: 1.5,
+                 self.set_bases: 6, self.set_reference: 9, self.delete_reference: 1.5, self.set_params: 6, self.set_input: 4, self.clear: 4,
+                 self.ask: 45, self.order: 3, self.set_limit: 2}
         for _ in range(steps):
             self.draw.choices(list(kinds), kinds.values())[0]()
             if self.draw.random() < 0.25:
@@ -461,7 +508,7 @@ def main():
         if why is not None:
             print(why)
             return 1
-    print(f"{sum(map(len, made))} blocks of {count} scripts agree")
+    print(f"{sum(len(apart(rows)[1]) for rows in made)} blocks of {count} scripts agree")
     return 0
 
 

@@ -1,13 +1,17 @@
-"""The rules of the engine, read a second time: model texts, what their nodes mean with nothing kept, and which nodes stay held.
+"""The rules of the engine, read a second time: model texts, tables from files, what nodes mean with nothing kept, and which stay held.
 
 Nothing here stands on the engine. It follows the rules of docs/SPECIFICATION.md as plainly as it can: a node's value is computed by running
 its formula, layers are merged anew for each path, and what an edit drops is found by asking every key of every held node in both
-texts. A formula is read by Python's own parser, and its operators are those of tools/operator_vectors.py. It has no tables, and no
-limits on sizes and counts but that on chains.
+texts. A formula is read by Python's own parser, a file of a table by Python's own reader of comma-separated values, and operators are
+those of tools/operator_vectors.py. It has no limits on sizes and counts but that on chains and those of a table.
 """
 import ast
+import csv
+import io
+import re
 import warnings
 from dataclasses import dataclass, field, replace
+from fractions import Fraction
 
 from operator_vectors import CALLS, Fault, d, fixed_points, is_number
 from operator_vectors import text as plain_text
@@ -20,6 +24,10 @@ OPERATORS = {ast.Add: "Add", ast.Sub: "Sub", ast.Mult: "Mul", ast.Div: "Div", as
              ast.In: "In", ast.NotIn: "NotIn"}
 BUILTINS = {"abs", "min", "max", "sum", "len", "round", "int", "fixed", "nroot", "any", "all", "tuple", "str", "range"}
 MISSING = ("missing",)
+
+
+class Refused(Exception):
+    pass
 
 
 # Values and nodes
@@ -39,6 +47,12 @@ class Space:
 @dataclass(frozen=True)
 class CellsAt:
     at: tuple
+    name: str
+
+
+@dataclass(frozen=True)
+class TableValue:
+    """A table as formulas hand it on."""
     name: str
 
 
@@ -87,6 +101,8 @@ def text(value):
             return f"<space {address_text(value.at)}>"
         case CellsAt():
             return f"<cells {address_text(value.at)}.{value.name}>"
+        case TableValue():
+            return f"<table {value.name}>"
         case tuple():
             return f"({', '.join(map(text, value))}{',' * (len(value) == 1)})"
         case Node():
@@ -97,7 +113,7 @@ def text(value):
 
 
 def is_plain(value):
-    return all(map(is_plain, value)) if isinstance(value, tuple) else not isinstance(value, (Space, CellsAt))
+    return all(map(is_plain, value)) if isinstance(value, tuple) else not isinstance(value, (Space, CellsAt, TableValue))
 
 
 def normal(value):
@@ -108,7 +124,7 @@ def normal(value):
 
 
 def truth(value):
-    if isinstance(value, (Space, CellsAt)):
+    if isinstance(value, (Space, CellsAt, TableValue)):
         raise Fault("TypeMismatch")
     return bool(value)
 
@@ -137,6 +153,44 @@ def literal_of(tree, source):
         case ast.UnaryOp():
             return applied("Neg", literal_of(tree.operand, source))
     return d(ast.get_source_segment(source, tree)) if isinstance(tree.value, float) else tree.value
+
+
+# Tables
+
+INT, DECIMAL = re.compile(r"-?(?:0|[1-9]\d*)"), re.compile(r"-?(?:0|[1-9]\d*)\.\d{1,9}")
+
+
+def number(field):
+    """The number that a field says, or None."""
+    if INT.fullmatch(field):
+        return int(field) if -2**63 <= int(field) < 2**63 else None
+    return d(field) if DECIMAL.fullmatch(field) and abs(Fraction(field)) <= 10**10 else None
+
+
+def records_of(file):
+    """The records of a file, which is given as its bytes."""
+    lines = io.StringIO(file.removeprefix(b"\xef\xbb\xbf").decode("latin-1"), newline=None)
+    return [record for record in csv.reader(lines) if record]
+
+
+def table_of(file):
+    """The columns of the table that a file says, and its rows by their keys."""
+    head, *records = records_of(file) or [[]]
+    if len(head) > 120 or len(records) > 10_000:
+        raise Refused("too big")
+    if len(head) < 2 or len(set(head)) < len(head) or not all(re.fullmatch(r"[ -~]{1,64}", name) for name in head):
+        raise Refused("bad row 0")
+    rows = {}
+    for at, record in enumerate(records, 1):
+        if len(record) != len(head):
+            raise Refused(f"bad row {at}")
+        numbers = [number(field) for field in record]
+        if None in numbers[1:]:
+            raise Refused(f"bad number {at} {numbers.index(None, 1)}")
+        if not isinstance(numbers[0], int) or numbers[0] in rows:
+            raise Refused(f"bad row {at}")
+        rows[numbers[0]] = tuple(numbers[1:])
+    return tuple(head[1:]), tuple(rows.items())
 
 
 # Formulas and model texts
@@ -218,12 +272,12 @@ class NoOrder(Exception):
 
 class ModelText:
     def __init__(self):
-        self.spaces, self.globals, self.inputs = {("Main",): Record()}, {}, {}
+        self.spaces, self.globals, self.inputs, self.tables = {("Main",): Record()}, {}, {}, {}
 
     def copy(self):
         other = ModelText()
         other.spaces = {path: record.copy() for path, record in self.spaces.items()}
-        other.globals, other.inputs = dict(self.globals), dict(self.inputs)
+        other.globals, other.inputs, other.tables = dict(self.globals), dict(self.inputs), dict(self.tables)
         return other
 
     def children(self, path):
@@ -300,6 +354,8 @@ class ModelText:
                 return self.layers(path) is not None
             case "Input", node:
                 return key(self.inputs[node][1]) if node in self.inputs else MISSING
+            case "Table", name:
+                return key(self.tables.get(name, MISSING))
 
 
 def key_of_value(value):
@@ -630,6 +686,8 @@ class Run:
             case ast.Subscript():
                 what = self.of(tree.value, local)
                 args = tuple(self.of(part, local) for part in subscripts(tree.slice))
+                if isinstance(what, TableValue):
+                    return self.entry(what, args)
                 if isinstance(what, (tuple, str)):
                     if len(args) != 1 or not is_plain(args):
                         raise Fault("TypeMismatch")
@@ -638,6 +696,17 @@ class Run:
             case ast.Call():
                 return self.call(tree, local)
         raise NotImplementedError(ast.dump(tree))
+
+    def entry(self, table, args):
+        """The entry of a table, at a whole number and the name of a column."""
+        self.look("Table", table.name)
+        self.read.setdefault(("table", table.name), f"table {table.name}")
+        columns, rows = self.model.tables[table.name]
+        if len(args) != 2 or not is_number(args[0]) or not isinstance(args[1], str) or args[0] != int(args[0]):
+            raise Fault("TypeMismatch")
+        if int(args[0]) not in dict(rows) or args[1] not in columns:
+            raise Fault("NoIndex")
+        return dict(rows)[int(args[0])][columns.index(args[1])]
 
     def decided(self, tree, local):
         for part in tree.values:
@@ -684,10 +753,6 @@ def subscripts(tree):
 
 
 # The engine
-
-
-class Refused(Exception):
-    pass
 
 
 class Engine:

@@ -1,7 +1,11 @@
 """Runs rows through `mx run` and compares what it writes with their answers.
 
 A row is a command of scripts with its answer, whose lines are joined by `; `. An edit that is made answers `ok`, and how many nodes it
-dropped, where there are some: the nodes are counted by `held` before and behind it. Three words stand for several commands:
+dropped, where there are some: the nodes are counted by `held` before and behind it. One word is no row, but gives the group a file:
+
+    file NAME LINE; LINE    the lines of a file in the folder in which the program runs; it is there from the first row on
+
+Three words stand for several commands:
 
     only NODE; NODE         `yes` where these nodes are held and no others
     ticks NODE              an evaluation; a fault or a ring with the number of runs that it began, which are the newly held nodes and those
@@ -11,10 +15,11 @@ dropped, where there are some: the nodes are counted by `held` before and behind
 import itertools
 import pathlib
 import subprocess
+import tempfile
 
 PROGRAM = pathlib.Path(__file__).resolve().parent.parent / "crates" / "mx_cli" / "out" / "mx_cli"
 EDITS = {"space", "unspace", "bases", "cells", "def", "uncells", "allow", "disallow", "ref", "unref", "params", "unparams", "global",
-         "unglobal", "input", "uninput"}
+         "unglobal", "input", "uninput", "table"}
 FIRST_LIMIT = 5_000
 MOST_WAITING = 8  # no row has more runs that end without a value
 
@@ -69,6 +74,20 @@ def repeat(command):
     return [asked for commands, _ in made for asked in commands], told
 
 
+def apart(rows):
+    """The files of a group by their names, and its rows."""
+    files, asked = {}, []
+    for command, answer in rows:
+        word, _, rest = command.partition(" ")
+        if word == "file":
+            name, _, lines = rest.partition(" ")
+            assert name not in files, f"the file {name} is given twice"
+            files[name] = "".join(f"{line}\n" for line in lines.split("; ")) if lines else ""
+        else:
+            asked.append((command, answer))
+    return files, asked
+
+
 def commands_of(rows):
     """For each row the commands that it stands for, and what their blocks tell."""
     limit = FIRST_LIMIT
@@ -97,11 +116,22 @@ def blocks_of(written):
         yield "; ".join([line, *itertools.islice(lines, more)])
 
 
-def difference(rows, program=PROGRAM):
+def run_beside(files, script, program):
+    """A run of the program in a folder with these files alone."""
+    with tempfile.TemporaryDirectory() as folder:
+        for name, text in files.items():
+            path = pathlib.Path(folder, name)
+            path.parent.mkdir(parents=True, exist_ok=True)
+            path.write_text(text)
+        return subprocess.run([pathlib.Path(program).resolve(), "run"], input=script, cwd=folder, capture_output=True, text=True)
+
+
+def difference(group, program=PROGRAM):
     """The first row that is answered otherwise, with its answer. None where all are answered alike."""
+    files, rows = apart(group)
     asked = list(commands_of(rows))
     script = [command for commands, _ in asked for command in commands]
-    run = subprocess.run([program, "run"], input="".join(f"{command}\n" for command in script), capture_output=True, text=True)
+    run = run_beside(files, "".join(f"{command}\n" for command in script), program)
     if run.returncode != 0:
         return f"the program ended with status {run.returncode}"
     blocks = list(blocks_of(run.stdout))

@@ -7,7 +7,7 @@
 No answer is taken from the program. Those of tools/rows/*.txt are worked by hand from the rules of the language and of the engine.
 There `# NAME` begins a group. A row is a line with the lines behind it that begin with a space. Its answer stands behind ` | `, with
 `; ` between the answer's lines; a row without one answers `ok` (tools/row_runner.py tells the words that rows have beside those of
-scripts). The other groups are drawn with fixed seeds and computed by Python: formulas, numbers, hierarchies of spaces and both
+scripts, and how a group gives its files). The other groups are drawn with fixed seeds and computed by Python: formulas, numbers, hierarchies of spaces and both
 products, and random formulas and scripts by a second reading of the rules.
 """
 import argparse
@@ -21,7 +21,7 @@ import number_rows
 import product_rows
 import random_formulas
 import random_rows
-from row_runner import PROGRAM, difference
+from row_runner import PROGRAM, apart, difference
 
 WORKED = pathlib.Path(__file__).resolve().parent / "rows"
 COMPUTED = (number_rows, hierarchy_rows, formula_rows, product_rows, random_formulas, random_rows)
@@ -95,7 +95,7 @@ def main():
         if why is not None:
             print(f"# {name}\n{why}", file=sys.stderr)
             differing += 1
-    print(f"{sum(len(rows) for _, rows in groups)} rows in {len(groups)} groups, {differing} of which differ")
+    print(f"{sum(len(apart(rows)[1]) for _, rows in groups)} rows in {len(groups)} groups, {differing} of which differ")
     return 1 if differing else 0
 
 

@@ -6,6 +6,9 @@
 The scripts are the examples of docs/USER-GUIDE.md, the files of examples/ and of tests/scripts/, and those that are made here: they
 come to a limit, end by a fault outside, or are long. In a page a script is a block marked `mx`, with the block marked `answer` behind
 it. The answer to NAME.txt stands in NAME.answer. No answer is taken from the program: they are worked by hand from the rules.
+
+A block marked `csv` and a name is a file for the scripts behind it, up to the next heading. They run in a folder of these files alone.
+The files of examples/ and tests/scripts/ run at the top of the repository.
 """
 import argparse
 import os
@@ -20,24 +23,37 @@ import tempfile
 
 TOP = pathlib.Path(__file__).resolve().parent.parent
 PROGRAM = TOP / "crates" / "mx_cli" / "out" / "mx_cli"
-EXAMPLE = re.compile(rb"^```mx\n(.*?)^```\n\s*^```answer\n(.*?)^```$", re.M | re.S)
+PART = re.compile(rb"^```(?P<kind>\w*) ?(?P<name>\S*)\n(?P<text>.*?)^```$|^#+ ", re.M | re.S)
 USAGE = b"usage: mx MODE ARGUMENTS\n"
 SECONDS = 60  # what a script takes at most
 
 
 def of_page(page):
-    text = page.read_bytes()
-    found = EXAMPLE.findall(text)
-    if not found or len(found) != text.count(b"```mx\n"):
+    """The scripts of a page: where each stands, the script, its answer and its files."""
+    found, files, script = [], {}, None
+    for part in PART.finditer(page.read_bytes()):
+        kind, text = part["kind"], part["text"]
+        if (script is None) == (kind == b"answer"):
+            sys.exit(f"{page}: a script without its answer, or an answer without its script")
+        if kind is None:
+            files = {}
+        elif kind == b"csv":
+            files = files | {part["name"].decode(): text}
+        elif kind == b"mx":
+            script = text
+        elif kind == b"answer":
+            found.append((f"{page.relative_to(TOP)}, script {len(found) + 1}", script, text, files))
+            script = None
+    if not found or script is not None:
         sys.exit(f"{page}: a script without its answer")
-    return [(f"{page.relative_to(TOP)}, script {at}", script, answer) for at, (script, answer) in enumerate(found, start=1)]
+    return found
 
 
 def of_files(folder):
     scripts = sorted(folder.glob("*.txt"))
     if not scripts:
         sys.exit(f"{folder}: no script")
-    return [(str(path.relative_to(TOP)), path.read_bytes(), path.with_suffix(".answer").read_bytes()) for path in scripts]
+    return [(str(path.relative_to(TOP)), path.read_bytes(), path.with_suffix(".answer").read_bytes(), None) for path in scripts]
 
 
 def accepted(edits, behind=""):
@@ -123,10 +139,55 @@ def made():
         ("10,000 edits beside a long projection touch nothing of it", edits_beside(10_000),
          accepted(4, "= 1 runs 99992\n") + accepted(10_000, "held 99992\n= 1 runs 0\n")),
     )
-    return [(name, script.encode(), answer.encode()) for name, script, answer in scripts]
+    return [(name, script.encode(), answer.encode(), {}) for name, script, answer in scripts]
 
 
-FIB, FIB_ANSWER = of_page(TOP / "tests" / "scripts" / "first.md")[0][1:]
+def table(columns, records, field=b"1"):
+    """A file with so many columns, and so many records of such fields behind their keys."""
+    head = b",".join(b"c%d" % at for at in range(columns))
+    return b"\n".join([head, *(b"%d" % key + (b"," + field) * (columns - 1) for key in range(records)), b""])
+
+
+def padded(size):
+    """A file of so many bytes: a small table with empty lines behind it."""
+    return table(2, 1).ljust(size, b"\n")
+
+
+def made_tables():
+    """Tables and files at their limits, and files as other programs write them."""
+    script = b"table t t.csv\nref t = table t\ncells c() = t[0, 'c1']\neval c()\n"
+    answer = b"ok\nok\nok\n= 1 runs 1\n"
+    missing = b"refused: NoSuchMember\nok\nfault NoName at Main.c() line 1\n"
+    longest, longer = "/".join(["a" * 63] * 3 + ["b" * 63]), "/".join(["a" * 63] * 4) + "b"
+    files = (
+        ("a table has 120 columns at most", table(120, 1), answer),
+        ("a table of 121 columns is too big before all else", table(121, 1, b"x"), b"refused: too big\n" + missing),
+        ("a table has 10,000 records at most", table(2, 10_000), answer),
+        ("a table of 10,001 records is too big before all else", table(1, 10_001), b"refused: too big\n" + missing),
+        ("a table of both at their limits", table(120, 10_000), answer),
+        ("a file has 67,108,864 bytes at most", padded(67_108_864), answer),
+        ("a file of a byte more is too big", padded(67_108_865), b"refused: too big t.csv\n" + missing),
+        ("a file as Windows ends its lines", table(2, 3).replace(b"\n", b"\r\n"), answer),
+        ("a file whose lines end with CR", table(2, 3).replace(b"\n", b"\r"), answer),
+        ("a file with a byte order mark, as a spreadsheet saves it", b"\xef\xbb\xbf" + table(2, 3).replace(b"\n", b"\r\n"), answer),
+        ("a file whose last line has no end", table(2, 3).rstrip(b"\n"), answer),
+        ("fields in quotes, and empty lines", b'\n"c0","c1"\n\n"0","1"\n\n', answer),
+        ("semicolons part no fields", table(2, 3).replace(b",", b";"), b"refused: bad row 0\n" + missing),
+        ("tabs part no fields", table(2, 3).replace(b",", b"\t"), b"refused: bad row 0\n" + missing),
+        ("a name with a line end in it", b'c0,"c\n1"\n0,1\n', b"refused: bad row 0\n" + missing),
+        ("text in 16 bits", table(2, 3).decode().encode("utf-16"), b"refused: bad row 0\n" + missing),
+    )
+    names = (
+        ("the name of a file has 255 bytes at most", f"table t {longest}\n", b"ok\n", {longest: table(2, 1)}),
+        ("the name of a file of 256 bytes", f"table t {longer}\n", b"line 1: bad form at 8\n", {longer: table(2, 1)}),
+    )
+    assert [len(longest), len(longer)] == [255, 256]
+    return [(name, script, said, {"t.csv": file}) for name, file, said in files] + [
+        (name, script.encode(), said, given) for name, script, said, given in names
+    ]
+
+
+FIB, FIB_ANSWER = of_page(TOP / "tests" / "scripts" / "first.md")[0][1:3]
 
 
 def run(program, *words, **streams):
@@ -134,8 +195,35 @@ def run(program, *words, **streams):
     return done.returncode, done.stdout
 
 
-def on_bytes(*words, script=FIB):
-    return lambda program: run(program, *words, input=script, stdout=subprocess.PIPE)
+def on_bytes(*words, script=FIB, folder=TOP):
+    return lambda program: run(program, *words, input=script, stdout=subprocess.PIPE, cwd=folder)
+
+
+def put(folder, name, text):
+    path = folder / name
+    path.parent.mkdir(parents=True, exist_ok=True)
+    path.write_bytes(text)
+
+
+def beside(files, script):
+    """A run of a script in a folder with these files alone, or at the top of the repository."""
+    def ended(program):
+        with tempfile.TemporaryDirectory() as folder:
+            for name, text in files.items():
+                put(pathlib.Path(folder), name, text)
+            return on_bytes("run", script=script, folder=folder)(program)
+    return on_bytes("run", script=script) if files is None else ended
+
+
+def barred(bar, script):
+    """A run in a folder with a table `t.csv`, and with something that bars the way to a file."""
+    def ended(program):
+        with tempfile.TemporaryDirectory() as name:
+            folder = pathlib.Path(name)
+            put(folder, "t.csv", table(2, 1))
+            bar(folder)
+            return on_bytes("run", script=script, folder=folder)(program)
+    return ended
 
 
 def cut_off(script):
@@ -178,6 +266,7 @@ def ends():
     longer = line.replace(b"\n", b"\n ")
     script = f"{'#' * 65_535}\n".encode() * 256
     missing = b"no such node\n"
+    tables, linked = b"table t t.csv\ntable t u.csv\neval f(1)\n", b"table t t.csv\ntable t v/t.csv\n"
     return (
         ("no word", on_bytes(), 2, USAGE),
         ("a word too many", on_bytes("run", "now"), 2, USAGE),
@@ -192,6 +281,10 @@ def ends():
         ("the first write fails", with_room(0), 4, b""),
         ("the second write fails", with_room(3), 4, b"ok\n"),
         ("a write takes a part, and the next one fails", with_room(4), 4, b"ok\n="),
+        ("a folder in the place of a file", barred(lambda folder: (folder / "u.csv").mkdir(), tables), 3, b"ok\n"),
+        ("a link in the place of a file", barred(lambda folder: (folder / "u.csv").symlink_to("t.csv"), tables), 3, b"ok\n"),
+        ("a link on the way to a file", barred(lambda folder: (folder / "v").symlink_to("."), linked), 3, b"ok\n"),
+        ("a pipe in the place of a file", barred(lambda folder: os.mkfifo(folder / "u.csv"), tables), 3, b"ok\n"),
     )
 
 
@@ -203,8 +296,8 @@ def first_difference(written, answer):
 
 def main():
     asked = argparse.ArgumentParser()
-    asked.add_argument("--mx", default=PROGRAM)
-    program = asked.parse_args().mx
+    asked.add_argument("--mx", default=PROGRAM, type=pathlib.Path)
+    program = asked.parse_args().mx.resolve()
     if not os.access(program, os.X_OK):
         print(f"{program} is not built", file=sys.stderr)
         return 1
@@ -213,9 +306,9 @@ def main():
         "examples": of_files(TOP / "examples"),
         "tests/scripts": [script for page in sorted((TOP / "tests" / "scripts").glob("*.md")) for script in of_page(page)]
         + of_files(TOP / "tests" / "scripts"),
-        "limits": made(),
+        "limits": made() + made_tables(),
     }
-    rows = [(name, on_bytes("run", script=script), 0, answer) for scripts in groups.values() for name, script, answer in scripts]
+    rows = [(name, beside(files, script), 0, answer) for scripts in groups.values() for name, script, answer, files in scripts]
     faults = 0
     for name, ended, status, answer in (*rows, *ends()):
         found, written = ended(program)
