@@ -8,9 +8,10 @@ use Rattle.mx_script.specs.Script.{Lines, split_lines, Command, Taken, HasNoLf}
 use Rattle.mx_outside.specs.Files.{FileMap}
 use Rattle.mx_commands.specs.Step.{RunState}
 use Rattle.mx_run.specs.Transcript.{Runs, Breaks, Wrote, begin, IsWithin, IsBrokenOff, IsCut}
-use Rattle.mx_run.specs.Session.{TakesLine, pending_of}
+use Rattle.mx_run.specs.Session.{TakesLine}
+use Rattle.mx_script.specs.Given.{pending_of}
 use Rattle.mx_run.specs.At.{IsAfter, Halts}
-use Rattle.mx_run.specs.declared.take.Pending.{Pending}
+use Rattle.mx_script.specs.declared.commands.Pending.{Pending}
 use Rattle.mx_run.specs.declared.stop.Stop.{Stop}
 use Rattle.mx_run.specs.declared.stop.Stop.TheVariants.{ReadFault, FileFault, WriteFault, NoMemory, OverLimit}
 use Rattle.mx_run.proofs.RunLemmas.{run_more, breaks_more, begins_whole}

@@ -1,37 +1,22 @@
 -- A piece that is fed line by line, and a script's end.
-use Rattle.std.proofs.Common.{◌≡◌, ◌≢◌, ℕ, zero, suc, ◌+◌, ◌<◌, List, [], ◌∷◌, ◌++◌, Option, None, Result, Ok, Err, length, take, drop, get_or, refl, sym, ap, ◌∙◌, subst, append_assoc, append-nil, arith, take-append-drop}
-use Rattle.std.proofs.lemmas.List.{take_more}
+use Rattle.std.proofs.Common.{◌≡◌, ◌≢◌, ℕ, ◌+◌, List, [], ◌∷◌, ◌++◌, Option, None, Result, Ok, Err, length, refl, sym, ap, ◌∙◌, subst, append_assoc, append-nil, arith}
 use Rattle.std.specs.Option.{option_to_list}
 use Rattle.std.specs.Io.KnownBytes.{append_known}
 use Rattle.mx_outside.proofs.Bytes.{append_known-append}
 use Rattle.mx_run.specs.Script.{taken, complete, pending_after, complete_commands, commands}
-use Rattle.mx_script.specs.Script.{split_lines, last_line, Command, Taken, HasNoLf}
+use Rattle.mx_script.specs.Script.{split_lines, last_line, Command, Taken}
 use Rattle.mx_outside.specs.Files.{FileMap}
 use Rattle.mx_commands.specs.Step.{RunState}
 use Rattle.mx_run.specs.Transcript.{Runs, Breaks, Wrote, begin}
-use Rattle.mx_run.specs.Session.{Answers, TakesLine, pending_of}
+use Rattle.mx_run.specs.Session.{Answers, TakesLine}
+use Rattle.mx_script.specs.Given.{pending_of}
 use Rattle.mx_run.specs.At.{IsAfter, At, Halts, GoesOn, Finishes}
-use Rattle.mx_run.specs.declared.take.Pending.{Pending}
+use Rattle.mx_script.specs.declared.commands.Pending.{Pending}
 use Rattle.mx_run.specs.declared.stop.Stop.{Stop}
 use Rattle.mx_run.specs.declared.session.Session.{Session}
 use Rattle.mx_run.proofs.RunLemmas.{run_more, breaks_more, breaks_less}
 use Rattle.mx_run.proofs.ScriptLemmas.{complete-append, pending_after-append}
 use Rattle.mx_run.proofs.AtLemmas.{halts_grow, given, given_broken}
-
--- bytes with no LF, from their places
-pub no_lf_front : (s : List ℕ) (n : ℕ) → ((k : ℕ) → k < n → get_or s k 0 ≢ 10) → HasNoLf (take n s)
-no_lf_front s zero none = tt
-no_lf_front [] (suc n) none = tt
-no_lf_front (b ∷ bs) (suc n) none = (none 0 (omega arith), no_lf_front bs n (λ k h. none (suc k) (omega arith)))
-
-pub no_lf_whole : (s : List ℕ) → ((k : ℕ) → k < length s → get_or s k 0 ≢ 10) → HasNoLf s
-no_lf_whole [] none = tt
-no_lf_whole (b ∷ bs) none = (none 0 (omega arith), no_lf_whole bs (λ k h. none (suc k) (omega arith)))
-
--- a list in front of a place, the LF there and what is behind it
-pub around_lf : (s : List ℕ) (n : ℕ) → n < length s → get_or s n 0 ≡ 10 → s ≡ take n s ++ (10 ∷ drop (n + 1) s)
-around_lf s n within lf = sym (take-append-drop (n + 1) s) ∙ ap (λ (l : List ℕ). l ++ drop (n + 1) s) (take_more s n 0 within) ∙ append_assoc (take n s) (get_or s n 0 ∷ []) (drop (n + 1) s)
-    ∙ ap (λ (b : ℕ). take n s ++ (b ∷ drop (n + 1) s)) lf
 
 -- What the calls for a line make of what was fed before it: `done` of the piece was, and the line is next.
 module _ (files now : Option FileMap) (s : Session) (piece done rest line more read written : List ℕ) (is : piece ≡ done ++ rest) (next : rest ≡ line ++ more) (old mid : Option (List ℕ)) (first : Wrote old mid (λ block. At files now s (read ++ done) (written ++ block))) where

@@ -5,7 +5,7 @@ use Rattle.mx_outside.specs.Outside.{TakesFront}
 use Rattle.mx_outside.proofs.Bytes.{append_known-append}
 use Rattle.mx_script.specs.Script.{Command, Taken}
 use Rattle.mx_run.specs.Session.{TakesLine}
-use Rattle.mx_run.specs.declared.take.Pending.{Pending}
+use Rattle.mx_script.specs.declared.commands.Pending.{Pending}
 use Rattle.mx_commands.specs.Step.{RunState, Step, AsksFile}
 use Rattle.mx_run.specs.Transcript.{Runs, Begins, Fails, Breaks, Wrote}
 use Rattle.mx_run.specs.declared.stop.Stop.{Stop}

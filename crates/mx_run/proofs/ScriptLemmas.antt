@@ -4,6 +4,7 @@ use Rattle.std.proofs.lemmas.Bool.Decides.{nat_tests}
 use Rattle.std.specs.Option.{option_to_list}
 use Rattle.mx_run.specs.Script.{taken, complete, pending_after, complete_commands, commands}
 use Rattle.mx_script.specs.Script.{Lines, onto, split_lines, last_line, Command, GrowsTo, HasNoLf, AreLines}
+use Rattle.mx_script.proofs.Lines.{stretch}
 
 -- lines that come after an open one: it goes on in the first of them
 abbrev pub glued : List ℕ → List (List ℕ) → List (List ℕ)
@@ -77,13 +78,6 @@ pub split_lines-end : (a : List ℕ) → split_lines (a ++ 10 ∷ []) ≡ record
 split_lines-end a = split_lines-append a (10 ∷ []) ∙ ap (λ (r : List ℕ). record { whole = (split_lines a).whole ++ r ∷ []; rest = [] }) (append-nil (split_lines a).rest)
 
 -- bytes with no LF go onto the open line
-stretch : (s : List ℕ) → HasNoLf s → split_lines s ≡ record { whole = []; rest = s }
-stretch [] none = refl
-stretch (b ∷ bs) none =
-    let apart : b ≢ 10 = none.0 in
-    let e : (b == 10) ≡ false = grind (arith, nat_tests) in
-    rw e (ap (λ (l : Lines). onto b l.whole l.rest) (stretch bs none.1))
-
 pub split_lines-stretch : (a s : List ℕ) → HasNoLf s → split_lines (a ++ s) ≡ record { whole = (split_lines a).whole; rest = (split_lines a).rest ++ s }
 split_lines-stretch a s none =
     split_lines-append a s ∙ ap (λ (l : Lines). joined (split_lines a) l) (stretch s none)

@@ -6,8 +6,9 @@ use Rattle.mx_run.specs.Script.{started, taken}
 use Rattle.mx_script.specs.Script.{Command, Taken, goes_on, without_cr}
 use Rattle.mx_commands.specs.Step.{RunState}
 use Rattle.mx_run.specs.Transcript.{Runs, Breaks, Wrote}
-use Rattle.mx_run.specs.Session.{TakesLine, pending_of, command_of}
-use Rattle.mx_run.specs.declared.take.Pending.{Pending}
+use Rattle.mx_run.specs.Session.{TakesLine}
+use Rattle.mx_script.specs.Given.{pending_of, command_of}
+use Rattle.mx_script.specs.declared.commands.Pending.{Pending}
 use Rattle.mx_run.proofs.RunLemmas.{wrote_more, takes_more, breaks_less}
 
 -- what the next command in a line gives, after the command before it

@@ -5,7 +5,7 @@ use Rattle.mx_run.specs.Script.{pending_after, complete_commands, commands}
 use Rattle.mx_script.specs.Script.{Command, split_lines}
 use Rattle.mx_commands.specs.Step.{RunState, run_state}
 use Rattle.mx_run.specs.Transcript.{Runs, Breaks, begin, IsWithin, IsBrokenOff, IsBrokenOffAtEnd, IsCut, IsOutput, Transcript}
-use Rattle.mx_run.specs.Session.{pending_of}
+use Rattle.mx_script.specs.Given.{pending_of}
 use Rattle.mx_run.specs.declared.session.Session.{Session}
 use Rattle.mx_run.specs.declared.stop.Stop.{Stop}
 use Rattle.mx_run.specs.declared.stop.Stop.TheVariants.{ReadFault, FileFault, WriteFault, NoMemory, OverLimit}

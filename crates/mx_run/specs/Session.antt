@@ -1,17 +1,11 @@
 -- What is kept of the bytes read so far.
 use Rattle.std.specs.Prelude.{◌≡◌, ℕ, Option, Result, Ok, Err, List}
-use Rattle.std.specs.Option.{option_map}
 use Rattle.mx_script.specs.Script.{Command, Taken}
+use Rattle.mx_script.specs.Given.{pending_of}
 use Rattle.mx_commands.specs.Step.{RunState}
 use Rattle.mx_run.specs.Transcript.{Runs, Breaks}
 use Rattle.mx_run.specs.declared.stop.Stop.{Stop}
-use Rattle.mx_run.specs.declared.take.Pending.{Pending}
-
-abbrev pub command_of : Pending → Command
-command_of p = record { number = p.number; text = p.text.items }
-
-abbrev pub pending_of : Option Pending → Option Command
-pending_of p = option_map command_of p
+use Rattle.mx_script.specs.declared.commands.Pending.{Pending}
 
 -- commands are answered one after another, or broken off
 abbrev pub Answers : RunState → List Command → Result (Unit {0}) Stop → RunState → List ℕ → Type 0

@@ -6,7 +6,6 @@
 
 mod answer;
 mod laws;
-mod line;
 mod script;
 mod session;
 mod status;

@@ -5,12 +5,13 @@ ghost use Rattle.mx_run.specs.Counts.{AreAfter, counts, CanStopInside};
 ghost use Rattle.mx_script.specs.Script.{HasNoLf};
 ghost use Rattle.mx_run.specs.Transcript.{Wrote};
 
-use crate::line::line_end;
 use crate::stop::Stop;
-use crate::take::{Pending, finish_commands, take_line};
+use crate::take::{finish_commands, take_line};
 use mx_commands::Interpreter;
 use mx_frames::steps::Steps;
 use mx_outside::{Files, Sink};
+use mx_script::Pending;
+use mx_script::line::line_end;
 use std::alloc::{AllocError, Global};
 use std::sync::ledger::Ledger;
 

@@ -1,42 +1,23 @@
 //! One line after another, and the commands that they complete.
-ghost use Rattle.std.specs.Prelude.{◌≡◌, ◌++◌, ◌∷◌, IfOk};
+ghost use Rattle.std.specs.Prelude.{◌≡◌};
 ghost use Rattle.std.specs.Option.{option_to_list};
 ghost use Rattle.mx_run.specs.Script.{started, taken};
-ghost use Rattle.mx_script.specs.Script.{without_cr};
+ghost use Rattle.mx_script.specs.Given.{pending_of};
 ghost use Rattle.mx_commands.specs.Step.{run_state};
 ghost use Rattle.mx_run.specs.Counts.{AreAfter, counts};
 ghost use Rattle.mx_run.specs.Transcript.{Wrote};
-ghost use Rattle.mx_run.specs.Session.{Answers, TakesLine, pending_of, command_of};
+ghost use Rattle.mx_run.specs.Session.{Answers, TakesLine};
 
 use crate::answer::answer;
-use crate::line::{blank, continues, strip_cr};
 use crate::stop::Stop;
 use mx_commands::Interpreter;
 use mx_frames::steps::Steps;
 use mx_outside::{Files, Sink};
+use mx_script::commands::{Pending, continued};
+use mx_script::line::{blank, continues, strip_cr};
 use mx_words::table::{WORDS, takes_lines};
 use mx_words::text::strip_spaces;
-use std::alloc::AllocError;
 use std::sync::ledger::Ledger;
-
-/// A command that may go on in the next line.
-#[derive(Drop)]
-pub struct Pending {
-    /// The number of its first line, from 1.
-    pub number: u64,
-    /// Its lines so far without their CR, joined by LF.
-    pub text: Vec<u8>,
-}
-
-fn continued(command: Pending, line: &[u8]) -> Result<Pending, AllocError>
-    ensures { let text = command.text.items ++ 10 ∷ line.now in
-        IfOk result (λ p. command_of p ≡ record { number = command.number; text = text }) }
-{
-    let Pending { number, mut text } = command;
-    text.push(b'\n')?;
-    text.extend_from_slice(line)?;
-    Ok(Pending { number, text })
-}
 
 /// Takes a line that goes on with nothing before it.
 fn start_line<F: Files, K: Sink, L: Ledger>(

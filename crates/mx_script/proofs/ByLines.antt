@@ -6,8 +6,8 @@ use Rattle.mx_lex.proofs.Cases.{both}
 use Rattle.mx_words.specs.declared.table.CommandWord.{CommandWord}
 use Rattle.mx_words.specs.Texts.{behind_spaces}
 use Rattle.mx_words.specs.Words.{takes_lines}
-use Rattle.mx_script.specs.Script.{Command, Taken, without_cr, is_blank, goes_on, started, complete, pending_after, commands, complete_commands, split_lines}
-use Rattle.mx_script.specs.ByLines.{lines_of, with_lines, GoesOn, BeginsAnew, AreCommands}
+use Rattle.mx_script.specs.Script.{Command, Taken, without_cr, is_blank, goes_on, started, complete, pending_after, commands, commands_from, complete_commands, split_lines, lines_of}
+use Rattle.mx_script.specs.ByLines.{with_lines, GoesOn, BeginsAnew, AreCommands}
 
 module _ (words : List CommandWord) where
   abbrev blank_line : List ℕ → Bool
@@ -16,9 +16,8 @@ module _ (words : List CommandWord) where
   abbrev takes : List ℕ → Bool
   takes line = takes_lines words (behind_spaces (without_cr line))
 
-  -- all commands of the lines from this number on, behind one that may go on
   abbrev all_from : ℕ → Option Command → List (List ℕ) → List Command
-  all_from n pending ls = complete words n pending ls ++ option_to_list (pending_after words n pending ls)
+  all_from = commands_from words
 
   -- those behind a line
   abbrev all_behind : ℕ → List (List ℕ) → Taken → List Command
@@ -105,6 +104,38 @@ module _ (words : List CommandWord) where
   found [] = record { own = λ n. AreCommands.none; going = λ n c. ended n c [] [] tt AreCommands.none }
   found (line ∷ ls) = let h = found ls in let own = own_more line ls h in record { own = own; going = going_more line ls h own }
 
+  -- ---- line by line
+
+  pub goes_on_with : (n : ℕ) (c : Command) (line : List ℕ) (ls : List (List ℕ)) → GoesOn line → all_from n (Some c) (line ∷ ls) ≡ all_from (n + 1) (Some (longer c line)) ls
+  goes_on_with n c line ls on =
+      let start : Taken = started words n (without_cr line) in
+      ap (λ (b : Bool). all_behind n ls (cond b (record { done = []; pending = Some (longer c line) }) (record { done = c ∷ start.done; pending = start.pending }))) on
+
+  pub skips : (n : ℕ) (line : List ℕ) (ls : List (List ℕ)) → blank_line line ≡ true → all_from n None (line ∷ ls) ≡ all_from (n + 1) None ls
+  skips n line ls blank =
+      let pending : Taken = record { done = []; pending = Some (begun n line) } in
+      let alone : Taken = record { done = begun n line ∷ []; pending = None } in
+      ap (λ (b : Bool). all_behind n ls (cond b (record { done = []; pending = None }) (cond (takes line) pending alone))) blank
+
+  pub opens : (n : ℕ) (line : List ℕ) (ls : List (List ℕ)) → blank_line line ≡ false → takes line ≡ true → all_from n None (line ∷ ls) ≡ all_from (n + 1) (Some (begun n line)) ls
+  opens n line ls solid lines =
+      let pending : Taken = record { done = []; pending = Some (begun n line) } in
+      let alone : Taken = record { done = begun n line ∷ []; pending = None } in
+      ap (λ (b : Bool). all_behind n ls (cond b (record { done = []; pending = None }) (cond (takes line) pending alone))) solid ∙ ap (λ (b : Bool). all_behind n ls (cond b pending alone)) lines
+
+  pub stands_alone : (n : ℕ) (line : List ℕ) (ls : List (List ℕ)) → blank_line line ≡ false → takes line ≡ false → all_from n None (line ∷ ls) ≡ begun n line ∷ all_from (n + 1) None ls
+  stands_alone n line ls solid one =
+      let pending : Taken = record { done = []; pending = Some (begun n line) } in
+      let alone : Taken = record { done = begun n line ∷ []; pending = None } in
+      ap (λ (b : Bool). all_behind n ls (cond b (record { done = []; pending = None }) (cond (takes line) pending alone))) solid ∙ ap (λ (b : Bool). all_behind n ls (cond b pending alone)) one
+
+  -- a command that does not go on is complete
+  pub at_end : (n : ℕ) (c : Command) (rest : List (List ℕ)) → BeginsAnew rest → all_from n (Some c) rest ≡ c ∷ all_from n None rest
+  at_end n c [] anew = refl
+  at_end n c (line ∷ ls) anew =
+      let start : Taken = started words n (without_cr line) in
+      ap (λ (b : Bool). all_behind n ls (cond b (record { done = []; pending = Some (longer c line) }) (record { done = c ∷ start.done; pending = start.pending }))) anew
+
   -- ---- what the lines say is found
 
   through : (more rest : List (List ℕ)) (n : ℕ) (c : Command) → AllByRecursion GoesOn more → all_from n (Some c) (more ++ rest) ≡ all_from (n + length more) (Some (record { number = c.number; text = with_lines c.text more })) rest
@@ -113,39 +144,19 @@ module _ (words : List CommandWord) where
       ap (λ (k : ℕ). all_from k (Some c) rest) number ∙ ap (λ (t : List ℕ). all_from (n + 0) (Some (record { number = c.number; text = t })) rest) (sym (append-nil c.text))
   through (line ∷ more) rest n c go =
       let number : n + 1 + length more ≡ n + length (line ∷ more) = omega arith in
-      let start : Taken = started words n (without_cr line) in
-      let on : Taken = record { done = []; pending = Some (longer c line) } in
-      let off : Taken = record { done = c ∷ start.done; pending = start.pending } in
-      ap (λ (b : Bool). all_behind n (more ++ rest) (cond b on off)) go.0 ∙ through more rest (n + 1) (longer c line) go.1
+      goes_on_with n c line (more ++ rest) go.0 ∙ through more rest (n + 1) (longer c line) go.1
       ∙ ap (λ (k : ℕ). all_from k (Some (record { number = c.number; text = with_lines (c.text ++ 10 ∷ without_cr line) more })) rest) number
       ∙ ap (λ (t : List ℕ). all_from (n + length (line ∷ more)) (Some (record { number = c.number; text = t })) rest) (longer_text c.text line more)
 
-  -- a command that does not go on is complete
-  at_end : (n : ℕ) (c : Command) (rest : List (List ℕ)) → BeginsAnew rest → all_from n (Some c) rest ≡ c ∷ all_from n None rest
-  at_end n c [] anew = refl
-  at_end n c (line ∷ ls) anew =
-      let start : Taken = started words n (without_cr line) in
-      ap (λ (b : Bool). all_behind n ls (cond b (record { done = []; pending = Some (longer c line) }) (record { done = c ∷ start.done; pending = start.pending }))) anew
-
   only : (n : ℕ) (ls : List (List ℕ)) (cs : List Command) → AreCommands words n ls cs → cs ≡ all_from n None ls
   only n _ _ AreCommands.none = refl
-  only n _ _ (AreCommands.blank {lines} {cs} line blank h) =
-      let pending : Taken = record { done = []; pending = Some (begun n line) } in
-      let alone : Taken = record { done = begun n line ∷ []; pending = None } in
-      only (n + 1) lines cs h ∙ sym (ap (λ (b : Bool). all_behind n lines (cond b (record { done = []; pending = None }) (cond (takes line) pending alone))) blank)
+  only n _ _ (AreCommands.blank {lines} {cs} line blank h) = only (n + 1) lines cs h ∙ sym (skips n line lines blank)
   only n _ _ (AreCommands.block {lines} {cs} line more solid takes_more go anew h) =
-      let ls : List (List ℕ) = more ++ lines in
-      let pending : Taken = record { done = []; pending = Some (begun n line) } in
-      let alone : Taken = record { done = begun n line ∷ []; pending = None } in
       let whole : Command = record { number = n; text = with_lines (without_cr line) more } in
       ap (λ (ds : List Command). whole ∷ ds) (only (n + 1 + length more) lines cs h)
       ∙ sym (at_end (n + 1 + length more) whole lines anew) ∙ sym (through more lines (n + 1) (begun n line) go)
-      ∙ sym (ap (λ (b : Bool). all_behind n ls (cond b (record { done = []; pending = None }) (cond (takes line) pending alone))) solid ∙ ap (λ (b : Bool). all_behind n ls (cond b pending alone)) takes_more)
-  only n _ _ (AreCommands.single {lines} {cs} line solid one h) =
-      let pending : Taken = record { done = []; pending = Some (begun n line) } in
-      let alone : Taken = record { done = begun n line ∷ []; pending = None } in
-      ap (λ (ds : List Command). begun n line ∷ ds) (only (n + 1) lines cs h)
-      ∙ sym (ap (λ (b : Bool). all_behind n lines (cond b (record { done = []; pending = None }) (cond (takes line) pending alone))) solid ∙ ap (λ (b : Bool). all_behind n lines (cond b pending alone)) one)
+      ∙ sym (opens n line (more ++ lines) solid takes_more)
+  only n _ _ (AreCommands.single {lines} {cs} line solid one h) = ap (λ (ds : List Command). begun n line ∷ ds) (only (n + 1) lines cs h) ∙ sym (stands_alone n line lines solid one)
 
 pub commands_are : (words : List CommandWord) (script : List ℕ) → AreCommands words 1 (lines_of script) (commands words script)
 commands_are words script = (found words (lines_of script)).own 1

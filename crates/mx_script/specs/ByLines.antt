@@ -4,11 +4,7 @@ use Rattle.std.specs.List.{concat, AllByRecursion}
 use Rattle.mx_words.specs.declared.table.CommandWord.{CommandWord}
 use Rattle.mx_words.specs.Texts.{behind_spaces}
 use Rattle.mx_words.specs.Words.{takes_lines}
-use Rattle.mx_script.specs.Script.{Command, split_lines, last_line, without_cr, is_blank, goes_on}
-
--- all lines of a script
-abbrev pub lines_of : List ℕ → List (List ℕ)
-lines_of script = (split_lines script).whole ++ last_line (split_lines script).rest
+use Rattle.mx_script.specs.Script.{Command, split_lines, lines_of, without_cr, is_blank, goes_on}
 
 -- a line and those behind it, each without the CR at its end, joined by LF
 abbrev pub with_lines : List ℕ → List (List ℕ) → List ℕ

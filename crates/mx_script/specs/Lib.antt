@@ -1,3 +1,4 @@
 pub mod Commands
 pub mod Script
 pub mod ByLines
+pub mod Given

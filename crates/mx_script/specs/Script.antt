@@ -84,11 +84,17 @@ pending_after words number pending (l ∷ ls) = pending_after words (number + 1)
 abbrev pub complete_commands : List CommandWord → List ℕ → List Command
 complete_commands words read = complete words 1 None (split_lines read).whole
 
+-- all lines of a script
+abbrev pub lines_of : List ℕ → List (List ℕ)
+lines_of script = (split_lines script).whole ++ last_line (split_lines script).rest
+
+-- all commands of lines, the first of which has this number, behind one that may go on
+abbrev pub commands_from : List CommandWord → ℕ → Option Command → List (List ℕ) → List Command
+commands_from words number pending lines = complete words number pending lines ++ option_to_list (pending_after words number pending lines)
+
 -- all commands of a script
 abbrev pub commands : List CommandWord → List ℕ → List Command
-commands words script =
-    let lines = (split_lines script).whole ++ last_line (split_lines script).rest in
-    complete words 1 None lines ++ option_to_list (pending_after words 1 None lines)
+commands words script = commands_from words 1 None (lines_of script)
 
 -- the second list begins with the first
 pub record GrowsTo (cs ds : List Command) : Type 0 where

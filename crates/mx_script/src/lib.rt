@@ -5,8 +5,11 @@
 
 mod argument;
 mod command;
+pub mod commands;
 pub mod laws;
+pub mod line;
 mod table;
 
 pub use command::read_command;
+pub use commands::{Commands, Pending};
 pub use mx_words::command::{Command, FormRefusal};

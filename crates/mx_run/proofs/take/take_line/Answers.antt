@@ -1,6 +1,6 @@
 use Rattle.std.proofs.Common.{Option, sym}
 use Rattle.mx_commands.specs.Step.{run_state}
-use Rattle.mx_run.specs.declared.take.Pending.{Pending}
+use Rattle.mx_script.specs.declared.commands.Pending.{Pending}
 use Rattle.mx_run.proofs.CountLemmas.{after_more}
 use Rattle.mx_run.proofs.TakeLemmas.{takes_next, takes_stop}
 use Rattle.mx_run.proofs.take.take_line.Goals as goal

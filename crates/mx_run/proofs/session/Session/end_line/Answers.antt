@@ -1,6 +1,6 @@
 use Rattle.std.proofs.Common.{ap, arith}
-use Rattle.mx_run.specs.Session.{pending_of}
-use Rattle.mx_run.specs.declared.take.Pending.{Pending}
+use Rattle.mx_script.specs.Given.{pending_of}
+use Rattle.mx_script.specs.declared.commands.Pending.{Pending}
 use Rattle.std.proofs.Common.{Option}
 use Rattle.mx_run.proofs.AtLemmas.{fed_err, fed_ok}
 use Rattle.mx_run.proofs.session.Session.end_line.Goals as goal

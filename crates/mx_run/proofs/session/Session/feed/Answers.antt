@@ -1,7 +1,8 @@
 use Rattle.std.proofs.Common.{◌≡◌, ◌+◌, ◌∷◌, ◌++◌, [], List, ℕ, take, drop, append_assoc, append-nil, refl, sym, ap, ◌∙◌}
 use Rattle.std.proofs.lemmas.List.{take_rest}
 use Rattle.mx_run.proofs.CountLemmas.{stop_more, none_more, stopped_inside}
-use Rattle.mx_run.proofs.EndLemmas.{no_lf_front, no_lf_whole, around_lf, stop_inside, stop_at_end, goes_next, goes_last}
+use Rattle.mx_script.proofs.Lines.{no_lf_front, no_lf_whole, around_lf}
+use Rattle.mx_run.proofs.EndLemmas.{stop_inside, stop_at_end, goes_next, goes_last}
 use Rattle.mx_run.proofs.session.Session.feed.Goals as goal
 
 pub returns-in-Err-clause-output : goal.returns-in-Err-clause-output

@@ -1,8 +1,8 @@
 use Rattle.std.proofs.Common.{◌≡◌, ◌≢◌, Option, ap, arith, length}
 use Rattle.std.proofs.lemmas.List.{nil_from_length}
 use Rattle.std.proofs.lemmas.Bool.Decides.{nat_tests}
-use Rattle.mx_run.specs.Session.{pending_of}
-use Rattle.mx_run.specs.declared.take.Pending.{Pending}
+use Rattle.mx_script.specs.Given.{pending_of}
+use Rattle.mx_script.specs.declared.commands.Pending.{Pending}
 use Rattle.mx_run.proofs.CountLemmas.{after_more}
 use Rattle.mx_run.proofs.EndLemmas.{finish_empty, finish_line, finish_stop}
 use Rattle.mx_run.proofs.session.Session.finish.Goals as goal

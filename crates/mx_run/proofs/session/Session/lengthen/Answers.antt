@@ -2,7 +2,7 @@ use Rattle.std.proofs.Common.{◌≡◌, ◌+◌, ◌++◌, List, ℕ, length, a
 use Rattle.std.proofs.lemmas.Grind.{common_steps}
 use Rattle.mx_commands.specs.Step.{run_state}
 use Rattle.mx_run.specs.At.{IsAfter}
-use Rattle.mx_run.specs.Session.{pending_of}
+use Rattle.mx_script.specs.Given.{pending_of}
 use Rattle.mx_run.proofs.AtLemmas.{halts_memory, cut_line, at_inside}
 use Rattle.mx_run.proofs.session.Session.lengthen.Goals as goal
 
