@@ -1,0 +1,7 @@
+mod WordLemmas
+mod ReadNamed
+mod ReadLemmas
+pub mod Pieces
+pub mod ByText
+pub mod Together
+pub mod Faults

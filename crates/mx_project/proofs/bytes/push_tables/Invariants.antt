@@ -1,0 +1,7 @@
+use Rattle.std.proofs.Common.{◌≡◌, ◌++◌, take}
+use Rattle.std.specs.List.{concat}
+use Rattle.mx_project.specs.Writing.{table_lines}
+use Rattle.mx_project.proofs.bytes.push_tables.Given as goal
+
+abbrev pub invariant-loop-place : goal.invariant-loop-place
+invariant-loop-place l = l.out.items ≡ l.fn.out.items ++ concat (table_lines (take l.place l.tables))
