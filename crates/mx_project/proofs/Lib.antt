@@ -1,5 +1,6 @@
 mod WordLemmas
 mod ReadNamed
+mod ReadSmall
 mod ReadLemmas
 pub mod Pieces
 pub mod ByText

@@ -6,6 +6,7 @@ use Rattle.mx_print.specs.Texts.{Text}
 use Rattle.mx_c3.specs.Lists.{Has}
 use Rattle.mx_model.specs.Records.{ModelRecord}
 use Rattle.mx_paths.specs.Names.{IsNamed}
+use Rattle.mx_limit_laws.specs.Texts.{HasSmallFormulas}
 use Rattle.mx_project.specs.Folder.{in_folder}
 use Rattle.mx_project.specs.Writing.{File, IsProjectText, IsBroken}
 use Rattle.mx_project.specs.Reading.{IsReadAs}
@@ -15,6 +16,10 @@ use Rattle.mx_project.specs.Reading.{IsReadAs}
 -- the spaces of a model that a folder says have names
 abbrev pub ReadsAreNamed : Type 0
 ReadsAreNamed = (files : Option FileMap) (folder : Text) (made : ModelRecord) → IsReadAs files folder (Ok made) → IsNamed made
+
+-- and its formulas and parameter lists small literals, as an engine wants them
+abbrev pub ReadsAreSmall : Type 0
+ReadsAreSmall = (files : Option FileMap) (folder : Text) (made : ModelRecord) → IsReadAs files folder (Ok made) → HasSmallFormulas made
 
 -- ---- writes
 
